@@ -2,7 +2,9 @@
 # How many operations a second threads do on one running tree, each thread with a seat of its own: bench/tree.sh [OPERATIONS [BYTES]], so
 # many in each thread, with keys of 16 bytes or of so many. The tree has 20,000 keys with values of 8 bytes; lookups are of drawn keys, and
 # in the mix every second operation is an upsert of one. Beside it stands how many lookups bare loads of as many rows' words would allow, of the rows of ways over five levels and of
-# drawn rows, and loads of the words alone that a search looks at on such ways, and the share of these limits that is reached. Opening and loading the tree is not counted. The program is proved and built first.
+# drawn rows, and loads of the words alone that a search looks at on such ways, and the share of these limits that is reached. Last come four processes at a
+# time, each with a tree of its own and one thread: what the machine gives four threads that share nothing. Opening and loading the tree is not counted.
+# The program is proved and built first.
 set -eu
 top=$(CDPATH='' cd -- "$(dirname -- "$0")/.." && pwd)
 operations=${1:-10000}
@@ -12,7 +14,8 @@ program=$top/crates/bench/out/bench
 [ -x "$program" ] || (cd "$top/crates/bench" && rt run -- load 1 1 0 16) </dev/null >/dev/null 2>&1
 taken=$(mktemp)
 times=$(mktemp)
-trap 'rm -f "$taken" "$times"' EXIT
+apart=$(mktemp -d)
+trap 'rm -rf "$taken" "$times" "$apart"' EXIT
 
 # How many nanoseconds the program says that it took; so many operations are to succeed: took COUNT WORD..
 took() {
@@ -21,6 +24,17 @@ took() {
     succeeded=$("$program" "$@" "$bytes" 2>"$taken")
     [ "$succeeded" = "$wanted" ] || { echo "expected $wanted, got $succeeded" >&2; exit 1; }
     cat "$taken"
+}
+
+# How many operations a second four processes of one thread do together, each on a tree of its own: apart WORD. They do fifty times as many as a thread
+# above, so that they are at it at the same time, though one may have loaded its tree before the others.
+apart() {
+    each=$((50 * operations))
+    for process in 1 2 3 4; do
+        "$program" "$1" "$keys" 1 "$each" "$bytes" 2>"$apart/$process" >"$apart/done" &
+    done
+    wait
+    cat "$apart/1" "$apart/2" "$apart/3" "$apart/4" | awk -v each="$each" '{ sum += each / $1 * 1e9 } END { printf "%.0f", sum }'
 }
 
 # A lookup's steps are the epoch, the entry, slot 0, a slot for each of five levels, the rows of five chains, and the leave.
@@ -34,7 +48,7 @@ for threads in 1 2 4; do
     looks=$(took "$all" looks "$rows" "$threads" "$operations")
     echo "$threads $all $reads $half $ways $drawn $looks" >>"$times"
 done
-awk -v rows="$rows" '
+awk -v rows="$rows" -v reads_apart="$(apart reads)" -v half_apart="$(apart half)" '
     BEGIN { printf "a lookup reads %d rows\n", rows }
     {
         reads = $2 / $3 * 1e9
@@ -50,5 +64,6 @@ awk -v rows="$rows" '
     END {
         printf "4 threads against 1: lookups %.2f, mix %.2f, bare loads of ways %.2f, of drawn rows %.2f, looks %.2f\n", \
             reads / one_reads, half / one_half, ways / one_ways, drawn / one_drawn, looks / one_looks
+        printf "4 threads against 4 processes, a tree each: lookups %.2f, mix %.2f\n", reads / reads_apart, half / half_apart
     }
 ' "$times"

@@ -1,23 +1,10 @@
 -- One step of an operation, from what `next` promises.
 use Rattle.std.proofs.Common.{◌≡◌, ◌≢◌, ◌<◌, ◌≤◌, ◌*◌, ℕ, length, Bool, Option, Some, None, is_some, true, false, sym, ap, ◌∙◌, subst, refl, arith}
-use Rattle.std.specs.Prelude.{IsSome}
-use Rattle.std.proofs.lemmas.Option.{same_Some}
+use Rattle.op_machine.proofs.Words.{IsSome, same_Some, Limits, Answer, StepOf, Record, Fits, Knowledge, learn, Recalled, blank, cause_worth, recall, AreThere, GoesLeft, StepsInRound, Hand}
+use Rattle.op_machine.proofs.Words.{IsSpentLast, Spends, steps_left, Spares, Kind, AreKept, Sweep}
 use Rattle.bw_model.specs.declared.command.Reply.{Reply}
-use Rattle.tree_limits.specs.declared.limits.Limits.{Limits}
-use Rattle.bw_model.specs.declared.step.Answer.{Answer}
 use Rattle.bw_model.specs.declared.step.Answer.TheVariants as answer
-use Rattle.bw_model.specs.declared.step.Step.{Step as StepOf}
 use Rattle.bw_model.specs.declared.step.Step.TheVariants as step
-use Rattle.deltas.specs.declared.record.Record.{Record}
-use Rattle.traces.specs.discipline.Fitting.{Fits}
-use Rattle.traces.specs.discipline.Knowledge.{Knowledge, learn}
-use Rattle.traces.specs.discipline.Recalled.{Recalled, blank, cause_worth, recall}
-use Rattle.round_model.specs.Machines.{AreThere}
-use Rattle.op_machine.specs.machine.GoesLeft.{GoesLeft}
-use Rattle.op_machine.specs.machine.RoundSteps.{StepsInRound}
-use Rattle.op_machine.specs.machine.Hands.{Hand}
-use Rattle.op_machine.specs.machine.Bounded.{IsSpentLast}
-use Rattle.op_machine.specs.machine.Spending.{Spends, steps_left}
 use Rattle.op_machine.specs.machine.InPlace.{IsOpShown, Takes, Wants}
 use Rattle.op_machine.specs.machine.Ops.{Goes, HoldsLimbo, IsAtRestWith, IsOver, IsToldOp, IsToldOpThere, Obeys, Op, Shows, asked_by, wanted_of}
 use Rattle.op_machine.specs.machine.Outcomes.{HasLeft, is_leaving}
@@ -27,11 +14,7 @@ use Rattle.op_machine.specs.machine.Wants.{Step, Done}
 use Rattle.op_machine.specs.machine.States.{State, Begun, Epoch, Enter, Read, Write, Change, Leave}
 use Rattle.op_machine.specs.machine.UnderWay.{AsksIf, UnderWay, asking, running_at}
 use Rattle.epochs.specs.Limbo.{Limbo}
-use Rattle.change_machine.specs.Spares.{Spares}
-use Rattle.change_machine.specs.declared.taking.Kind.{Kind}
 use Rattle.op_machine.specs.machine.Lacks.{TellsLack}
-use Rattle.sweep.specs.Kept.{AreKept}
-use Rattle.sweep.specs.Sweeps.{Sweep}
 use Rattle.op_machine.specs.machine.Actors.{ActsOn, IsActorWith, IsGoing, IsRunning, at_work, command_at, wanted_by}
 use Rattle.op_machine.proofs.Leaving.{leaves_at}
 use Rattle.op_machine.proofs.ActorSpending.{spends_last, spent_last}

@@ -1,24 +1,13 @@
 -- One step of an operation: how many steps it has left.
 use Rattle.std.proofs.Common.{◌≡◌, ◌<◌, ◌+◌, ◌*◌, ℕ, length, Option, Some, None, inl, subst, arith}
-use Rattle.tree_limits.specs.declared.limits.Limits.{Limits}
-use Rattle.bw_model.specs.declared.step.Answer.{Answer}
-use Rattle.bw_model.specs.declared.step.Step.{Step as StepOf}
+use Rattle.op_machine.proofs.Words.{Limits, Answer, StepOf, Record, IsStepSpent, Recalled, recall, Reuse, Rows, Pids, Spares, Hand, IsSpentLast, left_at, one_round, asked_by, wanted_of}
+use Rattle.op_machine.proofs.Words.{sweep_left, UnderWay}
 use Rattle.bw_model.specs.declared.step.Step.TheVariants as step
-use Rattle.deltas.specs.declared.record.Record.{Record}
-use Rattle.traces.specs.discipline.Recalled.{IsStepSpent, Recalled, recall}
-use Rattle.epochs.specs.declared.item.Reuse.{Reuse}
-use Rattle.epochs.specs.declared.item.Reuse.TheVariants.{Rows, Pids}
-use Rattle.change_machine.specs.Spares.{Spares}
-use Rattle.op_machine.specs.machine.Hands.{Hand}
-use Rattle.op_machine.specs.machine.Bounded.{IsSpentLast, left_at, one_round}
-use Rattle.op_machine.specs.machine.Ops.{asked_by, wanted_of}
 use Rattle.op_machine.specs.machine.Shows.{recall_last, wanted_at}
-use Rattle.op_machine.specs.machine.Spending.{sweep_left}
 use Rattle.op_machine.specs.machine.States.{State, Begun, Epoch, Enter, Read, Write, Change, Leave}
 use Rattle.sweep.specs.Sweeps.{Sweep, step_of, wanted_at as wanted_at_sweep}
 use Rattle.sweep.specs.declared.sweep.State as sweeping
 use Rattle.sweep.specs.declared.sweep.State.TheVariants as at_sweep
-use Rattle.op_machine.specs.machine.UnderWay.{UnderWay}
 use Rattle.op_machine.specs.machine.UnderWay.{IsSpentBy}
 
 -- what an answer leaves, where the step that was wanted is known

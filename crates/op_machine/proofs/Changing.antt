@@ -1,41 +1,23 @@
 -- What a change's next step leaves an operation in.
 use Rattle.std.proofs.Common.{◌≡◌, ◌<◌, ◌≤◌, ◌+◌, inl, inr, ℕ, List, Option, Some, None, true, refl, sym, ap, subst, ◌∙◌, arith}
-use Rattle.std.specs.Prelude.{IfSome}
-use Rattle.std.proofs.lemmas.Option.{same_Some}
-use Rattle.bw_model.specs.declared.command.Command.{Command}
-use Rattle.tree_limits.specs.declared.limits.Limits.{Limits}
-use Rattle.bw_model.specs.declared.step.Answer.{Answer}
+use Rattle.op_machine.proofs.Words.{IfSome, same_Some, Command, Limits, Answer, TakePid, Record, MayReply, Fits, Knowledge, learn, IsStepSpent, Recalled, cause_worth, recall, HaveRoom}
+use Rattle.op_machine.proofs.Words.{Spares, End, Kind, Won, Lost, Full, Plan, left_for, one_round, IsInChange, Then, Unlinked}
 use Rattle.bw_model.specs.declared.step.Answer.TheVariants.{Whether}
 use Rattle.bw_model.specs.declared.step.Step.{Step}
-use Rattle.bw_model.specs.declared.step.Step.TheVariants.{TakePid}
-use Rattle.deltas.specs.declared.record.Record.{Record}
 use Rattle.deltas.specs.declared.record.Record.TheVariants as kind
-use Rattle.traces.specs.discipline.Discipline.{MayReply}
-use Rattle.traces.specs.discipline.Fitting.{Fits}
-use Rattle.traces.specs.discipline.Knowledge.{Knowledge, learn}
-use Rattle.traces.specs.discipline.Recalled.{IsStepSpent, Recalled, cause_worth, recall}
 use Rattle.change_machine.specs.Bounded as bound
 use Rattle.change_machine.specs.Changes as change
 use Rattle.structure_changes.specs.Plans.{clears}
-use Rattle.change_machine.specs.Spares.{HaveRoom, Spares}
-use Rattle.change_machine.specs.declared.change.End.{End}
-use Rattle.change_machine.specs.declared.taking.Kind.{Kind}
-use Rattle.change_machine.specs.declared.change.End.TheVariants.{Won, Lost, Full}
-use Rattle.structure_changes.specs.declared.plan.Plan.{Plan}
 use Rattle.structure_changes.specs.declared.plan.Plan.TheVariants.{Install, Split, Root, Unlink}
-use Rattle.op_machine.specs.machine.Bounded.{left_for, one_round}
 use Rattle.op_machine.proofs.Replying.{not_full}
 use Rattle.op_machine.proofs.Worth.{enough}
 use Rattle.op_machine.specs.machine.Brings.{Brings, IsReadPlan, IsUpdateOf, IsUsefulOver, IsUsefulPlan}
 use Rattle.op_machine.specs.machine.Hands.{AreRowsOf, IsTakenBy}
 use Rattle.op_machine.specs.machine.Outcomes as outcome
 use Rattle.op_machine.specs.machine.Outcomes.{FacesChanged}
-use Rattle.op_machine.specs.machine.Shows.{IsInChange}
 use Rattle.op_machine.specs.machine.Tasks.{IsBetweenChanges, IsUnreadPid, Seeks, Task}
-use Rattle.op_machine.specs.declared.then.Then.{Then}
 use Rattle.op_machine.specs.declared.then.Then.TheVariants.{After, Reply}
 use Rattle.structure_changes.specs.declared.after.After.TheVariants.{Round, Limbo, Errand}
-use Rattle.structure_changes.specs.declared.unlinked.Unlinked.{Unlinked}
 
 -- a PID that is taken is of no page that was read
 taken_unread : (limits : Limits) (k : Knowledge) (asked : Step Record) (told : Answer Record) → Fits limits k asked told → (p : ℕ) → bound.pid_taken asked told ≡ Some p → k.read.heads p ≡ None

@@ -1,29 +1,17 @@
 -- What commands write.
-use Rattle.std.proofs.Common.{◌≡◌, ◌<◌, ◌≤◌, ℕ, Bool, true, false, List, length, Option, Some, None, is_some, refl, ap, ◌∙◌, arith}
-use Rattle.std.specs.Prelude.{IsTrue, if◌then◌else◌}
-use Rattle.std.specs.Str.{bytes_eq}
-use Rattle.bw_model.specs.Bytes.{is_in_range}
-use Rattle.deltas.specs.declared.record.Record.{Record}
-use Rattle.std.proofs.lemmas.Option.{same_Some}
-use Rattle.bw_model.specs.declared.command.Command.{Command}
-use Rattle.bw_model.specs.declared.command.Command.TheVariants.{Get, Insert, Upsert, Delete, Swap, Page as PageFrom, Tidy}
+use Rattle.op_machine.proofs.Words.{◌≡◌, ◌<◌, ◌≤◌, ℕ, Bool, true, false, List, length, Option, Some, None, is_some, refl, ap, ◌∙◌, arith, IsTrue, if◌then◌else◌, bytes_eq, is_in_range}
+use Rattle.op_machine.proofs.Words.{Record, same_Some, Command, Get, Insert, Upsert, Delete, Swap, PageFrom, Tidy, command_key, update_of, is_writer, Value, Child, next_row, covers}
+use Rattle.op_machine.proofs.Words.{is_removed, level_in, Knowledge, KeepsSparePage, linked_by, IsUsefulOver, update_over}
 use Rattle.bw_model.specs.Log.{Update, set, unset}
-use Rattle.bw_model.specs.Replies.{command_key, update_of, is_writer}
 use Rattle.base_page.specs.declared.item.Content.{Content}
-use Rattle.base_page.specs.declared.item.Content.TheVariants.{Value, Child}
 use Rattle.base_page.specs.Pages.{Page, value_in}
 use Rattle.deltas.specs.Fits.{FitsDelete, FitsPut}
-use Rattle.deltas.specs.Records.{next_row}
 use Rattle.deltas.specs.Spellable.{IsRow, IsSpellable}
 use Rattle.deltas.specs.declared.record.Delete.{Delete as DeleteOf}
 use Rattle.deltas.specs.declared.record.Record.TheVariants as kind
 use Rattle.deltas.specs.declared.record.Put.{Put}
-use Rattle.traces.specs.chain.Chains.{covers, is_removed, level_in}
 use Rattle.traces.specs.discipline.Discipline.{FitsOn, update_record, value_of}
 use Rattle.traces.specs.chain.Fitted.{FitsOver, Makes}
-use Rattle.traces.specs.discipline.Knowledge.{Knowledge}
-use Rattle.change_machine.specs.Changes.{KeepsSparePage, linked_by}
-use Rattle.op_machine.specs.machine.Brings.{IsUsefulOver, update_over}
 
 -- an update that a test decides, which doesn't know whose it is
 chosen_is : (b : Bool) (update u : Update) → (if b then Some update else None) ≡ Some u → update ≡ u

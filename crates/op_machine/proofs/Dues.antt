@@ -1,17 +1,10 @@
 -- What is due where a writer's round has ended names no number that has no place, and a row can spell it.
-use Rattle.std.proofs.Common.{◌≡◌, Some, ap}
+use Rattle.op_machine.proofs.Words.{◌≡◌, Some, ap, Unterm, Knowledge, Recalled, DueChange, IsPlanned, IsDueBy, WriteRound, IsSpellablePlan, IsTarget, Plan}
 use Rattle.deltas.specs.declared.record.Merge.{Merge}
 use Rattle.deltas.specs.declared.record.Record.TheVariants as kind
 use Rattle.deltas.specs.declared.record.Term.{Term}
-use Rattle.deltas.specs.declared.record.Unterm.{Unterm}
-use Rattle.traces.specs.discipline.Knowledge.{Knowledge}
-use Rattle.traces.specs.discipline.Recalled.{Recalled}
 use Rattle.round_model.specs.WriteEnds as due
-use Rattle.round_model.specs.WriteEnds.{DueChange, IsPlanned}
-use Rattle.round_model.specs.WriteRounds.{IsDueBy, WriteRound}
-use Rattle.change_machine.specs.Changes.{IsSpellablePlan, IsTarget}
 use Rattle.structure_changes.specs.declared.after.After.{After}
-use Rattle.structure_changes.specs.declared.plan.Plan.{Plan}
 use Rattle.op_machine.proofs.Plans.{over_page, place_of, spells_base}
 use Rattle.op_machine.proofs.Tending.{plans_there}
 

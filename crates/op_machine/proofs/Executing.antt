@@ -1,18 +1,9 @@
 -- A command at the leaf of its key.
-use Rattle.std.proofs.Common.{◌≡◌, inl, inr, [], Some, None, is_some, false, subst}
-use Rattle.std.specs.Prelude.{IsTrue}
-use Rattle.bw_model.specs.Replies.{command_key, reply_of, update_of}
+use Rattle.op_machine.proofs.Words.{◌≡◌, inl, inr, [], Some, None, is_some, false, subst, IsTrue, command_key, reply_of, update_of, covers, chain_value, Knowledge, Recalled, Spares, Version}
+use Rattle.op_machine.proofs.Words.{ShowsState, Task}
 use Rattle.bw_model.specs.declared.command.Reply.{Reply}
-use Rattle.traces.specs.chain.Chains.{covers}
-use Rattle.traces.specs.discipline.Discipline.{chain_value}
-use Rattle.traces.specs.discipline.Knowledge.{Knowledge}
-use Rattle.traces.specs.discipline.Recalled.{Recalled}
-use Rattle.change_machine.specs.Spares.{Spares}
-use Rattle.structure_changes.specs.Versions.{Version}
 use Rattle.op_machine.specs.machine.Errands.{way_key}
 use Rattle.op_machine.specs.machine.Outcomes.{IsAtLeaf}
-use Rattle.op_machine.specs.machine.Shows.{ShowsState}
-use Rattle.op_machine.specs.machine.Tasks.{Task}
 use Rattle.op_machine.specs.machine.States as at
 use Rattle.op_machine.proofs.Commands.{none_due}
 use Rattle.op_machine.proofs.Replying.{not_full}

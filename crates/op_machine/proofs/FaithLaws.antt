@@ -1,14 +1,6 @@
 -- What one more entry makes of the rows that an actor knows.
-use Rattle.std.proofs.Common.{◌≡◌, ◌<◌, ◌≤◌, ℕ, suc, List, [], ◌∷◌, ◌++◌, length, Some, inl, inr, arith}
-use Rattle.bw_model.specs.declared.step.Step.{Step as StepOf}
+use Rattle.op_machine.proofs.Words.{◌≡◌, ◌<◌, ◌≤◌, ℕ, suc, List, [], ◌∷◌, ◌++◌, length, Some, inl, inr, arith, StepOf, Answer, Record, Entry, ShowsRow, IsStep, slice_get, slice_get_below}
 use Rattle.bw_model.specs.declared.step.Step.TheVariants.{Enter, Leave}
-use Rattle.bw_model.specs.declared.step.Answer.{Answer}
-use Rattle.deltas.specs.declared.record.Record.{Record}
-use Rattle.traces.specs.declared.trace.Entry.{Entry}
-use Rattle.traces.specs.discipline.Learnt.{ShowsRow}
-use Rattle.traces.specs.trace.Trace.{IsStep}
-use Rattle.std.specs.Prelude.{slice_get}
-use Rattle.traces.proofs.Pushes.{slice_get_below}
 use Rattle.traces.proofs.TraceLaws.{TakesStep-push_cases, ShowsRow-kept}
 use Rattle.op_machine.specs.theorem.Faithful.{KnowsRow, Disturbs}
 

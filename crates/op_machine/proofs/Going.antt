@@ -1,19 +1,8 @@
 -- How an operation goes on, from what its state makes of an answer and what its task makes of that.
-use Rattle.std.proofs.Common.{◌≡◌, ◌≤◌, inl, inr, ℕ, List, Option, Some, None, arith, refl, subst}
-use Rattle.tree_limits.specs.declared.limits.Limits.{Limits}
-use Rattle.bw_model.specs.declared.step.Answer.{Answer}
+use Rattle.op_machine.proofs.Words.{◌≡◌, ◌≤◌, inl, inr, ℕ, List, Option, Some, None, arith, refl, subst, Limits, Answer, Record, Knowledge, Recalled, AreThere, Spares, IsSpentLast}
+use Rattle.op_machine.proofs.Words.{LeavesFor, left_at, with_errands, Hand, Op, StepsInRound, FitsLast, learn_last, recall_last}
 use Rattle.bw_model.specs.declared.step.Step.{Step}
-use Rattle.deltas.specs.declared.record.Record.{Record}
-use Rattle.traces.specs.discipline.Knowledge.{Knowledge}
-use Rattle.traces.specs.discipline.Recalled.{Recalled}
-use Rattle.round_model.specs.Machines.{AreThere}
-use Rattle.change_machine.specs.Spares.{Spares}
-use Rattle.op_machine.specs.machine.Bounded.{IsSpentLast, LeavesFor, left_at, with_errands}
-use Rattle.op_machine.specs.machine.Hands.{Hand}
-use Rattle.op_machine.specs.machine.Ops.{Op}
 use Rattle.op_machine.specs.machine.Outcomes.{Comes, Entered, Faces, IsToldAt, Outcome}
-use Rattle.op_machine.specs.machine.RoundSteps.{StepsInRound}
-use Rattle.op_machine.specs.machine.Shows.{FitsLast, learn_last, recall_last}
 use Rattle.op_machine.specs.machine.Works.{AsksOn, FollowsOutcome, IsToldChange, IsToldOn, IsToldOnThere, IsToldWith, TurnsInto, Works, asked_of}
 use Rattle.op_machine.specs.machine.States.{State}
 use Rattle.op_machine.specs.machine.States as at

@@ -1,31 +1,21 @@
 -- An operation that has made of an answer what its round makes of it, and of the round's end what follows, goes to the left of a removed page.
-use Rattle.std.proofs.Common.{◌≡◌, ◌∙◌, ◌<◌, inl, inr, ℕ, List, Bool, true, false, Option, Some, None, refl, sym, ap, subst, arith}
+use Rattle.op_machine.proofs.Words.{◌≡◌, ◌∙◌, ◌<◌, inl, inr, ℕ, List, Bool, true, false, Option, Some, None, refl, sym, ap, subst, arith, Answer, Record, next_row, is_removed, level_in}
+use Rattle.op_machine.proofs.Words.{Version, WriteGoal, ReadEnd, Sees, DueChange, WriteEnd, is_changing, Task}
 use Rattle.std.specs.Coded.{le_prop}
-use Rattle.bw_model.specs.declared.step.Answer.{Answer}
 use Rattle.bw_model.specs.declared.step.Answer.TheVariants as answer
-use Rattle.deltas.specs.declared.record.Record.{Record}
-use Rattle.deltas.specs.Records.{next_row}
 use Rattle.deltas.specs.Spellable.{IsPid, IsRow}
-use Rattle.traces.specs.chain.Chains.{is_removed, level_in}
-use Rattle.structure_changes.specs.Versions.{Version}
-use Rattle.round_model.specs.Courses.{WriteGoal}
 use Rattle.round_model.specs.Courses as goal
 use Rattle.round_model.specs.Descents.{Descent, Finds, Page, Responds as Moves, Root, WayState}
-use Rattle.round_model.specs.ReadEnds.{ReadEnd}
 use Rattle.round_model.specs.ReadEnds as read_end
 use Rattle.round_model.specs.ReadLegs.{IsPlain, Leg, Round, above_of}
 use Rattle.round_model.specs.ReadRounds.{ReadsForTheSame, ReadRound, TreatsRead, reading}
-use Rattle.round_model.specs.Rounds.{Sees}
 use Rattle.round_model.specs.Visits.{Row, Sight, Slot, Empty, Visit, VisitState, Whole}
-use Rattle.round_model.specs.WriteEnds.{DueChange, WriteEnd}
 use Rattle.round_model.specs.WriteEnds as write_end
 use Rattle.round_model.specs.WriteResponses.{EndsBy, TreatsWrite, writing}
 use Rattle.round_model.specs.WriteRounds.{SeeksLeaf, WriteRound}
 use Rattle.op_machine.specs.machine.GoesLeft.{GoesLeft, MeetsReading, MeetsWriting, TurnsLeft, first_read, read_left_of, write_left_of}
-use Rattle.op_machine.specs.machine.Outcomes.{is_changing}
 use Rattle.op_machine.specs.machine.RoundSteps.{AfterReading, AfterWriting, StepsInRound, StepsReading, StepsWriting}
 use Rattle.op_machine.specs.machine.States.{State, Begun, Epoch, Enter, Read, Write, Change, Leave}
-use Rattle.op_machine.specs.machine.Tasks.{Task}
 
 -- pages with the same number, row and chain are one
 

@@ -1,17 +1,10 @@
 -- A split leaves 7 items at least on each side: of two neighbours one isn't held, so its place is at most one off the middle.
 use Rattle.std.proofs.Common.{◌≡◌, ◌<◌, ◌≤◌, ◌+◌, ◌-◌, ◌/◌, ℕ, zero, suc, List, [], ◌∷◌, length, false, refl, sym, ap, ◌∙◌, inl, inr, arith, length-drop}
-use Rattle.std.specs.Prelude.{slice_index_or}
+use Rattle.op_machine.proofs.Words.{slice_index_or, Child, Item, IsFitted, AreHalves, SplitPlan, Version, made, of_made}
 use Rattle.std.proofs.lemmas.Bool.{cases_Bool}
-use Rattle.base_page.specs.declared.item.Content.TheVariants.{Child}
-use Rattle.base_page.specs.declared.item.Item.{Item}
 use Rattle.base_page.specs.Rules.{AreApart, is_held}
-use Rattle.traces.specs.chain.Fitted.{IsFitted}
-use Rattle.op_machine.specs.theorem.Halves.{AreHalves}
 use Rattle.traces.proofs.FittedLaws.{items_unique, ruled}
-use Rattle.structure_changes.specs.declared.split.SplitPlan.{SplitPlan}
 use Rattle.structure_changes.specs.Splits.{IsSplitPlace, IsSplitPlan}
-use Rattle.structure_changes.specs.Versions.{Version}
-use Rattle.structure_changes.proofs.Places.{made, of_made}
 use Rattle.structure_changes.proofs.SplitFits.{apart, next_place}
 
 -- an item that there is is the same one by whatever stands for those that aren't

@@ -1,28 +1,16 @@
 -- A small leaf that is neither removed nor held is kept back by the page above it.
 use Rattle.std.proofs.Common.{◌≡◌, ◌≢◌, ◌<◌, ◌≤◌, ◌||◌, ◌&&◌, ◌⊎◌, inl, inr, ℕ, zero, suc, List, [], ◌∷◌, length, Bool, true, false, Option, Some, None, refl, sym, ap, ◌∙◌, arith}
-use Rattle.std.specs.Prelude.{nat_lt, IfSome, IsTrue}
-use Rattle.std.specs.Ordering.{is_eq}
-use Rattle.std.proofs.lemmas.Bool.Decides.{nat_tests}
-use Rattle.bw_model.specs.declared.command.Command.{Command}
-use Rattle.tree_limits.specs.declared.limits.Limits.{Limits}
-use Rattle.base_page.specs.declared.item.Content.TheVariants.{Child}
-use Rattle.base_page.specs.declared.item.Item.{Item}
+use Rattle.op_machine.proofs.Words.{nat_lt, IfSome, IsTrue, is_eq, nat_tests, Command, Limits, Child, Item, content_in, is_removed, low_in, IsFitted, Makes, Knowledge, Recalled, ruled}
+use Rattle.op_machine.proofs.Words.{Version, IsIdleFor, tidies}
 use Rattle.base_page.specs.Pages.{Page}
 use Rattle.base_page.specs.Rules.{IsFirstAt, IsRuled, held_count, is_held}
 use Rattle.base_page.proofs.KeyLaws.{itself}
-use Rattle.traces.specs.chain.Chains.{content_in, is_removed, low_in}
 use Rattle.traces.specs.discipline.Discipline.{IsHeldBack}
-use Rattle.traces.specs.chain.Fitted.{IsFitted, Makes}
 use Rattle.traces.specs.chain.HeldBack.{HoldsBack, begins_at, has_held_neighbour}
-use Rattle.traces.specs.discipline.Knowledge.{Knowledge}
-use Rattle.traces.specs.discipline.Recalled.{Recalled}
-use Rattle.traces.proofs.FittedLaws.{ruled}
 use Rattle.round_model.specs.WriteRounds.{IsTermed, IsUpper}
 use Rattle.structure_changes.specs.Holds.{CanHold, HasFreeNeighbours}
 use Rattle.structure_changes.specs.Upkeep.{IsIdle, IsSmall}
-use Rattle.structure_changes.specs.Versions.{Version}
 use Rattle.structure_changes.proofs.Places.{from_made, index_at, made}
-use Rattle.op_machine.specs.machine.Upkeep.{IsIdleFor, tidies}
 use Rattle.std.proofs.lemmas.Bool.{or_parts}
 
 not_both : (a b : Bool) → (a && b) ≡ false → a ≡ true → b ≡ false

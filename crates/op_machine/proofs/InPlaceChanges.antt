@@ -1,24 +1,11 @@
 -- What an answer makes of a change in its place.
-use Rattle.std.proofs.Common.{◌≡◌, ℕ, Option, Some, None, refl}
+use Rattle.op_machine.proofs.Words.{◌≡◌, ℕ, Option, Some, None, refl, Answer, Record, Fits, Knowledge, learn, Recalled, TakesFresh, limbo_after, HaveRoom, Spares, End, one_round, ended_with}
+use Rattle.op_machine.proofs.Words.{IsInChange, Task, TurnsInto, Then}
 use Rattle.std.specs.Prelude.{IfNone}
-use Rattle.bw_model.specs.declared.step.Answer.{Answer}
-use Rattle.deltas.specs.declared.record.Record.{Record}
-use Rattle.traces.specs.discipline.Fitting.{Fits}
-use Rattle.traces.specs.discipline.Knowledge.{Knowledge, learn}
-use Rattle.traces.specs.discipline.Recalled.{Recalled}
 use Rattle.change_machine.specs.Bounded as bound
 use Rattle.change_machine.specs.Changes as change
-use Rattle.change_machine.specs.Outs.{TakesFresh, limbo_after}
-use Rattle.change_machine.specs.Spares.{HaveRoom, Spares}
-use Rattle.change_machine.specs.declared.change.End.{End}
-use Rattle.op_machine.specs.machine.Bounded.{one_round}
 use Rattle.op_machine.specs.machine.Outcomes.{UnlinksAfter, change_out}
-use Rattle.op_machine.specs.machine.Places.{ended_with}
-use Rattle.op_machine.specs.machine.Shows.{IsInChange}
-use Rattle.op_machine.specs.machine.Tasks.{Task}
-use Rattle.op_machine.specs.machine.Works.{TurnsInto}
 use Rattle.op_machine.specs.machine.States as at
-use Rattle.op_machine.specs.declared.then.Then.{Then}
 use Rattle.op_machine.proofs.Changing.{change_ended, change_left, change_on, ended_left, taken_apart}
 use Rattle.op_machine.proofs.TakingOut.{unlinks}
 

@@ -1,47 +1,30 @@
 -- What an answer makes of an operation's places.
-use Rattle.std.proofs.Common.{◌≡◌, ◌≤◌, inl, inr, ℕ, zero, suc, Option, Some, false, true, refl, ap, ◌∙◌, arith}
-use Rattle.std.specs.Prelude.{IsSome}
-use Rattle.std.proofs.lemmas.Option.{same_Some}
+use Rattle.op_machine.proofs.Words.{◌≡◌, ◌≤◌, inl, inr, ℕ, zero, suc, Option, Some, false, true, refl, ap, ◌∙◌, arith, IsSome, same_Some, command_key, is_writer, Limits, Answer, Record}
+use Rattle.op_machine.proofs.Words.{Fits, Knowledge, Recalled, ReadEnd, WriteEnd, Spares, Kind, left_at, left_for, left_round, one_round, AfterReading, AfterWriting, StepsInRound, Task}
+use Rattle.op_machine.proofs.Words.{FollowsOutcome, TurnsInto, Then, Sweep}
 use Rattle.bw_model.specs.Answers.{TellsNumber, answer_of}
-use Rattle.bw_model.specs.Replies.{command_key, is_writer}
 use Rattle.bw_model.specs.declared.command.Reply.{Reply}
-use Rattle.tree_limits.specs.declared.limits.Limits.{Limits}
-use Rattle.bw_model.specs.declared.step.Answer.{Answer}
 use Rattle.bw_model.specs.declared.step.Step.{Step}
 use Rattle.bw_model.specs.declared.step.Step.TheVariants as step
-use Rattle.deltas.specs.declared.record.Record.{Record}
-use Rattle.traces.specs.discipline.Fitting.{Fits}
-use Rattle.traces.specs.discipline.Knowledge.{Knowledge}
-use Rattle.traces.specs.discipline.Recalled.{Recalled}
 use Rattle.round_model.specs.Machines.{AreThere, IsTold, IsToldThere}
 use Rattle.round_model.specs.ReadRounds as read
 use Rattle.round_model.specs.Rounds.{machine}
 use Rattle.round_model.specs.WriteResponses as response
 use Rattle.round_model.specs.WriteRounds as write
-use Rattle.round_model.specs.ReadEnds.{ReadEnd}
-use Rattle.round_model.specs.WriteEnds.{WriteEnd}
 use Rattle.round_model.proofs.Reading as reading
 use Rattle.round_model.proofs.Writing as writing
 use Rattle.change_machine.specs.Changes.{Change as ChangeOf}
-use Rattle.change_machine.specs.Spares.{Spares}
-use Rattle.change_machine.specs.declared.taking.Kind.{Kind}
-use Rattle.op_machine.specs.machine.Bounded.{left_at, left_for, left_round, one_round}
 use Rattle.op_machine.specs.machine.Outcomes.{Faces, Outcome, is_changing, is_leaving, is_reading, is_writing, read_out, written_out}
 use Rattle.op_machine.specs.machine.Places.{HaveLimits, OpPlaces, ReadsOn, WritesOn, state_at, state_of}
-use Rattle.op_machine.specs.machine.RoundSteps.{AfterReading, AfterWriting, StepsInRound}
 use Rattle.op_machine.specs.machine.Shows.{FitsLast, ShowsState, learn_last, wanted_at}
-use Rattle.op_machine.specs.machine.Tasks.{Task}
-use Rattle.op_machine.specs.machine.Works.{FollowsOutcome, TurnsInto}
 use Rattle.op_machine.specs.declared.places.StateKind.{StateKind}
 use Rattle.op_machine.specs.declared.places.StateKind.TheVariants.{Begun, Epoch, Enter, Read, Write, Change, Leave}
 use Rattle.bw_model.specs.declared.step.Told.{Told}
 use Rattle.bw_model.specs.declared.step.Told.TheVariants.{Start, Number, Whether, Done}
 use Rattle.op_machine.specs.machine.States.{State}
 use Rattle.op_machine.specs.machine.States as at
-use Rattle.op_machine.specs.declared.then.Then.{Then}
 use Rattle.op_machine.proofs.Reading.{IsReading, reader_reads, writer_reads}
 use Rattle.op_machine.proofs.Rounds.{read_comes, read_leaves, write_comes, write_leaves}
-use Rattle.sweep.specs.Sweeps.{Sweep}
 
 -- by the state that the places are, the operation stands there
 module _ (reader : read.ReadRound) (writer : write.WriteRound) (change : ChangeOf) (then : Then) (reply : Reply) (lacks : Option Kind) where

@@ -1,22 +1,13 @@
 -- What is in limbo stays as it is known, but for what a sweep does and a change.
-use Rattle.std.proofs.Common.{◌≡◌, inl, inr, ℕ, zero, suc, false, refl, sym, subst}
-use Rattle.tree_limits.specs.declared.limits.Limits.{Limits}
-use Rattle.bw_model.specs.declared.step.Answer.{Answer}
+use Rattle.op_machine.proofs.Words.{◌≡◌, inl, inr, ℕ, zero, suc, false, refl, sym, subst, Limits, Answer, Record, Fits, Knowledge, Limbos, learn, Recalled, Spares, is_changing, Task}
+use Rattle.op_machine.proofs.Words.{AreKept}
 use Rattle.bw_model.specs.declared.step.Answer.TheVariants.{Start, Number, Content, Whether, Done}
 use Rattle.bw_model.specs.declared.step.Step.{Step}
 use Rattle.bw_model.specs.declared.step.Step.TheVariants as step
-use Rattle.deltas.specs.declared.record.Record.{Record}
-use Rattle.traces.specs.discipline.Fitting.{Fits}
-use Rattle.traces.specs.discipline.Knowledge.{Knowledge, Limbos, learn}
-use Rattle.traces.specs.discipline.Recalled.{Recalled}
 use Rattle.epochs.specs.Limbo.{Limbo}
-use Rattle.change_machine.specs.Spares.{Spares}
-use Rattle.op_machine.specs.machine.Outcomes.{is_changing}
 use Rattle.op_machine.specs.machine.Shows.{FitsLast, ShowsState, learn_last, wanted_at}
-use Rattle.op_machine.specs.machine.Tasks.{Task}
 use Rattle.op_machine.specs.machine.States.{State, Begun, Epoch, Enter, Read, Write, Change, Leave}
 use Rattle.op_machine.proofs.Reading.{IsReading, reader_reads, writer_reads}
-use Rattle.sweep.specs.Kept.{AreKept}
 
 -- the step reads a slot, or a record
 slot_limbo : (k : Knowledge) (page : ℕ) (told : Answer Record) → (learn k (step.Slot page) told).limbo ≡ k.limbo

@@ -1,38 +1,23 @@
 -- The leave is wanted in one state alone.
-use Rattle.std.proofs.Common.{◌≡◌, ◌≢◌, ℕ, Bool, Option, Some, None, true, false, refl}
-use Rattle.std.proofs.lemmas.Option.{same_Some}
-use Rattle.bw_model.specs.declared.step.Answer.{Answer}
-use Rattle.bw_model.specs.declared.step.Step.{Step as StepOf}
+use Rattle.op_machine.proofs.Words.{◌≡◌, ◌≢◌, ℕ, Bool, Option, Some, None, true, false, refl, same_Some, Answer, StepOf, Record, Knowledge, VisitState, Reuse, Spares, wanted_number}
+use Rattle.op_machine.proofs.Words.{ChangeState, Plan, Hand, is_leaving, Task, Sweep, SweepState}
 use Rattle.bw_model.specs.declared.step.Step.TheVariants as step
-use Rattle.deltas.specs.declared.record.Record.{Record}
-use Rattle.traces.specs.discipline.Knowledge.{Knowledge}
 use Rattle.round_model.specs.Descents as descent
 use Rattle.round_model.specs.Visits as page
 use Rattle.round_model.specs.Descents.{WayState as DescentState}
-use Rattle.round_model.specs.Visits.{VisitState}
 use Rattle.epochs.specs.Limbo.{Limbo}
-use Rattle.epochs.specs.declared.item.Reuse.{Reuse}
 use Rattle.epochs.specs.declared.item.Reuse.TheVariants as reuse
 use Rattle.change_machine.specs.Changes as change
-use Rattle.change_machine.specs.Spares.{Spares}
-use Rattle.change_machine.specs.Taking.{wanted_number}
-use Rattle.change_machine.specs.declared.change.State.{State as ChangeState}
 use Rattle.change_machine.specs.declared.change.State.TheVariants as change_state
-use Rattle.structure_changes.specs.declared.plan.Plan.{Plan}
 use Rattle.change_machine.specs.declared.taking.Kind.TheVariants as kind
 use Rattle.change_machine.specs.declared.taking.Taking.{Taking}
 use Rattle.change_machine.specs.declared.taking.Taking.TheVariants as taking
-use Rattle.op_machine.specs.machine.Hands.{Hand}
 use Rattle.op_machine.specs.machine.Ops.{EndsAtLeave, HoldsLimbo, IsToldOp, Op, asked_by}
-use Rattle.op_machine.specs.machine.Outcomes.{is_leaving}
 use Rattle.op_machine.specs.machine.Shows.{wanted_at}
-use Rattle.op_machine.specs.machine.Tasks.{Task}
 use Rattle.op_machine.specs.machine.Works.{LeavesWith}
 use Rattle.op_machine.specs.machine.Wants.{Want, Step, Done}
 use Rattle.op_machine.specs.machine.States.{State, Begun, Epoch, Enter, Read, Write, Change, Leave}
 use Rattle.sweep.specs.Sweeps as sweep
-use Rattle.sweep.specs.Sweeps.{Sweep}
-use Rattle.sweep.specs.declared.sweep.State.{State as SweepState}
 use Rattle.sweep.specs.declared.sweep.State.TheVariants as sweep_state
 
 in_visit : (pid : ℕ) (state : VisitState) → page.wanted_at pid state ≢ step.Leave

@@ -1,17 +1,10 @@
 -- A memory of one leaf has the map that the leaf's chain decides.
-use Rattle.std.proofs.Common.{◌≡◌, ◌<◌, ℕ, suc, zero, List, [], ◌∷◌, length, false, Option, Some, None, refl, sym, subst, ap, arith, ◌∙◌}
+use Rattle.op_machine.proofs.Words.{◌≡◌, ◌<◌, ℕ, suc, zero, List, [], ◌∷◌, length, false, Option, Some, None, refl, sym, subst, ap, arith, ◌∙◌, option_map, is_below, Update, logged_value}
+use Rattle.op_machine.proofs.Words.{Value, Record, Memory, IsChainOf, content_in, low_in, high_in, right_in, covers, HasMapOf}
 use Rattle.std.specs.Prelude.{IsTrue, slice_index_or, ◌↔◌}
 use Rattle.std.specs.List.{Contains, AllByRecursion}
-use Rattle.std.specs.Option.{option_map}
-use Rattle.bw_model.specs.Bytes.{is_below}
-use Rattle.bw_model.specs.Log.{Update, logged_value}
-use Rattle.base_page.specs.declared.item.Content.TheVariants.{Value}
-use Rattle.deltas.specs.declared.record.Record.{Record}
-use Rattle.deltas.specs.Memory.{Memory}
-use Rattle.traces.specs.chain.Chains.{IsChainOf, content_in, low_in, high_in, right_in, covers}
 use Rattle.traces.specs.chain.SideChain.{LivePage, IsLeaves, IsWhole, Spells}
 use Rattle.traces.proofs.ChainLaws.{IsSideChainFrom-unique}
-use Rattle.op_machine.specs.theorem.Quiet.{HasMapOf}
 
 contained_alone : {X : Type 0} (x y : X) → Contains (x ∷ []) y → y ≡ x
 contained_alone x y (zero, h, e) = sym e

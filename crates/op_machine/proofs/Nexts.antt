@@ -1,26 +1,12 @@
 -- What an operation and its hand are after a step, from what its work or its sweep is.
 use Rattle.std.proofs.Common.{◌≡◌, ◌<◌, ◌+◌, inl, ℕ, Option, Some, None, true, refl, sym, ap, subst, ◌∙◌, arith}
-use Rattle.tree_limits.specs.declared.limits.Limits.{Limits}
-use Rattle.bw_model.specs.declared.step.Answer.{Answer}
+use Rattle.op_machine.proofs.Words.{Limits, Answer, StepOf, Record, Knowledge, Recalled, AreThere, Spares, IsSpentLast, left_at, one_round, with_errands, Hand, HoldsLimbo, IsToldOp}
+use Rattle.op_machine.proofs.Words.{IsToldOpThere, Op, Shows, asked_by, wanted_of, has_begun, steps_left, sweep_left, IsToldOnThere, IsToldWith, asked_of, AreKept, Sweep}
 use Rattle.bw_model.specs.declared.step.Answer.TheVariants.{Start}
-use Rattle.bw_model.specs.declared.step.Step.{Step as StepOf}
-use Rattle.deltas.specs.declared.record.Record.{Record}
-use Rattle.traces.specs.discipline.Knowledge.{Knowledge}
-use Rattle.traces.specs.discipline.Recalled.{Recalled}
-use Rattle.round_model.specs.Machines.{AreThere}
 use Rattle.epochs.specs.Limbo.{Limbo}
-use Rattle.change_machine.specs.Spares.{Spares}
-use Rattle.op_machine.specs.machine.Bounded.{IsSpentLast, left_at, one_round, with_errands}
-use Rattle.op_machine.specs.machine.Hands.{Hand}
-use Rattle.op_machine.specs.machine.Ops.{HoldsLimbo, IsToldOp, IsToldOpThere, Op, Shows, asked_by, wanted_of}
-use Rattle.op_machine.specs.machine.Outcomes.{has_begun}
 use Rattle.op_machine.specs.machine.Shows.{FitsLast, learn_last, recall_last, wanted_at}
-use Rattle.op_machine.specs.machine.Spending.{steps_left, sweep_left}
 use Rattle.op_machine.specs.machine.Sweeping.{IsSameWork, ObeysSweep, swept_by, with_limbo}
-use Rattle.op_machine.specs.machine.Works.{IsToldOnThere, IsToldWith, asked_of}
 use Rattle.op_machine.specs.machine.States.{State, Begun, Epoch, Enter, Read, Write, Change, Leave}
-use Rattle.sweep.specs.Kept.{AreKept}
-use Rattle.sweep.specs.Sweeps.{Sweep}
 
 -- nothing of the sweep is left then
 pub nothing_left : (limits : Limits) (state : State) → has_begun state ≡ true → sweep_left limits None state ≡ 0

@@ -1,23 +1,13 @@
 -- What one more entry makes of the phase of a PID.
-use Rattle.std.proofs.Common.{◌≡◌, ◌<◌, ◌≤◌, ℕ, suc, List, [], ◌∷◌, ◌++◌, length, true, inl, inr, arith}
-use Rattle.tree_limits.specs.declared.limits.Limits.{Limits}
+use Rattle.op_machine.proofs.Words.{◌≡◌, ◌<◌, ◌≤◌, ℕ, suc, List, [], ◌∷◌, ◌++◌, length, true, inl, inr, arith, Limits, Record, Remove, Entry, IsChainOf, memory_of, Happens, IsStep, Answer}
+use Rattle.op_machine.proofs.Words.{StepOf, Exchange, ReusePids, TakePid, Memory, takes, splits, becomes_root, terms, under_root, holds, removes, merges, unterms, reuses}
 use Rattle.bw_model.specs.declared.step.Link.TheVariants as link
-use Rattle.deltas.specs.declared.record.Record.{Record}
 use Rattle.deltas.specs.declared.record.Record.TheVariants as delta
-use Rattle.deltas.specs.declared.record.Remove.{Remove}
-use Rattle.traces.specs.declared.trace.Entry.{Entry}
-use Rattle.traces.specs.chain.Chains.{IsChainOf}
-use Rattle.traces.specs.trace.Trace.{memory_of, Happens, IsStep}
-use Rattle.bw_model.specs.declared.step.Answer.{Answer}
 use Rattle.bw_model.specs.declared.step.Answer.TheVariants.{Whether}
-use Rattle.bw_model.specs.declared.step.Step.{Step as StepOf}
-use Rattle.bw_model.specs.declared.step.Step.TheVariants.{Exchange, ReusePids, TakePid}
 use Rattle.traces.specs.chain.Unheld.{IsUnheld}
-use Rattle.deltas.specs.Memory.{Memory}
 use Rattle.traces.proofs.TraceLaws.{Happens-below, Happens-kept, Happens-push_cases, Happens-last}
 use Rattle.op_machine.specs.theorem.Links.{Installs, Wins}
 use Rattle.op_machine.specs.theorem.Phases.{Phase, MovesPhase, Rests, IsInPhase, KeepsPhases, cleared, owned}
-use Rattle.op_machine.specs.theorem.Phases.{takes, splits, becomes_root, terms, under_root, holds, removes, merges, unterms, reuses}
 
 module _ (limits : Limits) (entries : List Entry) (last : Entry) where
   pub Rests-kept : (m n pid : ℕ) → n ≤ length entries → Rests limits entries m n pid → Rests limits (entries ++ last ∷ []) m n pid

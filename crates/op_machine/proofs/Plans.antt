@@ -3,30 +3,15 @@ use Rattle.std.proofs.Common.{◌≡◌, ◌<◌, ◌≤◌, ◌+◌, ◌*◌, s
 use Rattle.std.proofs.Math.Nat.{mul-le-mul_left, mul-suc}
 use Rattle.std.proofs.lemmas.List.{length-append, length-take}
 use Rattle.std.specs.Option.{ForSome}
-use Rattle.std.specs.Prelude.{nat_lt, slice_get, if◌then◌else◌}
-use Rattle.tree_limits.specs.declared.limits.Limits.{Limits}
+use Rattle.op_machine.proofs.Words.{nat_lt, slice_get, if◌then◌else◌, Limits, next_row, IsSpellablePage, Record, IsFitted, Knowledge, Recalled, IsAlive, Spares, PlacedWrite, Version}
+use Rattle.op_machine.proofs.Words.{few_changes, one_round, with_errands, FacesWritten, IsAtLeafBelow, left_round_of, IsRoundOf, Seeks, Task}
 use Rattle.base_page.specs.Pages.{Page}
-use Rattle.deltas.specs.Records.{next_row}
-use Rattle.deltas.specs.Spellable.{IsSpellablePage}
-use Rattle.deltas.specs.declared.record.Record.{Record}
 use Rattle.deltas.specs.declared.record.Record.TheVariants as kind
-use Rattle.traces.specs.chain.Fitted.{IsFitted}
-use Rattle.traces.specs.discipline.Knowledge.{Knowledge}
-use Rattle.traces.specs.discipline.Recalled.{Recalled}
-use Rattle.round_model.specs.Versions.{IsAlive}
 use Rattle.round_model.specs.WriteEnds as end
 use Rattle.round_model.specs.WriteRounds.{IsLongEnd, WriteRound}
 use Rattle.change_machine.specs.Changes as change
-use Rattle.change_machine.specs.Spares.{Spares}
-use Rattle.rounds.specs.WriteRounds.{PlacedWrite}
 use Rattle.structure_changes.specs.Sizes.{many_of}
-use Rattle.structure_changes.specs.Versions.{Version}
-use Rattle.op_machine.specs.machine.Bounded.{few_changes, one_round, with_errands}
 use Rattle.op_machine.specs.machine.Errands.{with_errand}
-use Rattle.op_machine.specs.machine.Outcomes.{FacesWritten, IsAtLeafBelow}
-use Rattle.op_machine.specs.machine.Places.{left_round_of}
-use Rattle.op_machine.specs.machine.Shows.{IsRoundOf}
-use Rattle.op_machine.specs.machine.Tasks.{Seeks, Task}
 
 -- a page in hand is a place for a record
 pub place_of : (limits : Limits) (k : Knowledge) (r : Recalled) (page : Version) (content : Record) → IsAlive limits k r page

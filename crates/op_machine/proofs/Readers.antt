@@ -1,23 +1,13 @@
 -- A step that an operation wants is of use: a reader wants none but reads, its enter and its leave.
-use Rattle.std.proofs.Common.{◌≡◌, Bool, Option, None, Some, false, true, subst}
-use Rattle.std.proofs.lemmas.Option.{same_Some}
-use Rattle.bw_model.specs.Replies.{is_writer}
-use Rattle.bw_model.specs.declared.step.Step.{Step as StepOf}
+use Rattle.op_machine.proofs.Words.{◌≡◌, Bool, Option, None, Some, false, true, subst, same_Some, is_writer, StepOf, Record, Knowledge, Recalled, Spares, Sweep, Hand, Goes, HoldsLimbo, Op}
+use Rattle.op_machine.proofs.Words.{asked_by, Task}
 use Rattle.bw_model.specs.declared.step.Step.TheVariants as step
-use Rattle.deltas.specs.declared.record.Record.{Record}
-use Rattle.traces.specs.discipline.Knowledge.{Knowledge}
-use Rattle.traces.specs.discipline.Recalled.{Recalled}
 use Rattle.round_model.specs.Descents as way
 use Rattle.round_model.specs.Visits as page
 use Rattle.epochs.specs.Limbo.{Limbo}
-use Rattle.change_machine.specs.Spares.{Spares}
-use Rattle.sweep.specs.Sweeps.{Sweep}
 use Rattle.op_machine.specs.theorem.Readers.{IsOfUse, IsReading}
-use Rattle.op_machine.specs.machine.Hands.{Hand}
-use Rattle.op_machine.specs.machine.Ops.{Goes, HoldsLimbo, Op, asked_by}
 use Rattle.op_machine.specs.machine.Shows.{ShowsState, wanted_at}
 use Rattle.op_machine.specs.machine.States.{State, Begun, Epoch, Enter, Read, Write, Change, Leave}
-use Rattle.op_machine.specs.machine.Tasks.{Task}
 
 -- the command of the operation is known
 going : (task : Task) (spares : Spares) (k : Knowledge) (r : Recalled) (state : State) → ShowsState task spares k r state → k.asked.command ≡ Some task.command

@@ -1,23 +1,15 @@
 -- What a step that reads a slot or a row leaves as it was.
 use Rattle.std.proofs.Common.{◌≡◌, ◌<◌, ◌==◌, ◌⊎◌, inl, inr, ℕ, zero, suc, Bool, true, false, cond, Option, Some, None, refl, subst, ◌∙◌}
-use Rattle.std.specs.Prelude.{IfSome}
-use Rattle.std.proofs.lemmas.Bool.{eqb-true}
-use Rattle.tree_limits.specs.declared.limits.Limits.{Limits}
+use Rattle.op_machine.proofs.Words.{IfSome, eqb-true, Limits, Answer, Record, replaced_at, Fits, Recalled, Seeks, Task}
 use Rattle.bw_model.specs.declared.step.Step.{Step}
 use Rattle.bw_model.specs.declared.step.Step.TheVariants.{Slot, Row}
-use Rattle.bw_model.specs.declared.step.Answer.{Answer}
 use Rattle.bw_model.specs.declared.step.Answer.TheVariants.{Start, Number, Content, Whether, Done}
-use Rattle.deltas.specs.declared.record.Record.{Record}
-use Rattle.deltas.specs.Memory.{replaced_at}
-use Rattle.traces.specs.discipline.Fitting.{Fits}
 use Rattle.traces.specs.discipline.Knowledge.{Empty, Knowledge, learn}
-use Rattle.traces.specs.discipline.Recalled.{Recalled}
 use Rattle.round_model.specs.Descents.{wanted_at, WayState, Root, Page}
 use Rattle.round_model.specs.ReadRounds as read
 use Rattle.round_model.specs.WriteRounds as write
 use Rattle.round_model.specs.Visits as page
 use Rattle.change_machine.specs.Spares.{IsUnlinked, Spares}
-use Rattle.op_machine.specs.machine.Tasks.{Seeks, Task}
 use Rattle.change_machine.proofs.Learning.{empty_page}
 
 -- the step reads a slot, or a row

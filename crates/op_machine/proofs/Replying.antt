@@ -1,13 +1,8 @@
 -- A reply that goes by the value of its key isn't Full.
-use Rattle.std.proofs.Common.{◌≡◌, ◌≢◌, ℕ, Bool, true, false, List, Option, Some, None, ◌∙◌}
-use Rattle.std.specs.Prelude.{if◌then◌else◌}
-use Rattle.std.specs.Str.{bytes_eq}
-use Rattle.std.proofs.lemmas.Option.{same_Some}
-use Rattle.bw_model.specs.declared.command.Command.{Command}
-use Rattle.bw_model.specs.declared.command.Command.TheVariants.{Get, Insert, Upsert, Delete, Swap, Page as PageFrom, Tidy}
+use Rattle.op_machine.proofs.Words.{◌≡◌, ◌≢◌, ℕ, Bool, true, false, List, Option, Some, None, ◌∙◌, if◌then◌else◌, bytes_eq, same_Some, Command, Get, Insert, Upsert, Delete, Swap, PageFrom}
+use Rattle.op_machine.proofs.Words.{Tidy, reply_of}
 use Rattle.bw_model.specs.declared.command.Reply.{Reply}
 use Rattle.bw_model.specs.declared.command.Reply.TheVariants as kind
-use Rattle.bw_model.specs.Replies.{reply_of}
 
 -- a test that replies either way
 chosen_not_full : (b : Bool) (x y reply : Reply) → x ≢ kind.Full → y ≢ kind.Full → (if b then Some x else Some y) ≡ Some reply → reply ≢ kind.Full

@@ -1,30 +1,19 @@
 -- What a round's next step leaves an operation in.
-use Rattle.std.proofs.Common.{◌≡◌, inl, inr, refl, sym, ap, subst, Option, Some, None, ◌∙◌, arith}
-use Rattle.tree_limits.specs.declared.limits.Limits.{Limits}
-use Rattle.bw_model.specs.declared.step.Answer.{Answer}
-use Rattle.deltas.specs.declared.record.Record.{Record}
-use Rattle.traces.specs.discipline.Fitting.{Fits}
-use Rattle.traces.specs.discipline.Knowledge.{Knowledge, learn}
-use Rattle.traces.specs.discipline.Recalled.{IsStepSpent, Recalled, recall}
+use Rattle.op_machine.proofs.Words.{◌≡◌, inl, inr, refl, sym, ap, subst, Option, Some, None, ◌∙◌, arith, Limits, Answer, Record, Fits, Knowledge, learn, IsStepSpent, Recalled, recall}
+use Rattle.op_machine.proofs.Words.{ReadGoal, ReadEnd, WriteEnd, Spares, LeavesFor, left_at, left_for, left_round, one_round, Task}
 use Rattle.round_model.specs.ReadRounds as read
 use Rattle.round_model.specs.Rounds.{Follows, Responds, Sees}
 use Rattle.round_model.specs.WriteResponses as response
 use Rattle.round_model.specs.WriteRounds as write
-use Rattle.round_model.specs.ReadGoals.{ReadGoal}
 use Rattle.round_model.specs.ReadGoals as read_to
 use Rattle.round_model.specs.Visits.{Sight, Empty, Whole}
 use Rattle.round_model.specs.Courses as write_to
 use Rattle.round_model.specs.Courses.{Seek}
-use Rattle.round_model.specs.ReadEnds.{ReadEnd}
 use Rattle.round_model.specs.ReadEnds as read_end
-use Rattle.round_model.specs.WriteEnds.{WriteEnd}
 use Rattle.round_model.specs.WriteEnds as write_end
-use Rattle.change_machine.specs.Spares.{Spares}
-use Rattle.op_machine.specs.machine.Bounded.{LeavesFor, left_at, left_for, left_round, one_round}
 use Rattle.op_machine.specs.machine.Outcomes as outcome
 use Rattle.op_machine.specs.machine.Outcomes.{Comes, FacesRead, FacesWritten, HasSought, read_out, written_out}
 use Rattle.op_machine.specs.machine.Shows.{IsInReadRound, IsInWriteRound}
-use Rattle.op_machine.specs.machine.Tasks.{Task}
 use Rattle.op_machine.specs.machine.States as at
 use Rattle.op_machine.proofs.Worth.{enough}
 use Rattle.op_machine.proofs.Reading.{reader_reads, seeks_still, writer_reads}

@@ -1,28 +1,16 @@
 -- A row is read by a round alone.
-use Rattle.std.proofs.Common.{◌≡◌, ℕ, Option, Some, None, true, false, refl}
-use Rattle.tree_limits.specs.declared.limits.Limits.{Limits}
+use Rattle.op_machine.proofs.Words.{◌≡◌, ℕ, Option, Some, None, true, false, refl, Limits, Record, Fits, Knowledge, Reuse, Spares, wanted_number, ChangeState, Plan, asked_by, has_begun}
+use Rattle.op_machine.proofs.Words.{is_changing, Sweep, SweepState}
 use Rattle.bw_model.specs.declared.step.Answer.TheVariants.{Content}
-use Rattle.deltas.specs.declared.record.Record.{Record}
-use Rattle.traces.specs.discipline.Fitting.{Fits}
-use Rattle.traces.specs.discipline.Knowledge.{Knowledge}
-use Rattle.epochs.specs.declared.item.Reuse.{Reuse}
 use Rattle.epochs.specs.declared.item.Reuse.TheVariants as reuse
 use Rattle.change_machine.specs.Changes as change
-use Rattle.change_machine.specs.Spares.{Spares}
-use Rattle.change_machine.specs.Taking.{wanted_number}
-use Rattle.change_machine.specs.declared.change.State.{State as ChangeState}
 use Rattle.change_machine.specs.declared.change.State.TheVariants as change_state
-use Rattle.structure_changes.specs.declared.plan.Plan.{Plan}
 use Rattle.change_machine.specs.declared.taking.Kind.TheVariants as kind
 use Rattle.change_machine.specs.declared.taking.Taking.{Taking}
 use Rattle.change_machine.specs.declared.taking.Taking.TheVariants as taking
-use Rattle.op_machine.specs.machine.Ops.{asked_by}
-use Rattle.op_machine.specs.machine.Outcomes.{has_begun, is_changing}
 use Rattle.op_machine.specs.machine.Shows.{FitsLast, wanted_at}
 use Rattle.op_machine.specs.machine.States.{State, Begun, Epoch, Enter, Read, Write, Change, Leave}
 use Rattle.sweep.specs.Sweeps as sweep
-use Rattle.sweep.specs.Sweeps.{Sweep}
-use Rattle.sweep.specs.declared.sweep.State.{State as SweepState}
 use Rattle.sweep.specs.declared.sweep.State.TheVariants as sweep_state
 
 module _ (limits : Limits) (k : Knowledge) (row : Record) where

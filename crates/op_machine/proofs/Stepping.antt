@@ -1,36 +1,25 @@
 -- Which steps a change's actor may take.
-use Rattle.std.proofs.Common.{◌≡◌, ◌<◌, ℕ, zero, suc, List, length, refl, sym, ap, subst, ◌∙◌}
-use Rattle.tree_limits.specs.declared.limits.Limits.{Limits}
-use Rattle.bw_model.specs.declared.step.Step.TheVariants.{Exchange}
+use Rattle.op_machine.proofs.Words.{◌≡◌, ◌<◌, ℕ, zero, suc, List, length, refl, sym, ap, subst, ◌∙◌, Limits, Exchange, Record, IsChainFrom, SplitPlan, IsUseful, wanted_number, Plan, Bits}
+use Rattle.op_machine.proofs.Words.{Take, IsUsefulOver, IsUsefulPlan, AreHalves, IsHalved, Task}
 use Rattle.base_page.specs.Pages.{Page}
-use Rattle.deltas.specs.declared.record.Record.{Record}
 use Rattle.deltas.specs.declared.record.Record.TheVariants as kind
 use Rattle.traces.specs.discipline.Discipline.{HasRead, May, MayFree}
-use Rattle.traces.specs.chain.Chains.{IsChainFrom}
 use Rattle.traces.specs.discipline.Knowledge.{Knowledge, Written, Ready as Set}
 use Rattle.deltas.specs.declared.record.Split.{Split as SplitOf}
-use Rattle.structure_changes.specs.declared.split.SplitPlan.{SplitPlan}
 use Rattle.structure_changes.specs.Splits.{split_to}
-use Rattle.traces.specs.discipline.Useful.{IsUseful}
 use Rattle.round_model.specs.Visits.{ReadsWithin}
 use Rattle.change_machine.specs.Changes as change
 use Rattle.structure_changes.specs.Plans.{cleared_page, cleared_row}
 use Rattle.change_machine.specs.Spares.{Spares, last_row, pid_of}
-use Rattle.change_machine.specs.Taking.{wanted_number}
 use Rattle.change_machine.specs.declared.change.State.{State}
 use Rattle.change_machine.specs.declared.change.State.TheVariants.{Taking, Base, Ready, Place, Link, Undo, Clear}
-use Rattle.structure_changes.specs.declared.plan.Plan.{Plan}
 use Rattle.structure_changes.specs.declared.plan.Plan.TheVariants.{Install, Split, Root, Unlink}
 use Rattle.change_machine.specs.declared.taking.Kind.TheVariants.{Pid, Row}
 use Rattle.change_machine.specs.declared.taking.Taking as taken
-use Rattle.change_machine.specs.declared.taking.Taking.TheVariants.{Bits, Take}
 use Rattle.rounds.specs.Descents.{asked_step}
 use Rattle.rounds.specs.declared.asked.Asked.{Asked}
 use Rattle.rounds.specs.declared.asked.Asked.TheVariants.{Slot as SlotOf, Row as RowOf}
-use Rattle.op_machine.specs.machine.Brings.{IsUsefulOver, IsUsefulPlan}
-use Rattle.op_machine.specs.theorem.Halves.{AreHalves, IsHalved}
 use Rattle.op_machine.specs.machine.Shows.{MayStep}
-use Rattle.op_machine.specs.machine.Tasks.{Task}
 
 -- a change frees nothing
 pub freely : (limits : Limits) (actor : ℕ) (k : Knowledge) (plan : Plan) (spares : Spares) (state : State) → MayFree limits actor k (change.wanted_at plan spares state)

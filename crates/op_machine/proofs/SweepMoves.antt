@@ -1,22 +1,10 @@
 -- What the sweep with which an operation begins leaves as it was, and what it keeps.
-use Rattle.std.proofs.Common.{◌≡◌, Option, Some, None, refl, sym, subst, ◌∙◌, true}
-use Rattle.std.specs.Prelude.{IfSome, IsSome, MatchOption}
-use Rattle.bw_model.specs.Replies.{is_writer}
-use Rattle.bw_model.specs.declared.step.Answer.{Answer}
+use Rattle.op_machine.proofs.Words.{◌≡◌, Option, Some, None, refl, sym, subst, ◌∙◌, true, IfSome, IsSome, MatchOption, is_writer, Answer, Record, May, MayFree, Fits, Knowledge, Limbos}
+use Rattle.op_machine.proofs.Words.{learn, Recalled, recall, IsUseful, IsHalved, Spares, Hand, FitsLast, ShowsState, learn_last, recall_last}
 use Rattle.bw_model.specs.declared.step.Step.{Step}
-use Rattle.deltas.specs.declared.record.Record.{Record}
-use Rattle.traces.specs.discipline.Discipline.{May, MayFree}
-use Rattle.traces.specs.discipline.Fitting.{Fits}
-use Rattle.traces.specs.discipline.Knowledge.{Knowledge, Limbos, learn}
-use Rattle.traces.specs.discipline.Recalled.{Recalled, recall}
-use Rattle.traces.specs.discipline.Useful.{IsUseful}
-use Rattle.op_machine.specs.theorem.Halves.{IsHalved}
 use Rattle.traces.specs.trace.Within.{IsWithin}
 use Rattle.epochs.specs.Limbo.{Limbo}
-use Rattle.change_machine.specs.Spares.{Spares}
-use Rattle.op_machine.specs.machine.Hands.{Hand}
 use Rattle.op_machine.specs.machine.Ops.{Goes, HoldsLimbo, IsSweeping, Op, Shows, asked_by}
-use Rattle.op_machine.specs.machine.Shows.{FitsLast, ShowsState, learn_last, recall_last}
 use Rattle.op_machine.specs.machine.Sweeping.{FollowsSweep, with_limbo}
 use Rattle.op_machine.specs.machine.Tasks.{Task, Waits}
 use Rattle.op_machine.specs.machine.States.{State, Begun}

@@ -1,17 +1,9 @@
 -- What an operation in its place is after an answer, from what its work or its sweep is.
-use Rattle.std.proofs.Common.{◌≡◌, ◌<◌, Option, Some, None, is_some, true, false, refl, sym, ap, subst, ◌∙◌, arith}
-use Rattle.std.specs.Prelude.{IsSome}
-use Rattle.bw_model.specs.declared.step.Answer.{Answer}
+use Rattle.op_machine.proofs.Words.{◌≡◌, ◌<◌, Option, Some, None, is_some, true, false, refl, sym, ap, subst, ◌∙◌, arith, IsSome, Answer, StepOf, Record, Spares, IsSpentLast, Hand, IsToldOp}
+use Rattle.op_machine.proofs.Words.{Obeys, Op, Shows, asked_by, wanted_of, has_begun, Sweep}
 use Rattle.bw_model.specs.declared.step.Answer.TheVariants.{Start}
-use Rattle.bw_model.specs.declared.step.Step.{Step as StepOf}
-use Rattle.deltas.specs.declared.record.Record.{Record}
 use Rattle.epochs.specs.Limbo.{Limbo}
-use Rattle.change_machine.specs.Spares.{Spares}
-use Rattle.op_machine.specs.machine.Bounded.{IsSpentLast}
-use Rattle.op_machine.specs.machine.Hands.{Hand}
 use Rattle.op_machine.specs.machine.InPlace.{ShowsOn, Takes, Wants}
-use Rattle.op_machine.specs.machine.Ops.{IsToldOp, Obeys, Op, Shows, asked_by, wanted_of}
-use Rattle.op_machine.specs.machine.Outcomes.{has_begun}
 use Rattle.op_machine.specs.machine.Shows.{learn_last, recall_last, wanted_at}
 use Rattle.op_machine.specs.machine.Spending.{Spends, SpendsSteps, steps_left, sweep_left}
 use Rattle.op_machine.specs.machine.Sweeping.{HasFewer, IsSameWork, MovesSweep, ObeysSweep, with_limbo}
@@ -21,7 +13,6 @@ use Rattle.op_machine.specs.machine.States.{State, Begun, Epoch, Enter, Read, Wr
 use Rattle.op_machine.proofs.GoingLeft.{goes_left}
 use Rattle.op_machine.proofs.Nexts.{asks, asks_none, fewer, fits_on, fits_swept, kept_after, kept_begun, left_first, left_is, nothing_left, rests, starts, sweep_asks, told_after, unswept}
 use Rattle.sweep.specs.Bounded as sweep
-use Rattle.sweep.specs.Sweeps.{Sweep}
 
 -- whichever step is wanted, the operation obeys by it
 obeys_by : (old : Op) (had : Hand) (told : Answer Record) (new : Op) (has : Hand) → ShowsOn old had told new has → (asked : StepOf Record) → Wants new has asked

@@ -1,28 +1,15 @@
 -- What a change has taken out of the tree once it has ended.
-use Rattle.std.proofs.Common.{◌≡◌, ◌<◌, ◌≤◌, ℕ, List, length, Option, Some, None, refl}
-use Rattle.std.specs.Prelude.{MatchOption}
-use Rattle.bw_model.specs.declared.command.Command.{Command}
-use Rattle.tree_limits.specs.declared.limits.Limits.{Limits}
-use Rattle.deltas.specs.declared.record.Record.{Record}
+use Rattle.op_machine.proofs.Words.{◌≡◌, ◌<◌, ◌≤◌, ℕ, List, length, Option, Some, None, refl, MatchOption, Command, Limits, Record, replaced_at, IsChainFrom, chain_rows, linked_by, End, Won}
+use Rattle.op_machine.proofs.Words.{Lost, Full, Plan, Brings, Then, Unlinked, AreKept}
 use Rattle.deltas.specs.declared.record.Record.TheVariants as kind
-use Rattle.deltas.specs.Memory.{replaced_at}
-use Rattle.traces.specs.chain.Chains.{IsChainFrom, chain_rows}
 use Rattle.traces.specs.discipline.Fitting.{AreOutOfLimbo}
 use Rattle.traces.specs.discipline.Knowledge.{Absent, Unstamped, Knowledge, Limbos, taken_out}
 use Rattle.epochs.specs.Limbo.{Limbo as LimboSeen}
-use Rattle.change_machine.specs.Changes.{linked_by}
 use Rattle.change_machine.specs.Outs.{TakesFresh, limbo_after, limbo_over}
-use Rattle.change_machine.specs.declared.change.End.{End}
-use Rattle.change_machine.specs.declared.change.End.TheVariants.{Won, Lost, Full}
-use Rattle.structure_changes.specs.declared.plan.Plan.{Plan}
 use Rattle.structure_changes.specs.declared.plan.Plan.TheVariants.{Install, Split, Root, Unlink}
-use Rattle.op_machine.specs.machine.Brings.{Brings}
 use Rattle.op_machine.specs.machine.Hands.{IsPageOut, IsTakenBy, GoesToLimbo, TakesNothing, Unlinks}
-use Rattle.op_machine.specs.declared.then.Then.{Then}
 use Rattle.op_machine.specs.declared.then.Then.TheVariants.{After, Reply}
 use Rattle.structure_changes.specs.declared.after.After.TheVariants.{Round, Limbo, Errand}
-use Rattle.structure_changes.specs.declared.unlinked.Unlinked.{Unlinked}
-use Rattle.sweep.specs.Kept.{AreKept}
 use Rattle.sweep.specs.Taken.{IsTakenOut}
 
 -- a plan that takes nothing out leaves the limbo as it is

@@ -1,30 +1,15 @@
 -- What is due at a small page may be linked.
-use Rattle.std.proofs.Common.{◌≡◌, ℕ, suc, List, [], ◌∷◌, Option, Some, None, true, false, inl, inr, refl, ap, sym, ◌∙◌}
-use Rattle.std.specs.Prelude.{IfSome}
-use Rattle.bw_model.specs.declared.command.Command.{Command}
-use Rattle.tree_limits.specs.declared.limits.Limits.{Limits}
-use Rattle.bw_model.specs.Replies.{is_writer}
+use Rattle.op_machine.proofs.Words.{◌≡◌, ℕ, suc, List, [], ◌∷◌, Option, Some, None, true, false, inl, inr, refl, ap, sym, ◌∙◌, IfSome, Command, Limits, is_writer, Remove, is_removed}
+use Rattle.op_machine.proofs.Words.{level_in, Knowledge, Recalled, IsAlive, Spares, Plan, HasSeen, Version, IsAtLeafBelow, IsRoundOf, MayBegin, Seeks, Task}
 use Rattle.deltas.specs.declared.record.Hold.{Hold}
 use Rattle.deltas.specs.declared.record.Record.TheVariants as kind
-use Rattle.deltas.specs.declared.record.Remove.{Remove}
-use Rattle.traces.specs.chain.Chains.{is_removed, level_in}
 use Rattle.traces.specs.chain.Fitted.{IsPageChain}
-use Rattle.traces.specs.discipline.Knowledge.{Knowledge}
-use Rattle.traces.specs.discipline.Recalled.{Recalled}
-use Rattle.round_model.specs.Versions.{IsAlive}
 use Rattle.round_model.specs.WriteRounds.{IsTendEnd, IsUpper, WriteRound}
 use Rattle.change_machine.specs.Changes.{IsSpellablePlan, IsTarget, MayInstall}
-use Rattle.change_machine.specs.Spares.{Spares}
-use Rattle.structure_changes.specs.declared.plan.Plan.{Plan}
 use Rattle.structure_changes.specs.Holds.{IsHoldPlan}
-use Rattle.structure_changes.specs.Readings.{HasSeen}
 use Rattle.structure_changes.specs.Removals.{IsRemovePlan}
 use Rattle.structure_changes.specs.Upkeep.{IsUpkeep}
-use Rattle.structure_changes.specs.Versions.{Version}
 use Rattle.op_machine.specs.machine.Errands.{tends_of}
-use Rattle.op_machine.specs.machine.Outcomes.{IsAtLeafBelow}
-use Rattle.op_machine.specs.machine.Shows.{IsRoundOf, MayBegin}
-use Rattle.op_machine.specs.machine.Tasks.{Seeks, Task}
 use Rattle.op_machine.specs.machine.Upkeep.{IsUpkeepFor, tidies}
 use Rattle.op_machine.specs.declared.then.Then.TheVariants.{After}
 use Rattle.structure_changes.specs.declared.after.After.TheVariants.{Round}

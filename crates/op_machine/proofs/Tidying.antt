@@ -1,31 +1,15 @@
 -- A tidying at the leaf of its key, where nothing is due.
-use Rattle.std.proofs.Common.{◌≡◌, ◌≤◌, ◌<◌, inl, inr, ℕ, List, [], ◌∷◌, length, Bool, Option, Some, None, true, false, refl, ap, subst, arith}
-use Rattle.std.specs.Prelude.{IsTrue, if◌then◌else◌}
-use Rattle.std.specs.Str.{bytes_eq}
-use Rattle.bw_model.specs.declared.command.Command.{Command}
-use Rattle.bw_model.specs.declared.command.Command.TheVariants.{Get, Insert, Upsert, Delete, Swap, Page as PageFrom, Tidy}
+use Rattle.op_machine.proofs.Words.{◌≡◌, ◌≤◌, ◌<◌, inl, inr, ℕ, List, [], ◌∷◌, length, Bool, Option, Some, None, true, false, refl, ap, subst, arith, IsTrue, if◌then◌else◌, bytes_eq}
+use Rattle.op_machine.proofs.Words.{Command, Get, Insert, Upsert, Delete, Swap, PageFrom, Tidy, is_writer, reply_of, IsSpellablePage, Record, covers, level_in, MayReply, IsFitted, Knowledge}
+use Rattle.op_machine.proofs.Words.{Recalled, Spares, Version, from_made, of_made, IsAtLeafBelow, Task, IsIdleFor}
 use Rattle.bw_model.specs.declared.command.Reply.{Reply}
 use Rattle.bw_model.specs.declared.command.Reply.TheVariants.{Differs, Swapped, Tidied}
-use Rattle.bw_model.specs.Replies.{is_writer, reply_of}
 use Rattle.base_page.specs.Pages.{Page}
-use Rattle.deltas.specs.Spellable.{IsSpellablePage}
-use Rattle.deltas.specs.declared.record.Record.{Record}
 use Rattle.deltas.specs.declared.record.Record.TheVariants.{Base}
-use Rattle.traces.specs.chain.Chains.{covers, level_in}
-use Rattle.traces.specs.discipline.Discipline.{MayReply}
-use Rattle.traces.specs.chain.Fitted.{IsFitted}
-use Rattle.traces.specs.discipline.Knowledge.{Knowledge}
-use Rattle.traces.specs.discipline.Recalled.{Recalled}
 use Rattle.traces.proofs.FittedLaws.{Makes-base}
-use Rattle.change_machine.specs.Spares.{Spares}
 use Rattle.structure_changes.specs.Sizes.{HasFewItems}
-use Rattle.structure_changes.specs.Versions.{Version}
-use Rattle.structure_changes.proofs.Places.{from_made, of_made}
 use Rattle.structure_changes.proofs.Unheld.{leaf_unheld}
 use Rattle.op_machine.specs.machine.Errands.{due_of}
-use Rattle.op_machine.specs.machine.Outcomes.{IsAtLeafBelow}
-use Rattle.op_machine.specs.machine.Tasks.{Task}
-use Rattle.op_machine.specs.machine.Upkeep.{IsIdleFor}
 use Rattle.op_machine.proofs.HoldingBack.{kept_back}
 
 -- a test that replies either way

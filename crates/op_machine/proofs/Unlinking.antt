@@ -1,15 +1,7 @@
 -- What the end of a removed page's term needs.
-use Rattle.std.proofs.Common.{◌≡◌, ◌∙◌, ℕ, Option, Some, None, ap, sym}
-use Rattle.std.specs.Prelude.{IfSome}
+use Rattle.op_machine.proofs.Words.{◌≡◌, ◌∙◌, ℕ, Option, Some, None, ap, sym, IfSome, Unterm, Knowledge, KeepsSparePage, Spares, HasSeen, Version, Seeks, Task}
 use Rattle.deltas.specs.declared.record.Record.TheVariants as kind
-use Rattle.deltas.specs.declared.record.Unterm.{Unterm}
-use Rattle.traces.specs.discipline.Knowledge.{Knowledge}
-use Rattle.change_machine.specs.Changes.{KeepsSparePage}
-use Rattle.change_machine.specs.Spares.{Spares}
-use Rattle.structure_changes.specs.Readings.{HasSeen}
 use Rattle.structure_changes.specs.Unterms.{IsUntermPlan}
-use Rattle.structure_changes.specs.Versions.{Version}
-use Rattle.op_machine.specs.machine.Tasks.{Seeks, Task}
 
 -- a page that was read isn't the spare one
 not_spare : (k : Knowledge) (unterm : Unterm) (row : ℕ) (pid : Option ℕ) → k.read.heads unterm.child ≡ Some row → IfSome pid (λ pid. k.read.heads pid ≡ None) → KeepsSparePage (kind.Unterm unterm) pid

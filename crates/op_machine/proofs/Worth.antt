@@ -1,47 +1,27 @@
 -- A cause is worth what it has to pay for, and ten are worth all that an operation has left.
 use Rattle.std.proofs.Common.{◌≡◌, ◌<◌, ◌≤◌, ◌+◌, ◌-◌, ◌*◌, ℕ, List, [], length, Option, None, Some, Bool, true, false, refl, subst, arith}
-use Rattle.std.proofs.Math.Nat.{mul-le-mul_left}
-use Rattle.std.specs.Prelude.{if◌then◌else◌, ◌^◌}
-use Rattle.tree_limits.specs.declared.limits.Limits.{Limits}
-use Rattle.deltas.specs.declared.record.Record.{Record}
-use Rattle.traces.specs.chain.Chains.{is_removed}
-use Rattle.traces.specs.discipline.Knowledge.{Knowledge}
+use Rattle.op_machine.proofs.Words.{mul-le-mul_left, if◌then◌else◌, ◌^◌, Limits, Record, is_removed, Knowledge, ReadGoal, WriteGoal, Reuse, Rows, Pids, Spares, ChangeState, Plan, Bits, Take}
+use Rattle.op_machine.proofs.Words.{Sweep, SweepState, few_changes, left_round, one_round, with_errands, Hand, Op, Shows, ShowsState, steps_left, sweep_left, Task}
 use Rattle.traces.specs.discipline.Recalled.{Recalled, Walk, cause_worth}
 use Rattle.round_model.specs.Descents.{WayState, Root, Page, left_from}
 use Rattle.round_model.specs.ReadGoals as read
-use Rattle.round_model.specs.ReadGoals.{ReadGoal}
 use Rattle.round_model.specs.ReadRounds.{read_round_kept}
 use Rattle.round_model.specs.Visits.{VisitState, Slot, Row}
 use Rattle.round_model.specs.Courses as write
-use Rattle.round_model.specs.Courses.{WriteGoal}
 use Rattle.round_model.specs.Walks.{reads_left_at, with_walk}
 use Rattle.round_model.specs.WriteRounds.{write_round_kept}
-use Rattle.epochs.specs.declared.item.Reuse.{Reuse}
-use Rattle.epochs.specs.declared.item.Reuse.TheVariants.{Rows, Pids}
 use Rattle.change_machine.specs.Bounded as change
 use Rattle.change_machine.specs.Bounded.{few_steps, numbers_missing, pids_missing}
 use Rattle.structure_changes.specs.Plans.{needs_pid, rows_needed}
-use Rattle.change_machine.specs.Spares.{Spares}
 use Rattle.change_machine.specs.Taking.{most_reads, number_left}
-use Rattle.change_machine.specs.declared.change.State.{State as ChangeState}
 use Rattle.change_machine.specs.declared.change.State.TheVariants as changing
-use Rattle.structure_changes.specs.declared.plan.Plan.{Plan}
 use Rattle.structure_changes.specs.declared.plan.Plan.TheVariants.{Install, Split, Root as NewRoot, Unlink}
 use Rattle.change_machine.specs.declared.taking.Taking.{Taking}
-use Rattle.change_machine.specs.declared.taking.Taking.TheVariants.{Bits, Take}
 use Rattle.sweep.specs.Bounded.{most_steps, reuses_left}
 use Rattle.sweep.specs.Bounded as sweep
-use Rattle.sweep.specs.Sweeps.{Sweep}
-use Rattle.sweep.specs.declared.sweep.State.{State as SweepState}
 use Rattle.sweep.specs.declared.sweep.State.TheVariants as sweeping
-use Rattle.op_machine.specs.machine.Bounded.{few_changes, left_round, one_round, with_errands}
 use Rattle.op_machine.specs.machine.Bounded as op
-use Rattle.op_machine.specs.machine.Hands.{Hand}
-use Rattle.op_machine.specs.machine.Ops.{Op, Shows}
-use Rattle.op_machine.specs.machine.Shows.{ShowsState}
-use Rattle.op_machine.specs.machine.Spending.{steps_left, sweep_left}
 use Rattle.op_machine.specs.machine.States.{State, Begun, Epoch, Enter, Read, Write, Change, Leave}
-use Rattle.op_machine.specs.machine.Tasks.{Task}
 
 pub enough : (limits : Limits) → 42 * limits.pids + 2 * few_changes limits + 20 ≤ cause_worth limits
 unfolding cause_worth most_reads

@@ -1,22 +1,8 @@
 -- An operation that runs alone ends, where nobody has placed a removal.
-use Rattle.std.proofs.Common.{◌≡◌, ◌<◌, ◌≤◌, ◌+◌, ◌-◌, ◌*◌, ℕ, suc, List, Some, true, cond, length, sym, ap, subst, ◌∙◌, inl, inr, arith}
-use Rattle.std.proofs.Math.Nat.{mul-le-mul_left}
-use Rattle.std.proofs.lemmas.Bool.{cases_lt}
-use Rattle.std.proofs.lemmas.List.Elements.{All-weaker}
-use Rattle.std.specs.List.{count_by}
-use Rattle.std.specs.Prelude.{◌||◌, slice_get, slice_range}
-use Rattle.tree_limits.specs.declared.limits.Limits.{Limits}
-use Rattle.bw_model.specs.declared.step.Answer.TheVariants.{Whether}
-use Rattle.bw_model.specs.declared.step.Step.TheVariants.{TakePid, TakeRow}
-use Rattle.traces.specs.declared.trace.Entry.{Entry}
-use Rattle.traces.specs.declared.trace.Entry.TheVariants.{Begin, Step}
-use Rattle.traces.specs.discipline.Recalled.{cause_worth}
-use Rattle.traces.specs.trace.Trace.{Happens, memory_at}
-use Rattle.op_machine.specs.theorem.Changes.{HasFewChanges}
-use Rattle.op_machine.specs.theorem.Progress.{AreAmong, ChangesTree, is_begin, steps_from}
-use Rattle.op_machine.specs.theorem.Unhindered.{Hinders, RunsAlone}
+use Rattle.progress.proofs.Words.{◌≡◌, ◌<◌, ◌≤◌, ◌+◌, ◌-◌, ◌*◌, ℕ, suc, List, Some, true, cond, length, sym, ap, subst, ◌∙◌, inl, inr, arith, mul-le-mul_left, cases_lt, All-weaker, count_by}
+use Rattle.progress.proofs.Words.{◌||◌, slice_get, slice_range, Limits, Whether, TakePid, TakeRow, Entry, Begin, Step, cause_worth, Happens, memory_at, HasFewChanges, AreAmong, ChangesTree}
+use Rattle.progress.proofs.Words.{is_begin, steps_from, Hinders, RunsAlone, Command}
 use Rattle.progress.specs.Unhindered.{LoneOperationsEnd}
-use Rattle.bw_model.specs.declared.command.Command.{Command}
 use Rattle.progress.proofs.Hindering.{among_hinder, changes_at, hinder, takes_beside, paid_by_hinder}
 use Rattle.progress.proofs.Later.{paid_since}
 use Rattle.progress.proofs.Tallies.{counted_range, listed, passes, passes_in, tally, tally_none, tally_split}

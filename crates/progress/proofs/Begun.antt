@@ -1,21 +1,8 @@
 -- Each step is one of an operation.
 use Rattle.std.proofs.Common.{◌≡◌, ◌<◌, ℕ, zero, suc, List, Option, None, Some, take, refl, sym, ap, ◌∙◌, inl, inr, arith}
-use Rattle.std.proofs.lemmas.Bool.Decides.{eqb_tells}
-use Rattle.std.specs.Prelude.{IsSome, slice_get}
-use Rattle.tree_limits.specs.declared.limits.Limits.{Limits}
-use Rattle.bw_model.specs.declared.command.Command.{Command}
-use Rattle.bw_model.specs.declared.command.Reply.{Reply}
-use Rattle.bw_model.specs.declared.step.Answer.{Answer}
-use Rattle.bw_model.specs.declared.step.Step.{Step as StepOf}
-use Rattle.deltas.specs.declared.record.Record.{Record}
-use Rattle.traces.specs.declared.trace.Entry.{Entry}
-use Rattle.traces.specs.declared.trace.Entry.TheVariants.{Begin, Step}
-use Rattle.traces.specs.trace.Run.{IsRun}
-use Rattle.traces.specs.trace.Trace.{TakesStep, command_of, commands_after}
+use Rattle.progress.proofs.Words.{eqb_tells, IsSome, slice_get, Limits, Command, Reply, Answer, StepOf, Record, Entry, Begin, Step, IsRun, TakesStep, command_of, commands_after, take-one}
+use Rattle.progress.proofs.Words.{IsOperation, Operation, TakesOwnStep, take_past}
 use Rattle.traces.proofs.TraceLaws.{command_of-push}
-use Rattle.op_machine.proofs.LogLaws.{take-one}
-use Rattle.op_machine.specs.theorem.Operations.{IsOperation, Operation, TakesOwnStep}
-use Rattle.traces.proofs.Cuts.{take_past}
 
 -- The actor began an operation at a place before this one, and none after it.
 pub record LastBegin (entries : List Entry) (a n : ℕ) : Type 0 where

@@ -1,21 +1,8 @@
 -- Where a slot has another number than it had, or a number is free no more, a step in between has changed that.
 use Rattle.std.proofs.Common.{◌≡◌, ◌≢◌, ◌<◌, ◌≤◌, ◌⊎◌, ℕ, zero, suc, List, Option, None, Some, Bool, true, false, refl, sym, ap, subst, ◌∙◌, inl, inr, arith}
-use Rattle.std.proofs.lemmas.Bool.{cases_lt}
-use Rattle.std.proofs.lemmas.Bool.Decides.{eqb_tells}
-use Rattle.std.specs.Prelude.{if◌then◌else◌, slice_get, ◌==◌, ◌||◌}
-use Rattle.tree_limits.specs.declared.limits.Limits.{Limits}
-use Rattle.bw_model.specs.declared.step.Answer.{Answer}
-use Rattle.bw_model.specs.declared.step.Answer.TheVariants.{Whether}
-use Rattle.bw_model.specs.declared.step.Step.{Step as StepOf}
+use Rattle.progress.proofs.Words.{cases_lt, eqb_tells, if◌then◌else◌, slice_get, ◌==◌, ◌||◌, Limits, Answer, Whether, StepOf, Memory, Record, Entry, Begin, Step, IsRun, IsAnswer}
+use Rattle.progress.proofs.Words.{memory_after, TakesStep, memory_at, memory_of, take_past}
 use Rattle.bw_model.specs.declared.step.Step.TheVariants.{Exchange, ReusePids, ReuseRows, TakePid, TakeRow}
-use Rattle.deltas.specs.Memory.{Memory}
-use Rattle.deltas.specs.declared.record.Record.{Record}
-use Rattle.traces.specs.declared.trace.Entry.{Entry}
-use Rattle.traces.specs.declared.trace.Entry.TheVariants.{Begin, Step}
-use Rattle.traces.specs.trace.Run.{IsRun}
-use Rattle.traces.specs.trace.Steps.{IsAnswer, memory_after}
-use Rattle.traces.specs.trace.Trace.{TakesStep, memory_at, memory_of}
-use Rattle.traces.proofs.Cuts.{take_past}
 use Rattle.progress.proofs.Placed.{memory_next}
 
 -- the last place at which it was so, before one at which it isn't

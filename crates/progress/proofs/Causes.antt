@@ -1,21 +1,10 @@
 -- A reader's step is no cause, where nobody has placed a removal.
-use Rattle.std.proofs.Common.{◌≡◌, ◌<◌, ◌≤◌, ◌+◌, ◌*◌, ℕ, List, [], ◌∷◌, length, take, false, Some, refl, ap, ◌∙◌, inl, inr, arith}
-use Rattle.std.proofs.lemmas.List.Elements.{All-head}
-use Rattle.std.specs.List.{All}
-use Rattle.tree_limits.specs.declared.limits.Limits.{Limits}
-use Rattle.bw_model.specs.Replies.{is_writer}
+use Rattle.progress.proofs.Words.{◌≡◌, ◌<◌, ◌≤◌, ◌+◌, ◌*◌, ℕ, List, [], ◌∷◌, length, take, false, Some, refl, ap, ◌∙◌, inl, inr, arith, All-head, All, Limits, is_writer, Record, Entry}
+use Rattle.progress.proofs.Words.{cause_worth, IsRun, memory_at, IsOperation, Operation, TakesOwnStep, KeepsPhases, PlacesNoRemoval, steps_from}
 use Rattle.bw_model.specs.declared.step.Answer.TheVariants.{Content}
 use Rattle.bw_model.specs.declared.step.Step.TheVariants.{Row}
-use Rattle.deltas.specs.declared.record.Record.{Record}
 use Rattle.deltas.specs.declared.record.Record.TheVariants as delta
-use Rattle.traces.specs.declared.trace.Entry.{Entry}
-use Rattle.traces.specs.discipline.Recalled.{cause_worth}
-use Rattle.traces.specs.trace.Run.{IsRun}
-use Rattle.traces.specs.trace.Trace.{memory_at}
 use Rattle.op_machine.specs.theorem.Direct.{IsCause, IsDirect, Meets}
-use Rattle.op_machine.specs.theorem.Operations.{IsOperation, Operation, TakesOwnStep}
-use Rattle.op_machine.specs.theorem.Phases.{KeepsPhases}
-use Rattle.op_machine.specs.theorem.Progress.{PlacesNoRemoval, steps_from}
 use Rattle.progress.specs.Readers.{ReadersReadAtOnce}
 use Rattle.progress.proofs.Cleared.{was_removed}
 use Rattle.progress.proofs.Placed.{none_stands}

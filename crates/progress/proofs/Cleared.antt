@@ -1,15 +1,10 @@
 -- A page that is cleared was removed.
-use Rattle.std.proofs.Common.{◌≡◌, ◌≢◌, ◌<◌, ◌⊎◌, ℕ, List, Bool, true, false, refl, subst, inl, inr, arith}
-use Rattle.std.specs.Prelude.{if◌then◌else◌, ◌==◌, ⊤}
-use Rattle.tree_limits.specs.declared.limits.Limits.{Limits}
-use Rattle.deltas.specs.Memory.{Memory}
+use Rattle.progress.proofs.Words.{◌≡◌, ◌≢◌, ◌<◌, ◌⊎◌, ℕ, List, Bool, true, false, refl, subst, inl, inr, arith, if◌then◌else◌, ◌==◌, ⊤, Limits, Memory, Entry, Happens, takes, removes}
+use Rattle.progress.proofs.Words.{merges, unterms, reuses}
 use Rattle.deltas.specs.declared.record.Record.TheVariants as delta
 use Rattle.deltas.specs.declared.record.Remove.{Remove}
-use Rattle.traces.specs.declared.trace.Entry.{Entry}
-use Rattle.traces.specs.trace.Trace.{Happens}
 use Rattle.op_machine.specs.theorem.Links.{Installs}
 use Rattle.op_machine.specs.theorem.Phases.{Phase, MovesPhase, MovesAt, IsInPhase, KeepsPhases, first_phase, free, indexed, owned, removed, merged, cleared}
-use Rattle.op_machine.specs.theorem.Phases.{takes, removes, merges, unterms, reuses}
 
 -- the phase in which a move to each one started, where it was one alone; and what removed a page
 abbrev pub CameBy : Memory → Entry → ℕ → Phase → Phase → Type 0

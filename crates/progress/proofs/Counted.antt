@@ -1,7 +1,5 @@
 -- Different places of a list at which a test passes are no more than it counts.
-use Rattle.std.proofs.Common.{◌≡◌, ◌≢◌, ◌≤◌, ◌⊎◌, ℕ, suc, List, [], ◌∷◌, cond, length, refl, sym, ap, inl, inr, arith}
-use Rattle.std.proofs.lemmas.Bool.Decides.{eqb_tells}
-use Rattle.std.specs.Prelude.{◌==◌, ⊤}
+use Rattle.progress.proofs.Words.{◌≡◌, ◌≢◌, ◌≤◌, ◌⊎◌, ℕ, suc, List, [], ◌∷◌, cond, length, refl, sym, ap, inl, inr, arith, eqb_tells, ◌==◌, ⊤}
 
 abbrev pub IsNotAmong : ℕ → List ℕ → Type 0
 IsNotAmong j [] = ⊤

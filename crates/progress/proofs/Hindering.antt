@@ -1,28 +1,10 @@
 -- The causes of an operation are changes of the tree, and numbers that others took, where nobody has placed a removal.
 use Rattle.std.proofs.Common.{◌≡◌, ◌≢◌, ◌<◌, ◌≤◌, ◌+◌, ◌-◌, ◌*◌, ◌⊎◌, ℕ, zero, suc, List, [], ◌∷◌, Option, None, Some, Bool, true, false, cond, length, take}
-use Rattle.std.proofs.Common.{refl, sym, ap, subst, ◌∙◌, inl, inr, arith}
-use Rattle.std.proofs.lemmas.Bool.Decides.{eqb_tells}
-use Rattle.std.proofs.lemmas.List.Elements.{All-weaker}
-use Rattle.std.specs.List.{All}
-use Rattle.std.specs.List.Sorted.{IsStrictlyIncreasing}
-use Rattle.std.specs.Prelude.{◌==◌, ◌||◌, not, slice_get}
-use Rattle.tree_limits.specs.declared.limits.Limits.{Limits}
-use Rattle.bw_model.specs.declared.step.Answer.TheVariants.{Number, Whether}
-use Rattle.bw_model.specs.declared.step.Link.{Link}
+use Rattle.progress.proofs.Words.{refl, sym, ap, subst, ◌∙◌, inl, inr, arith, eqb_tells, All-weaker, All, IsStrictlyIncreasing, ◌==◌, ◌||◌, not, slice_get, Limits, Number, Whether, Link}
+use Rattle.progress.proofs.Words.{Memory, not_true, Entry, Step, cause_worth, IsRun, Happens, TakesStep, memory_at, IsCause, IsDirect, link_of, IsOperation, IsOwnStep, Operation}
+use Rattle.progress.proofs.Words.{TakesOwnStep, IsInPhase, KeepsPhases, owned, AreAmong, ChangesTree, PlacesNoRemoval, steps_from, takes_number}
 use Rattle.bw_model.specs.declared.step.Link.TheVariants as link
 use Rattle.bw_model.specs.declared.step.Step.TheVariants.{Exchange, Slot, TakePid, TakeRow}
-use Rattle.deltas.specs.Memory.{Memory}
-use Rattle.base_page.proofs.KeyLaws.{not_true}
-use Rattle.traces.specs.declared.trace.Entry.{Entry}
-use Rattle.traces.specs.declared.trace.Entry.TheVariants.{Step}
-use Rattle.traces.specs.discipline.Recalled.{cause_worth}
-use Rattle.traces.specs.trace.Run.{IsRun}
-use Rattle.traces.specs.trace.Trace.{Happens, TakesStep, memory_at}
-use Rattle.op_machine.specs.theorem.Direct.{IsCause, IsDirect}
-use Rattle.op_machine.specs.theorem.Links.{link_of}
-use Rattle.op_machine.specs.theorem.Operations.{IsOperation, IsOwnStep, Operation, TakesOwnStep}
-use Rattle.op_machine.specs.theorem.Phases.{IsInPhase, KeepsPhases, owned}
-use Rattle.op_machine.specs.theorem.Progress.{AreAmong, ChangesTree, PlacesNoRemoval, steps_from, takes_number}
 use Rattle.op_machine.specs.theorem.Unhindered.{Hinders, TakesBeside}
 use Rattle.progress.proofs.Begun.{one_of}
 use Rattle.progress.proofs.Between.{take_of}

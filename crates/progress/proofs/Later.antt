@@ -1,19 +1,8 @@
 -- From any entry on: what an operation had read before costs it a slot of each page, and free numbers once, and what hinders it since pays for the rest.
-use Rattle.std.proofs.Common.{◌≡◌, ◌<◌, ◌≤◌, ◌+◌, ◌-◌, ◌*◌, ◌⊎◌, ℕ, zero, suc, List, [], ◌∷◌, Bool, true, false, length, take, refl, sym, ap, subst, ◌∙◌, inl, inr, arith}
-use Rattle.std.proofs.Math.Nat.{mul-le-mul_left}
-use Rattle.std.proofs.lemmas.Bool.{cases_lt}
-use Rattle.std.proofs.lemmas.List.Elements.{All-head, All-tail}
-use Rattle.std.specs.List.{All}
-use Rattle.tree_limits.specs.declared.limits.Limits.{Limits}
-use Rattle.bw_model.specs.declared.step.Answer.TheVariants.{Number, Whether}
+use Rattle.progress.proofs.Words.{◌≡◌, ◌<◌, ◌≤◌, ◌+◌, ◌-◌, ◌*◌, ◌⊎◌, ℕ, zero, suc, List, [], ◌∷◌, Bool, true, false, length, take, refl, sym, ap, subst, ◌∙◌, inl, inr, arith}
+use Rattle.progress.proofs.Words.{mul-le-mul_left, cases_lt, All-head, All-tail, All, Limits, Number, Whether, Entry, cause_worth, IsRun, IsCause, IsDirect, IsExchangeOf, IsTake, TakesNone}
+use Rattle.progress.proofs.Words.{IsOperation, IsOwnStep, Operation, TakesOwnStep, KeepsPhases, PlacesNoRemoval, steps_from}
 use Rattle.bw_model.specs.declared.step.Step.TheVariants.{Exchange, Slot}
-use Rattle.traces.specs.declared.trace.Entry.{Entry}
-use Rattle.traces.specs.discipline.Recalled.{cause_worth}
-use Rattle.traces.specs.trace.Run.{IsRun}
-use Rattle.op_machine.specs.theorem.Direct.{IsCause, IsDirect, IsExchangeOf, IsTake, TakesNone}
-use Rattle.op_machine.specs.theorem.Operations.{IsOperation, IsOwnStep, Operation, TakesOwnStep}
-use Rattle.op_machine.specs.theorem.Phases.{KeepsPhases}
-use Rattle.op_machine.specs.theorem.Progress.{PlacesNoRemoval, steps_from}
 use Rattle.progress.specs.Unhindered.{RunsAreUnhindered}
 use Rattle.progress.proofs.Between.{take_of}
 use Rattle.progress.proofs.Counted.{AreDistinct, Each, IsNotAmong}

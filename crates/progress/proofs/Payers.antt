@@ -1,24 +1,10 @@
 -- Each cause of an operation needs an entry of its own, where nobody has placed a removal.
-use Rattle.std.proofs.Common.{◌≡◌, ◌≢◌, ◌<◌, ◌≤◌, ◌+◌, ◌-◌, ◌*◌, ◌⊎◌, ℕ, suc, List, [], ◌∷◌, Some, Bool, true, false, length, take, refl, sym, ap, subst, ◌∙◌, inl, inr, arith}
-use Rattle.std.proofs.Math.Nat.{mul-le-mul_left}
-use Rattle.std.proofs.lemmas.Bool.{cases_lt}
-use Rattle.std.proofs.lemmas.List.Elements.{All-head, All-tail}
-use Rattle.std.specs.List.{All}
-use Rattle.std.specs.List.Sorted.{IsStrictlyIncreasing}
+use Rattle.progress.proofs.Words.{◌≡◌, ◌≢◌, ◌<◌, ◌≤◌, ◌+◌, ◌-◌, ◌*◌, ◌⊎◌, ℕ, suc, List, [], ◌∷◌, Some, Bool, true, false, length, take, refl, sym, ap, subst, ◌∙◌, inl, inr, arith}
+use Rattle.progress.proofs.Words.{mul-le-mul_left, cases_lt, All-head, All-tail, All, IsStrictlyIncreasing, Limits, Number, Whether, Link, Entry, IsRun, TakesStep, memory_at, link_of}
+use Rattle.progress.proofs.Words.{IsCause, IsDirect, IsExchangeOf, IsTake, TakesNone, IsOperation, Operation, TakesOwnStep, KeepsPhases, PlacesNoRemoval}
 use Rattle.std.specs.Prelude.{slice_index}
-use Rattle.tree_limits.specs.declared.limits.Limits.{Limits}
-use Rattle.bw_model.specs.declared.step.Answer.TheVariants.{Number, Whether}
 use Rattle.bw_model.specs.declared.step.Step.TheVariants.{Exchange, Slot}
-use Rattle.bw_model.specs.declared.step.Link.{Link}
 use Rattle.bw_model.specs.declared.step.Link.TheVariants as link
-use Rattle.traces.specs.declared.trace.Entry.{Entry}
-use Rattle.traces.specs.trace.Run.{IsRun}
-use Rattle.traces.specs.trace.Trace.{TakesStep, memory_at}
-use Rattle.op_machine.specs.theorem.Links.{link_of}
-use Rattle.op_machine.specs.theorem.Direct.{IsCause, IsDirect, IsExchangeOf, IsTake, TakesNone}
-use Rattle.op_machine.specs.theorem.Operations.{IsOperation, Operation, TakesOwnStep}
-use Rattle.op_machine.specs.theorem.Phases.{KeepsPhases}
-use Rattle.op_machine.specs.theorem.Progress.{PlacesNoRemoval}
 use Rattle.progress.proofs.Between.{take_of}
 use Rattle.progress.proofs.Causes.{meets_none}
 use Rattle.progress.proofs.Counted.{AreDistinct, Each, IsNotAmong}

@@ -1,25 +1,11 @@
 -- A record that stands in a row was placed there, or stood there from the beginning.
 use Rattle.std.proofs.Common.{◌≡◌, ◌<◌, ◌≤◌, ◌⊎◌, ℕ, zero, suc, List, Option, None, Some, Bool, true, false, take, refl, sym, ap, subst, ◌∙◌, inl, inr, arith}
-use Rattle.std.proofs.lemmas.Bool.Decides.{eqb_tells}
-use Rattle.std.proofs.lemmas.Option.{same_Some}
-use Rattle.std.specs.Prelude.{if◌then◌else◌, slice_get, ◌==◌}
-use Rattle.tree_limits.specs.declared.limits.Limits.{Limits}
-use Rattle.bw_model.specs.declared.step.Answer.{Answer}
-use Rattle.bw_model.specs.declared.step.Step.{Step as StepOf}
-use Rattle.bw_model.specs.declared.step.Step.TheVariants.{Place}
+use Rattle.progress.proofs.Words.{eqb_tells, same_Some, if◌then◌else◌, slice_get, ◌==◌, Limits, Answer, StepOf, Place, Record, Entry, Begin, Step, memory_after, TakesStep}
+use Rattle.progress.proofs.Words.{memory_after_entry, memory_at, memory_of, get_take, take_past, memory_of-push, take-one, PlacesNoRemoval}
 use Rattle.base_page.specs.Pages.{empty_leaf}
 use Rattle.deltas.specs.Memory.{Memory, opening}
-use Rattle.deltas.specs.declared.record.Record.{Record}
 use Rattle.deltas.specs.declared.record.Record.TheVariants as delta
 use Rattle.deltas.specs.declared.record.Remove.{Remove}
-use Rattle.traces.specs.declared.trace.Entry.{Entry}
-use Rattle.traces.specs.declared.trace.Entry.TheVariants.{Begin, Step}
-use Rattle.traces.specs.trace.Steps.{memory_after}
-use Rattle.traces.specs.trace.Trace.{TakesStep, memory_after_entry, memory_at, memory_of}
-use Rattle.traces.proofs.Cuts.{get_take, take_past}
-use Rattle.traces.proofs.TraceLaws.{memory_of-push}
-use Rattle.op_machine.proofs.LogLaws.{take-one}
-use Rattle.op_machine.specs.theorem.Progress.{PlacesNoRemoval}
 
 -- the memory before one step, from that before the step before
 pub memory_next : (limits : Limits) (entries : List Entry) (n : ℕ) (entry : Entry) → slice_get entries n ≡ Some entry

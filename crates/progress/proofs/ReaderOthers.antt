@@ -1,34 +1,14 @@
 -- A reader is paid for whatever others do, and where it begins.
 use Rattle.std.proofs.Common.{◌≡◌, ◌<◌, ◌≤◌, ◌+◌, ◌*◌, ◌++◌, ℕ, List, [], ◌∷◌, length, take, Bool, true, false, cond, Option, None, Some, refl, sym, ap, subst}
 use Rattle.std.proofs.Common.{◌∙◌, inl, inr, arith, append_assoc, append-nil}
-use Rattle.std.specs.Prelude.{if◌then◌else◌, slice_get}
-use Rattle.std.proofs.lemmas.Bool.{cases_lt}
-use Rattle.std.proofs.lemmas.Option.{same_Some}
-use Rattle.base_page.proofs.KeyLaws.{either}
-use Rattle.tree_limits.specs.declared.limits.Limits.{Limits}
-use Rattle.bw_model.specs.Replies.{is_writer}
-use Rattle.bw_model.specs.declared.command.Command.{Command}
-use Rattle.traces.specs.declared.trace.Entry.{Entry}
-use Rattle.traces.specs.declared.trace.Entry.TheVariants.{Begin, Step}
+use Rattle.progress.proofs.Words.{if◌then◌else◌, slice_get, cases_lt, same_Some, either, Limits, is_writer, Command, Entry, Begin, Step, Knowledge, knows, Recalled, recalls, memory_of}
+use Rattle.progress.proofs.Words.{pushed_length, slice_get-push, slice_get_below, take-push_whole, ReadRound, IsActorWith, command_at, Hand, State, Begun, Epoch, Enter, Read, Write, Change}
+use Rattle.progress.proofs.Words.{Leave, Task, UnderWay, IsDirect, is_step_of, one_memory, IsState, IsLawfulMoment, IsOthers, changes_tree}
 use Rattle.traces.specs.discipline.Disciplined.{is_entry_of, own_entries}
-use Rattle.traces.specs.discipline.Knowledge.{Knowledge, knows}
-use Rattle.traces.specs.discipline.Recalled.{Recalled, recalls}
-use Rattle.traces.specs.trace.Trace.{memory_of}
-use Rattle.traces.proofs.Pushes.{pushed_length, slice_get-push, slice_get_below, take-push_whole}
-use Rattle.round_model.specs.ReadRounds.{ReadRound}
-use Rattle.op_machine.specs.machine.Actors.{IsActorWith, command_at}
-use Rattle.op_machine.specs.machine.Hands.{Hand}
 use Rattle.op_machine.specs.machine.Shows.{ShowsState}
-use Rattle.op_machine.specs.machine.States.{State, Begun, Epoch, Enter, Read, Write, Change, Leave}
-use Rattle.op_machine.specs.machine.Tasks.{Task}
-use Rattle.op_machine.specs.machine.UnderWay.{UnderWay}
-use Rattle.op_machine.specs.theorem.Direct.{IsDirect, is_step_of}
-use Rattle.op_machine.specs.theorem.ReadersEnd.{one_memory}
-use Rattle.tree_law.specs.State.{IsState}
 use Rattle.tree_law.proofs.shape.Puts.{eqb_false}
 use Rattle.tree_law.proofs.trace.Others.{own_lasts}
 use Rattle.progress.specs.ReaderStates.{BegunArePaid, PaysAt, PaysForRound, PaysFrom, PaysReader, ReadersStayPaid, reader_task}
-use Rattle.progress.specs.ReadersAmong.{IsLawfulMoment, IsOthers, changes_tree}
 use Rattle.progress.proofs.ReaderPays.{change_is, pays_end, pays_kept, pays_more}
 use Rattle.progress.proofs.ReaderRounds.{few_on, last_begun, last_cases, moment_of, next_of, round_fresh}
 use Rattle.progress.proofs.rounds.Among.{others_no_step}

@@ -2,25 +2,10 @@
 use Rattle.std.proofs.Common.{◌≡◌, ◌≢◌, ◌<◌, ◌≤◌, ◌+◌, ◌*◌, ◌++◌, ℕ, suc, List, [], ◌∷◌, length, drop, Bool, true, false, cond, Option, None, Some, refl, ap, ◌∙◌, arith}
 use Rattle.std.proofs.Math.Nat.{mul-suc}
 use Rattle.std.proofs.lemmas.List.{drop-append-le, drop_all}
-use Rattle.std.proofs.lemmas.List.Elements.{All-push, All-weaker}
-use Rattle.std.proofs.lemmas.List.Sums.{fold-append}
-use Rattle.std.specs.List.{All, count_by}
-use Rattle.tree_limits.specs.declared.limits.Limits.{Limits}
-use Rattle.bw_model.specs.declared.step.Answer.TheVariants.{Whether}
-use Rattle.bw_model.specs.declared.step.Link.{Link}
+use Rattle.progress.proofs.Words.{All-push, All-weaker, fold-append, All, count_by, Limits, Whether, Link, Exchange, Memory, Entry, Step, Happens, memory_of, increasing_push, pushed_length}
+use Rattle.progress.proofs.Words.{is_step_of, link_of, ChangesTree, one_memory, PaysFrom}
 use Rattle.bw_model.specs.declared.step.Link.TheVariants as link
-use Rattle.bw_model.specs.declared.step.Step.TheVariants.{Exchange}
-use Rattle.deltas.specs.Memory.{Memory}
-use Rattle.traces.specs.declared.trace.Entry.{Entry}
-use Rattle.traces.specs.declared.trace.Entry.TheVariants.{Step}
-use Rattle.traces.specs.trace.Trace.{Happens, memory_of}
-use Rattle.traces.proofs.Pushes.{increasing_push, pushed_length}
 use Rattle.traces.proofs.TraceLaws.{Happens-kept, Happens-last}
-use Rattle.op_machine.specs.theorem.Direct.{is_step_of}
-use Rattle.op_machine.specs.theorem.Links.{link_of}
-use Rattle.op_machine.specs.theorem.Progress.{ChangesTree}
-use Rattle.op_machine.specs.theorem.ReadersEnd.{one_memory}
-use Rattle.progress.specs.ReaderStates.{PaysFrom}
 use Rattle.progress.specs.ReadersAmong.{changes_tree, is_change}
 
 kind_of : (o : Option Link) → is_change o ≡ true → (kind : Link) × (o ≡ Some kind) × (kind ≢ link.Ready) × (kind ≢ link.Undo)

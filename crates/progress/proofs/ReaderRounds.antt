@@ -1,29 +1,10 @@
 -- How many steps a reader's round has left, among moments that are to come.
 use Rattle.std.proofs.Common.{◌≡◌, ◌<◌, ◌≤◌, ◌+◌, ◌*◌, ◌++◌, ◌⊎◌, ℕ, List, [], ◌∷◌, length, true, cond, Option, None, Some, sym, ap, subst, ◌∙◌, inl, inr, arith}
-use Rattle.std.proofs.Math.Nat.{add-mul}
-use Rattle.std.specs.Prelude.{if◌then◌else◌}
-use Rattle.tree_limits.specs.declared.limits.Limits.{Limits}
-use Rattle.bw_model.specs.declared.command.Command.{Command}
-use Rattle.traces.specs.declared.trace.Entry.{Entry}
-use Rattle.traces.specs.declared.trace.Entry.TheVariants.{Begin}
-use Rattle.traces.specs.trace.Run.{IsNext}
-use Rattle.traces.specs.trace.Trace.{memory_of}
+use Rattle.progress.proofs.Words.{add-mul, if◌then◌else◌, Limits, Command, Entry, Begin, IsNext, memory_of, ReadEnd, Again, Removed, Leaf, Beside, ReadRound, Answer, Record, first_read}
+use Rattle.progress.proofs.Words.{is_leaving, is_reading, AfterReading, StepsReading, State, Read, Task, is_step_of, one_memory, IsLast, IsState, operation_from, IsLawfulMoment, Moment}
+use Rattle.progress.proofs.Words.{all_changes, changes_tree, own_steps}
 use Rattle.traces.proofs.Pushes.{slice_get-push, slice_get-push_cases, slice_get_below, slice_get_kept, take-push_whole}
-use Rattle.round_model.specs.ReadEnds.{ReadEnd, Again, Removed, Leaf, Beside}
-use Rattle.round_model.specs.ReadRounds.{ReadRound}
-use Rattle.bw_model.specs.declared.step.Answer.{Answer}
-use Rattle.deltas.specs.declared.record.Record.{Record}
-use Rattle.op_machine.specs.machine.GoesLeft.{first_read}
-use Rattle.op_machine.specs.machine.Outcomes.{is_leaving, is_reading}
-use Rattle.op_machine.specs.machine.RoundSteps.{AfterReading, StepsReading}
-use Rattle.op_machine.specs.machine.States.{State, Read}
-use Rattle.op_machine.specs.machine.Tasks.{Task}
-use Rattle.op_machine.specs.theorem.Direct.{is_step_of}
-use Rattle.op_machine.specs.theorem.ReadersEnd.{one_memory}
-use Rattle.tree_law.specs.Direct.{IsLast}
-use Rattle.tree_law.specs.State.{IsState, operation_from}
 use Rattle.progress.specs.ReaderStates.{PaysForRound, TakesFewer}
-use Rattle.progress.specs.ReadersAmong.{IsLawfulMoment, Moment, all_changes, changes_tree, own_steps}
 use Rattle.progress.proofs.ReaderPays.{pays_end}
 use Rattle.progress.proofs.rounds.Among.{readers_end_among_changes}
 use Rattle.progress.proofs.rounds.Counts.{many}

@@ -1,35 +1,12 @@
 -- Readers have taken few steps still with one entry more.
 use Rattle.std.proofs.Common.{◌≡◌, ◌<◌, ◌≤◌, ◌+◌, ◌-◌, ◌*◌, ◌++◌, ℕ, suc, List, [], ◌∷◌, length, drop, take, Bool, true, false, Option, None, Some, sym, ap, subst, ◌∙◌, inl, inr, arith}
-use Rattle.std.proofs.lemmas.Bool.{cases_lt}
+use Rattle.progress.proofs.Words.{cases_lt, All-weaker, count_by, slice_get, slice_range, Limits, is_writer, Reply, Answer, Whether, StepOf, Exchange, Record, Entry, Begin, Step, Happens}
+use Rattle.progress.proofs.Words.{Happens-kept, wanted_by, State, Begun, Epoch, Enter, Read, Write, Change, Leave, Task, UnderWay, IsDirect, is_step_of, IsOperation, IsOwnStep, Operation}
+use Rattle.progress.proofs.Words.{AreAmong, ChangesTree, steps_from, RunsAlone, IsLast, IsState}
 use Rattle.std.proofs.lemmas.List.{drop-append-le, length-drop, take-append-le, take_all, take_rest}
-use Rattle.std.proofs.lemmas.List.Elements.{All-weaker}
-use Rattle.std.specs.List.{count_by}
-use Rattle.std.specs.Prelude.{slice_get, slice_range}
-use Rattle.tree_limits.specs.declared.limits.Limits.{Limits}
-use Rattle.bw_model.specs.Replies.{is_writer}
-use Rattle.bw_model.specs.declared.command.Reply.{Reply}
-use Rattle.bw_model.specs.declared.step.Answer.{Answer}
-use Rattle.bw_model.specs.declared.step.Answer.TheVariants.{Whether}
-use Rattle.bw_model.specs.declared.step.Step.{Step as StepOf}
-use Rattle.bw_model.specs.declared.step.Step.TheVariants.{Exchange}
-use Rattle.deltas.specs.declared.record.Record.{Record}
-use Rattle.traces.specs.declared.trace.Entry.{Entry}
-use Rattle.traces.specs.declared.trace.Entry.TheVariants.{Begin, Step}
-use Rattle.traces.specs.trace.Trace.{Happens}
 use Rattle.traces.proofs.Pushes.{pushed_length, slice_get_below, take-push}
-use Rattle.traces.proofs.TraceLaws.{Happens-kept}
-use Rattle.op_machine.specs.machine.Actors.{wanted_by}
-use Rattle.op_machine.specs.machine.States.{State, Begun, Epoch, Enter, Read, Write, Change, Leave}
-use Rattle.op_machine.specs.machine.Tasks.{Task}
-use Rattle.op_machine.specs.machine.UnderWay.{UnderWay}
-use Rattle.op_machine.specs.theorem.Direct.{IsDirect, is_step_of}
-use Rattle.op_machine.specs.theorem.Operations.{IsOperation, IsOwnStep, Operation}
-use Rattle.op_machine.specs.theorem.Progress.{AreAmong, ChangesTree, steps_from}
 use Rattle.op_machine.specs.theorem.Readers.{IsReading}
 use Rattle.op_machine.specs.theorem.ReadersEnd.{ReadersEnd, one_memory}
-use Rattle.op_machine.specs.theorem.Unhindered.{RunsAlone}
-use Rattle.tree_law.specs.Direct.{IsLast}
-use Rattle.tree_law.specs.State.{IsState}
 use Rattle.tree_law.specs.TraceLaws.{Opens}
 use Rattle.tree_law.proofs.trace.Owned.{operation_old, step_below, step_cases}
 use Rattle.tree_law.specs.Direct.{IsDirectState}

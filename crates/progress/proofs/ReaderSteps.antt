@@ -1,41 +1,18 @@
 -- A reader is paid for after its own step.
 use Rattle.std.proofs.Common.{◌≡◌, ◌<◌, ◌≤◌, ◌+◌, ◌-◌, ◌*◌, ◌++◌, ◌⊎◌, ℕ, List, [], ◌∷◌, length, Bool, true, false, cond, Option, None, Some, refl, sym, ap, subst, ◌∙◌, inl, inr, arith}
-use Rattle.std.specs.Prelude.{IsSome, if◌then◌else◌, slice_get}
-use Rattle.std.proofs.lemmas.Bool.{cases_lt}
-use Rattle.std.proofs.lemmas.Bool.Decides.{eqb_tells}
-use Rattle.std.proofs.lemmas.Option.{same_Some}
-use Rattle.tree_limits.specs.declared.limits.Limits.{Limits}
-use Rattle.bw_model.specs.Replies.{is_writer}
-use Rattle.bw_model.specs.declared.command.Command.{Command}
-use Rattle.bw_model.specs.declared.command.Reply.{Reply}
-use Rattle.bw_model.specs.declared.step.Answer.{Answer}
-use Rattle.bw_model.specs.declared.step.Step.{Step as StepOf}
+use Rattle.progress.proofs.Words.{IsSome, if◌then◌else◌, slice_get, cases_lt, eqb_tells, same_Some, Limits, is_writer, Command, Reply, Answer, StepOf, Record, Entry, Begin, Step, Knowledge}
+use Rattle.progress.proofs.Words.{knows, Recalled, recalls, memory_of, pushed_length, slice_get_below, first_read, Hand, State, Begun, Epoch, Enter, Read, Write, Change, Leave, Task}
+use Rattle.progress.proofs.Words.{IsDirect, is_step_of, one_memory, IsLast, IsState, operation_from, IsLawfulMoment, changes_tree}
 use Rattle.bw_model.specs.declared.step.Step.TheVariants as step_of
-use Rattle.deltas.specs.declared.record.Record.{Record}
-use Rattle.traces.specs.declared.trace.Entry.{Entry}
-use Rattle.traces.specs.declared.trace.Entry.TheVariants.{Begin, Step}
-use Rattle.traces.specs.discipline.Knowledge.{Knowledge, knows}
-use Rattle.traces.specs.discipline.Recalled.{Recalled, recalls}
-use Rattle.traces.specs.trace.Trace.{memory_of}
-use Rattle.traces.proofs.Pushes.{pushed_length, slice_get_below}
 use Rattle.round_model.specs.ReadRounds.{ReadRound, wanted_step}
 use Rattle.op_machine.specs.machine.Actors.{IsActorWith, command_at, command_left, wanted_by}
-use Rattle.op_machine.specs.machine.GoesLeft.{first_read}
-use Rattle.op_machine.specs.machine.Hands.{Hand}
 use Rattle.op_machine.specs.machine.Ops.{HoldsLimbo, Op, asked_by, wanted_of}
 use Rattle.op_machine.specs.machine.Outcomes.{is_entering, is_leaving, is_reading}
 use Rattle.op_machine.specs.machine.RoundSteps.{StepsInRound, StepsReading}
 use Rattle.op_machine.specs.machine.Shows.{ShowsState, wanted_at}
-use Rattle.op_machine.specs.machine.States.{State, Begun, Epoch, Enter, Read, Write, Change, Leave}
-use Rattle.op_machine.specs.machine.Tasks.{Task}
 use Rattle.op_machine.specs.machine.UnderWay.{StepsAt, UnderWay}
-use Rattle.op_machine.specs.theorem.Direct.{IsDirect, is_step_of}
-use Rattle.op_machine.specs.theorem.ReadersEnd.{one_memory}
-use Rattle.tree_law.specs.Direct.{IsLast}
-use Rattle.tree_law.specs.State.{IsState, operation_from}
 use Rattle.tree_law.proofs.trace.Owned.{same_start}
 use Rattle.progress.specs.ReaderStates.{PaysAt, PaysForRound, PaysFrom, PaysReader, StepsArePaid, reader_task}
-use Rattle.progress.specs.ReadersAmong.{IsLawfulMoment, changes_tree}
 use Rattle.progress.proofs.ReaderPays.{pays_end, pays_kept}
 use Rattle.progress.proofs.ReaderRounds.{after_reads, few_fresh, few_on, few_some, last_cases, moment_of, next_of, round_fresh, same_steps}
 use Rattle.progress.proofs.Tallies.{one_at_most}

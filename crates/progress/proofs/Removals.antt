@@ -1,13 +1,8 @@
 -- Small runs with and without a removal.
-use Rattle.std.proofs.Common.{◌≡◌, Bool, true, false, refl}
+use Rattle.progress.proofs.Words.{◌≡◌, Bool, true, false, refl, Place, Entry, Step, insert_and_lookup, page_life, PlacesNoRemoval}
 use Rattle.std.specs.Prelude.{None}
 use Rattle.bw_model.specs.declared.step.Answer.TheVariants.{Done}
-use Rattle.bw_model.specs.declared.step.Step.TheVariants.{Place}
 use Rattle.deltas.specs.declared.record.Record.TheVariants.{Remove}
-use Rattle.traces.specs.declared.trace.Entry.{Entry}
-use Rattle.traces.specs.declared.trace.Entry.TheVariants.{Step}
-use Rattle.op_machine.specs.theorem.Examples.{insert_and_lookup, page_life}
-use Rattle.op_machine.specs.theorem.Progress.{PlacesNoRemoval}
 use Rattle.op_machine.proofs.Listed.{passes_at}
 
 places_none : Entry → Bool

@@ -2,30 +2,17 @@
 use Rattle.std.proofs.Common.{◌≡◌, ◌<◌, ℕ, List, [], ◌∷◌, true, false, Option, None, Some, refl, sym, ap, subst, ◌∙◌, inl, inr, lit≤}
 use Rattle.std.specs.Prelude.{codes, IsSome, is_some}
 use Rattle.std.specs.Ordering.{is_eq}
-use Rattle.tree_limits.specs.declared.limits.Limits.{Limits}
+use Rattle.progress.proofs.Words.{Limits, Answer, next_row, Record, content_in, high_in, IsAnswer, Version, ReadEnd, Beside, Removed, ReadGoal, Seek, Left, Down, LeadsDown, reaches}
+use Rattle.progress.proofs.Words.{first_read, read_left_of, AfterReading, Leave, Read, State, IsReaderRun, ReadsIn, last_round}
 use Rattle.bw_model.specs.Bytes.{is_below, key_cmp}
 use Rattle.bw_model.specs.declared.command.Reply.TheVariants as reply
-use Rattle.bw_model.specs.declared.step.Answer.{Answer}
 use Rattle.bw_model.specs.declared.step.Answer.TheVariants.{Number, Content}
-use Rattle.deltas.specs.Records.{next_row}
-use Rattle.deltas.specs.declared.record.Record.{Record}
-use Rattle.traces.specs.chain.Chains.{content_in, high_in}
-use Rattle.traces.specs.trace.Steps.{IsAnswer}
-use Rattle.structure_changes.specs.Versions.{Version}
 use Rattle.round_model.specs.Descents.{Descent, Page, Root}
-use Rattle.round_model.specs.ReadEnds.{ReadEnd, Beside, Removed}
-use Rattle.round_model.specs.ReadGoals.{ReadGoal, Seek, Left}
-use Rattle.round_model.specs.ReadLegs.{Down}
 use Rattle.round_model.specs.ReadRounds.{ReadRound, TreatsRead, left_of, read_way, reading, wanted_step}
 use Rattle.round_model.specs.Rounds.{Responds}
 use Rattle.round_model.specs.Visits.{Row, Slot, Visit, Whole, to_page}
-use Rattle.round_model.specs.Ways.{LeadsDown, reaches}
-use Rattle.op_machine.specs.machine.GoesLeft.{first_read, read_left_of}
-use Rattle.op_machine.specs.machine.RoundSteps.{AfterReading}
-use Rattle.op_machine.specs.machine.States.{Leave, Read, State}
 use Rattle.op_machine.specs.theorem.Examples.{hold_leaf, new_leaf, opening_leaf, remove_leaf, root, small, split_away}
 use Rattle.tree_law.proofs.shape.KeyOrder.{by_key}
-use Rattle.progress.specs.ReaderRuns.{IsReaderRun, ReadsIn, last_round}
 use Rattle.progress.specs.RoundExample.{beside_removal, get_x, lookup_rounds, removed_read, root_read, round_at, wrong_rounds}
 
 -- slot 0 is read

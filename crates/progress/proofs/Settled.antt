@@ -1,17 +1,8 @@
 -- A page of the tree is nobody's own later, where nobody has placed a removal.
-use Rattle.std.proofs.Common.{◌≡◌, ◌≢◌, ◌<◌, ◌≤◌, ℕ, List, true, Some, take, refl, sym, ap, subst, ◌∙◌, inl, inr, arith}
-use Rattle.std.proofs.lemmas.Bool.{cases_lt}
-use Rattle.std.proofs.lemmas.Bool.Decides.{eqb_tells}
-use Rattle.std.specs.Prelude.{slice_get}
-use Rattle.tree_limits.specs.declared.limits.Limits.{Limits}
-use Rattle.bw_model.specs.declared.step.Answer.TheVariants.{Whether}
-use Rattle.bw_model.specs.declared.step.Step.TheVariants.{TakePid}
-use Rattle.deltas.specs.Memory.{Memory}
-use Rattle.traces.specs.declared.trace.Entry.{Entry}
+use Rattle.progress.proofs.Words.{◌≡◌, ◌≢◌, ◌<◌, ◌≤◌, ℕ, List, true, Some, take, refl, sym, ap, subst, ◌∙◌, inl, inr, arith, cases_lt, eqb_tells, slice_get, Limits, Whether, TakePid, Memory}
+use Rattle.progress.proofs.Words.{Entry, IsInPhase, KeepsPhases, MovesAt, MovesPhase, Phase, cleared, free, owned, takes, splits, becomes_root, terms, under_root, holds, removes, merges}
+use Rattle.progress.proofs.Words.{unterms, reuses, PlacesNoRemoval}
 use Rattle.traces.specs.trace.Trace.{IsStep}
-use Rattle.op_machine.specs.theorem.Phases.{IsInPhase, KeepsPhases, MovesAt, MovesPhase, Phase, cleared, free, owned}
-use Rattle.op_machine.specs.theorem.Phases.{takes, splits, becomes_root, terms, under_root, holds, removes, merges, unterms, reuses}
-use Rattle.op_machine.specs.theorem.Progress.{PlacesNoRemoval}
 use Rattle.op_machine.proofs.PhaseLaws.{is_taken}
 use Rattle.progress.proofs.Cleared.{begins_in_use, came_by, came_from, was_removed}
 use Rattle.progress.proofs.Placed.{none_stands}

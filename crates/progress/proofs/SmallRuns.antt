@@ -1,12 +1,7 @@
 -- What hinders whom in small runs.
 use Rattle.std.proofs.Common.{◌≡◌, Some, None, true, refl, inl, inr}
-use Rattle.bw_model.specs.declared.step.Answer.TheVariants.{Whether}
+use Rattle.progress.proofs.Words.{Whether, Exchange, TakeRow, Step, Happens, memory_at, insert_and_lookup, page_life, small, Hinders}
 use Rattle.bw_model.specs.declared.step.Link.TheVariants as link
-use Rattle.bw_model.specs.declared.step.Step.TheVariants.{Exchange, TakeRow}
-use Rattle.traces.specs.declared.trace.Entry.TheVariants.{Step}
-use Rattle.traces.specs.trace.Trace.{Happens, memory_at}
-use Rattle.op_machine.specs.theorem.Examples.{insert_and_lookup, page_life, small}
-use Rattle.op_machine.specs.theorem.Unhindered.{Hinders}
 
 pub won : Happens small insert_and_lookup 9 (Hinders 0)
 won = record { entry = Step 0 (Exchange 1 1 2) (Whether true) None; at = refl; holds = inl (0, 1, 1, 2, link.Put, ((None, refl), refl), (λ e. cc e), (λ e. cc e)) }

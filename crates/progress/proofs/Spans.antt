@@ -1,21 +1,10 @@
 -- An exchange that loses, and a take that misses, needs a step that another actor has taken since it read what it expects.
-use Rattle.std.proofs.Common.{◌≡◌, ◌≢◌, ◌<◌, ◌≤◌, ℕ, List, Bool, true, false, Some, refl, sym, ap, subst, ◌∙◌, inl, inr, arith}
-use Rattle.std.proofs.lemmas.Bool.Decides.{eqb_tells}
+use Rattle.progress.proofs.Words.{◌≡◌, ◌≢◌, ◌<◌, ◌≤◌, ℕ, List, Bool, true, false, Some, refl, sym, ap, subst, ◌∙◌, inl, inr, arith, eqb_tells, Limits, Answer, Number, Whether, StepOf}
+use Rattle.progress.proofs.Words.{Record, Entry, Step, IsRun, TakesStep, memory_at, IsExchangeOf, IsTake, TakesNone, Operation, TakesOwnStep}
 use Rattle.std.proofs.Math.Nat.{div-add-mod}
 use Rattle.std.specs.Int.{bit_at}
 use Rattle.std.specs.Prelude.{◌==◌, ◌/◌, ◌%◌}
-use Rattle.tree_limits.specs.declared.limits.Limits.{Limits}
-use Rattle.bw_model.specs.declared.step.Answer.{Answer}
-use Rattle.bw_model.specs.declared.step.Answer.TheVariants.{Number, Whether}
-use Rattle.bw_model.specs.declared.step.Step.{Step as StepOf}
 use Rattle.bw_model.specs.declared.step.Step.TheVariants.{Exchange, PidBits, RowBits, Slot}
-use Rattle.deltas.specs.declared.record.Record.{Record}
-use Rattle.traces.specs.declared.trace.Entry.{Entry}
-use Rattle.traces.specs.declared.trace.Entry.TheVariants.{Step}
-use Rattle.traces.specs.trace.Run.{IsRun}
-use Rattle.traces.specs.trace.Trace.{TakesStep, memory_at}
-use Rattle.op_machine.specs.theorem.Direct.{IsExchangeOf, IsTake, TakesNone}
-use Rattle.op_machine.specs.theorem.Operations.{Operation, TakesOwnStep}
 use Rattle.progress.proofs.Between.{as_number, freedom, take_of, was_exchanged, was_taken}
 
 -- the step that reads the word of free PIDs, or else of free rows, in which the number is

@@ -1,16 +1,8 @@
 -- How many places from one on pass a test, and sums of numbers.
 use Rattle.std.proofs.Common.{◌≡◌, ◌<◌, ◌≤◌, ◌+◌, ◌-◌, ◌*◌, ◌++◌, ℕ, zero, suc, List, [], ◌∷◌, Option, None, Some, Bool, true, false, cond, drop, length, take, refl, ap, ◌∙◌, inl, inr, arith}
-use Rattle.std.proofs.Math.Nat.{mul-add}
-use Rattle.std.proofs.lemmas.Bool.Decides.{eqb_tells}
-use Rattle.std.proofs.lemmas.List.Elements.{All-push, All-weaker}
-use Rattle.std.proofs.lemmas.List.Sums.{fold-append}
-use Rattle.std.specs.List.{All, count_by}
-use Rattle.std.specs.List.Sorted.{IsStrictlyIncreasing}
-use Rattle.std.specs.Prelude.{◌==◌, slice_get}
-use Rattle.op_machine.proofs.LogLaws.{take-one}
+use Rattle.progress.proofs.Words.{mul-add, eqb_tells, All-push, All-weaker, fold-append, All, count_by, IsStrictlyIncreasing, ◌==◌, slice_get, take-one, increasing_push, pushed_length}
 use Rattle.progress.proofs.Counted.{AreDistinct, Each, among, distinct_without, each_without, without}
 use Rattle.traces.proofs.Cuts.{get_drop, take_past}
-use Rattle.traces.proofs.Pushes.{increasing_push, pushed_length}
 
 -- how many of the first n places from m on pass the test
 abbrev pub tally : (ℕ → Bool) → ℕ → ℕ → ℕ

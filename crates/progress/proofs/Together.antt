@@ -1,27 +1,11 @@
 -- All operations together take few steps, where nobody has placed a removal.
 use Rattle.std.proofs.Common.{◌≡◌, ◌<◌, ◌≤◌, ◌+◌, ◌-◌, ◌*◌, ◌⊎◌, ℕ, zero, suc, List, [], ◌∷◌, Option, None, Some, Bool, true, false, cond, take, refl, sym, ap, ◌∙◌, inl, inr, arith}
-use Rattle.std.proofs.Math.Nat.{mul-add, mul-le-mul_left}
-use Rattle.std.proofs.lemmas.Bool.{cases_lt}
-use Rattle.std.proofs.lemmas.Bool.Decides.{eqb_tells}
-use Rattle.std.proofs.lemmas.List.Elements.{All-weaker}
-use Rattle.std.specs.List.{count_by}
-use Rattle.std.specs.Prelude.{◌==◌, slice_get}
-use Rattle.tree_limits.specs.declared.limits.Limits.{Limits}
-use Rattle.bw_model.specs.declared.command.Command.{Command}
-use Rattle.traces.specs.declared.trace.Entry.{Entry}
-use Rattle.traces.specs.declared.trace.Entry.TheVariants.{Begin, Step}
-use Rattle.traces.specs.discipline.Recalled.{cause_worth}
-use Rattle.traces.specs.trace.Run.{IsRun}
-use Rattle.traces.specs.trace.Trace.{Happens, command_of, commands_after}
-use Rattle.op_machine.specs.theorem.Changes.{HasFewChanges}
-use Rattle.op_machine.specs.theorem.Direct.{IsDirect, is_step_of}
-use Rattle.op_machine.specs.theorem.Operations.{Operation}
-use Rattle.op_machine.specs.theorem.Phases.{KeepsPhases}
+use Rattle.progress.proofs.Words.{mul-add, mul-le-mul_left, cases_lt, eqb_tells, All-weaker, count_by, ◌==◌, slice_get, Limits, Command, Entry, Begin, Step, cause_worth, IsRun, Happens}
+use Rattle.progress.proofs.Words.{command_of, commands_after, HasFewChanges, IsDirect, is_step_of, Operation, KeepsPhases, get_take, take_past}
 use Rattle.op_machine.specs.theorem.Progress.{AreAmong, ChangesTree, PlacesNoRemoval, is_begin, is_end, is_step, steps_from, takes_number}
 use Rattle.progress.specs.Unhindered.{RunsAreLockFree}
 use Rattle.progress.proofs.Begun.{LastBegin, actor_below, begins_here, command_next, last_begin, one_on}
 use Rattle.progress.proofs.Hindering.{happens, hinder, hinder_parts, is_change, paid_by_hinder}
-use Rattle.traces.proofs.Cuts.{get_take, take_past}
 use Rattle.progress.proofs.Tallies.{counted_range, counted_taken, listed, one_at_most, passes, passes_in, sum, sum_both, sum_less, sum_none, sum_one, sum_worth}
 use Rattle.progress.proofs.Tallies.{tally, tally_grows, tally_none, tally_split}
 

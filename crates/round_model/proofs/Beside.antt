@@ -1,21 +1,8 @@
 -- Where a round goes on beside a removed page: to a page that this one names, once the page to its left was read after it.
-use Rattle.std.proofs.Common.{◌≡◌, ◌≢◌, ◌<◌, ◌⊎◌, inl, inr, ℕ, List, [], ◌∷◌, false, Some, refl, sym, ◌∙◌, subst, arith}
-use Rattle.std.specs.Prelude.{IsTrue}
-use Rattle.std.specs.List.{AllByRecursion}
-use Rattle.tree_limits.specs.declared.limits.Limits.{Limits}
-use Rattle.bw_model.specs.Bytes.{is_below}
-use Rattle.deltas.specs.declared.record.Record.{Record}
-use Rattle.traces.specs.chain.Chains.{IsChainFrom, high_in, is_removed, level_in, low_in, right_in}
+use Rattle.round_model.proofs.Words.{◌≡◌, ◌≢◌, ◌<◌, ◌⊎◌, inl, inr, ℕ, List, [], ◌∷◌, false, Some, refl, sym, ◌∙◌, subst, arith, IsTrue, AllByRecursion, Limits, is_below, Record, IsChainFrom}
+use Rattle.round_model.proofs.Words.{high_in, is_removed, level_in, low_in, right_in, SaysOf, Knowledge, IsUnread, Recalled, IsAfter, Version, IsGone, IsInHand, to_page, HasArrived, IsOnWay}
+use Rattle.round_model.proofs.Words.{IsPast, IsPastAt, NamesAt}
 use Rattle.traces.specs.discipline.Discipline.{IsBeyond, NamesChild}
-use Rattle.traces.specs.discipline.Fitting.{SaysOf}
-use Rattle.traces.specs.discipline.Knowledge.{Knowledge}
-use Rattle.traces.specs.discipline.Recalled.{IsUnread, Recalled}
-use Rattle.structure_changes.specs.Readings.{IsAfter}
-use Rattle.structure_changes.specs.Versions.{Version}
-use Rattle.round_model.specs.Versions.{IsGone, IsInHand}
-use Rattle.round_model.specs.Visits.{to_page}
-use Rattle.round_model.specs.Walks.{HasArrived, IsOnWay, IsPast, IsPastAt}
-use Rattle.round_model.specs.Ways.{NamesAt}
 use Rattle.round_model.proofs.PageLaws.{spans}
 use Rattle.round_model.proofs.Seeking.{hand}
 use Rattle.round_model.proofs.Walking.{all_past, never_there, past_on, told_of, trail_on, trans}

@@ -1,11 +1,6 @@
 -- The front of a chain, as it is read on.
-use Rattle.std.proofs.Common.{◌≡◌, ℕ, ◌==◌, List, [], ◌∷◌, ◌++◌, Bool, true, false, cond, Option, Some, None, refl, ap, ◌∙◌}
-use Rattle.std.specs.Prelude.{MatchOption}
-use Rattle.std.proofs.lemmas.Bool.{eqb-true}
-use Rattle.deltas.specs.declared.record.Record.{Record}
-use Rattle.deltas.specs.Memory.{replaced_at}
-use Rattle.deltas.specs.Records.{next_row}
-use Rattle.traces.specs.chain.Chains.{IsChainFrom, IsFront}
+use Rattle.round_model.proofs.Words.{◌≡◌, ℕ, ◌==◌, List, [], ◌∷◌, ◌++◌, Bool, true, false, cond, Option, Some, None, refl, ap, ◌∙◌, MatchOption, eqb-true, Record, replaced_at, next_row}
+use Rattle.round_model.proofs.Words.{IsChainFrom, IsFront}
 
 under : (o : Option ℕ) (X : Type 0) (P Q : ℕ → Type 0) → ((b : ℕ) → P b → Q b) → MatchOption o ⊥ P → MatchOption o X Q
 under None X P Q f h = absurd h

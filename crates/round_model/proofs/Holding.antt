@@ -1,20 +1,9 @@
 -- What was read stays known while other pages are read.
-use Rattle.std.proofs.Common.{◌≡◌, ◌≢◌, ◌<◌, inl, inr, ℕ, zero, suc, ◌==◌, List, [], ◌∷◌, Bool, true, false, cond, Option, Some, None, refl, sym, ap, arith}
-use Rattle.std.specs.Prelude.{MatchOption}
-use Rattle.std.specs.List.{AllByRecursion}
-use Rattle.std.proofs.lemmas.Bool.{eq-eqb, eqb-true}
-use Rattle.std.proofs.lemmas.Bool.Decides.{eqb_tells}
-use Rattle.tree_limits.specs.declared.limits.Limits.{Limits}
+use Rattle.round_model.proofs.Words.{◌≡◌, ◌≢◌, ◌<◌, inl, inr, ℕ, zero, suc, ◌==◌, List, [], ◌∷◌, Bool, true, false, cond, Option, Some, None, refl, sym, ap, arith, MatchOption}
+use Rattle.round_model.proofs.Words.{AllByRecursion, eq-eqb, eqb-true, eqb_tells, Limits, Record, replaced_at, next_row, IsChainFrom, Knowledge, learn, learn_slot, IsUnread, Version}
+use Rattle.round_model.proofs.Words.{IsInHand}
 use Rattle.bw_model.specs.declared.step.Step.TheVariants as step
 use Rattle.bw_model.specs.declared.step.Answer.TheVariants as answer
-use Rattle.deltas.specs.declared.record.Record.{Record}
-use Rattle.deltas.specs.Memory.{replaced_at}
-use Rattle.deltas.specs.Records.{next_row}
-use Rattle.traces.specs.chain.Chains.{IsChainFrom}
-use Rattle.traces.specs.discipline.Knowledge.{Knowledge, learn, learn_slot}
-use Rattle.traces.specs.discipline.Recalled.{IsUnread}
-use Rattle.structure_changes.specs.Versions.{Version}
-use Rattle.round_model.specs.Versions.{IsInHand}
 use Rattle.round_model.specs.Walks.{IsNamedAt, IsNextAt, IsPast}
 
 -- A row is read again; what was seen there before is the same record.

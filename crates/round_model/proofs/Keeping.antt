@@ -1,24 +1,12 @@
 -- A writer's pages in hand, while other pages are read.
-use Rattle.std.proofs.Common.{◌≡◌, ◌≢◌, ◌<◌, ◌++◌, ◌⊎◌, inl, inr, ℕ, zero, suc, List, [], ◌∷◌, Option, Some, None, refl, sym, ap, ◌∙◌, false, arith}
-use Rattle.std.specs.Prelude.{IfSome, IsFalse, IsTrue, ⊤}
-use Rattle.std.proofs.lemmas.Bool.Decides.{eqb_tells}
-use Rattle.std.proofs.lemmas.Option.{IfSome_then}
-use Rattle.tree_limits.specs.declared.limits.Limits.{Limits}
+use Rattle.round_model.proofs.Words.{◌≡◌, ◌≢◌, ◌<◌, ◌++◌, ◌⊎◌, inl, inr, ℕ, zero, suc, List, [], ◌∷◌, Option, Some, None, refl, sym, ap, ◌∙◌, false, arith, IfSome, IsFalse, IsTrue, ⊤}
+use Rattle.round_model.proofs.Words.{eqb_tells, IfSome_then, Limits, Answer, Record, next_row, level_in, Fits, FitsRow, Knowledge, learn, learn_slot, IsUnread, Recalled, is_lower, recall}
+use Rattle.round_model.proofs.Words.{IsAfter, Version, HasArrived, IsAmongPids, IsLosingTerm, IsMissing, KeepsToWrite, is_cutting, write_way, IsBased, IsLed, IsLeftOf, IsKept, VisitsToWrite}
+use Rattle.round_model.proofs.Words.{SeeksLeaf}
 use Rattle.bw_model.specs.declared.step.Step.TheVariants as step
-use Rattle.bw_model.specs.declared.step.Answer.{Answer}
 use Rattle.bw_model.specs.declared.step.Answer.TheVariants as answer
-use Rattle.deltas.specs.declared.record.Record.{Record}
-use Rattle.deltas.specs.Records.{next_row}
-use Rattle.traces.specs.chain.Chains.{level_in}
-use Rattle.traces.specs.discipline.Fitting.{Fits, FitsRow}
-use Rattle.traces.specs.discipline.Knowledge.{Knowledge, learn, learn_slot}
-use Rattle.traces.specs.discipline.Recalled.{IsUnread, Recalled, is_lower, recall}
-use Rattle.structure_changes.specs.Readings.{IsAfter}
-use Rattle.structure_changes.specs.Versions.{Version}
 use Rattle.round_model.specs.Visits.{VisitState, Slot, Row, FindsHead, Completes, Continues, Visit, at, wanted_step}
-use Rattle.round_model.specs.Walks.{HasArrived, IsAmongPids}
 use Rattle.round_model.specs.Courses.{WriteGoal, Seek, Left, Merge, Unterm}
-use Rattle.round_model.specs.WriteRounds.{IsLosingTerm, IsMissing, KeepsToWrite, is_cutting, write_way, IsBased, IsLed, IsLeftOf, IsKept, VisitsToWrite, SeeksLeaf}
 use Rattle.round_model.proofs.Holding.{before_slot, in_hand_row, in_hand_slot, slot_before}
 use Rattle.round_model.proofs.Removals.{not_passed}
 use Rattle.round_model.proofs.Seeking.{arrived, seeks_row, seeks_slot}

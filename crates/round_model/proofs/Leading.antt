@@ -1,24 +1,12 @@
 -- To what a parent leads: where a round has gone aside, a change is due at the next page.
-use Rattle.std.proofs.Common.{◌≡◌, ◌<◌, ◌⊎◌, inl, inr, ℕ, zero, suc, List, [], Bool, true, false, Option, Some, None, refl, sym, ap, ◌∙◌, arith}
+use Rattle.round_model.proofs.Words.{◌≡◌, ◌<◌, ◌⊎◌, inl, inr, ℕ, zero, suc, List, [], Bool, true, false, Option, Some, None, refl, sym, ap, ◌∙◌, arith, is_lt, Limits, is_below, Content}
+use Rattle.round_model.proofs.Words.{Child, Record, content_in, covers, high_in, is_removed, level_in, low_in, IsFitted, Knowledge, Recalled, Version, HasArrived, IsSplitFinished}
 use Rattle.std.specs.Prelude.{is_some, not, IfSome, IsTrue}
-use Rattle.std.specs.Ordering.{is_lt}
-use Rattle.tree_limits.specs.declared.limits.Limits.{Limits}
-use Rattle.bw_model.specs.Bytes.{is_below}
-use Rattle.base_page.specs.declared.item.Content.{Content}
-use Rattle.base_page.specs.declared.item.Content.TheVariants.{Child}
 use Rattle.base_page.proofs.KeyLaws.{and_left, below_from, below_reach, by_order, not_true}
-use Rattle.deltas.specs.declared.record.Record.{Record}
-use Rattle.traces.specs.chain.Chains.{content_in, covers, high_in, is_removed, level_in, low_in}
-use Rattle.traces.specs.chain.Fitted.{IsFitted}
-use Rattle.traces.specs.discipline.Knowledge.{Knowledge}
-use Rattle.traces.specs.discipline.Recalled.{Recalled}
 use Rattle.structure_changes.specs.Roots.{CanRoot}
 use Rattle.structure_changes.specs.Terms.{CanPost}
-use Rattle.structure_changes.specs.Versions.{Version}
-use Rattle.round_model.specs.Walks.{HasArrived}
 use Rattle.round_model.specs.Ways.{LeadsRight, passes, reaches}
 use Rattle.round_model.specs.WriteRounds.{HasGreatest, HasRoomAt, IsLed, IsLeftOf, IsNextToFirst, IsTermed}
-use Rattle.round_model.specs.WriteResponses.{IsSplitFinished}
 use Rattle.round_model.proofs.Keeping.{LiesAbove, some_among}
 use Rattle.round_model.proofs.PageLaws.{covered, spans}
 use Rattle.round_model.proofs.Seeking.{hand}

@@ -1,9 +1,6 @@
 -- Why a round begins again, or is done, where nothing is due.
-use Rattle.std.proofs.Common.{Some, refl}
-use Rattle.bw_model.specs.declared.step.Answer.{Answer}
-use Rattle.deltas.specs.declared.record.Record.{Record}
+use Rattle.round_model.proofs.Words.{Some, refl, Answer, Record, Recalled, recall}
 use Rattle.deltas.proofs.Replaced.{replaced_same}
-use Rattle.traces.specs.discipline.Recalled.{Recalled, recall}
 use Rattle.round_model.specs.Descents.{FoundNothing, Page}
 use Rattle.round_model.specs.Visits.{FindsEmpty, Visit, wanted_step}
 

@@ -1,24 +1,16 @@
 -- Which pages the records of a chain name, and how many pages there are.
-use Rattle.std.proofs.Common.{◌≡◌, ◌<◌, ◌≤◌, ◌++◌, ◌==◌, ◌||◌, inl, inr, ◌⊎◌, ℕ, suc, List, [], ◌∷◌, length, Bool, true, false, Option, Some, refl, sym, subst, arith}
-use Rattle.std.specs.Prelude.{if◌then◌else◌}
+use Rattle.round_model.proofs.Words.{◌≡◌, ◌<◌, ◌≤◌, ◌++◌, ◌==◌, ◌||◌, inl, inr, ◌⊎◌, ℕ, suc, List, [], ◌∷◌, length, Bool, true, false, Option, Some, refl, sym, subst, arith, if◌then◌else◌}
+use Rattle.round_model.proofs.Words.{eqb_tells, same_Some, Limits, Child, Record, IsFront, content_in, is_removed, right_in, AnyNames, IsUnread, is_removal, NamesAt}
 use Rattle.std.specs.List.{AllByRecursion, IsDistinct, list_any}
 use Rattle.std.specs.Ordering.{is_eq}
-use Rattle.std.proofs.lemmas.Bool.Decides.{eqb_tells}
-use Rattle.std.proofs.lemmas.Option.{same_Some}
 use Rattle.std.proofs.lemmas.Map.Steps.{length-le_from_distinct_below}
-use Rattle.tree_limits.specs.declared.limits.Limits.{Limits}
 use Rattle.bw_model.specs.Bytes.{key_cmp}
-use Rattle.base_page.specs.declared.item.Content.TheVariants.{Child}
 use Rattle.base_page.specs.declared.item.Item.{Item}
 use Rattle.base_page.specs.Pages.{content_at}
-use Rattle.deltas.specs.declared.record.Record.{Record}
 use Rattle.deltas.specs.declared.record.Record.TheVariants as kind
 use Rattle.deltas.specs.NamedPages.{HasChild, NamesPage}
 use Rattle.deltas.specs.Records.{names, content_said}
-use Rattle.traces.specs.chain.Chains.{IsFront, content_in, is_removed, right_in}
-use Rattle.traces.specs.discipline.Recalled.{AnyNames, IsUnread, is_removal}
 use Rattle.round_model.specs.Walks.{AreDistinct}
-use Rattle.round_model.specs.Ways.{NamesAt}
 
 child_among : (items : List Item) (key : List ℕ) (page : ℕ) (held : Bool) → content_at items key ≡ Some (Child page held) → HasChild items page
 child_among [] key page held is = cc

@@ -1,12 +1,8 @@
 -- What a page's chain has, by the page that it makes.
-use Rattle.std.proofs.Common.{◌≡◌, ℕ, List, [], ◌∷◌, Some, true, false, refl, sym, ap, ◌∙◌}
-use Rattle.std.specs.Prelude.{is_some, IsTrue}
-use Rattle.bw_model.specs.Bytes.{is_below}
-use Rattle.base_page.specs.declared.item.Content.{Content}
+use Rattle.round_model.proofs.Words.{◌≡◌, ℕ, List, [], ◌∷◌, Some, true, false, refl, sym, ap, ◌∙◌, is_some, IsTrue, is_below, Content, Record, content_in, covers, high_in, is_removed}
+use Rattle.round_model.proofs.Words.{low_in, right_in}
 use Rattle.base_page.specs.Pages.{Page}
 use Rattle.base_page.specs.Rules.{IsRuled}
-use Rattle.deltas.specs.declared.record.Record.{Record}
-use Rattle.traces.specs.chain.Chains.{content_in, covers, high_in, is_removed, low_in, right_in}
 use Rattle.traces.specs.chain.Fitted.{IsFitted, Makes}
 use Rattle.traces.proofs.FittedLaws.{ruled}
 use Rattle.structure_changes.proofs.Places.{inside, made}

@@ -1,25 +1,12 @@
 -- A reader's way to a key, also by the left of a removed page.
-use Rattle.std.proofs.Common.{◌≡◌, ◌≢◌, ◌<◌, ◌≤◌, ◌++◌, ◌-◌, ◌||◌, ◌⊎◌, inl, inr, ℕ, zero, suc, List, [], ◌∷◌, Bool, true, false, Option, None, Some, refl, sym, ap, ◌∙◌, subst, arith}
-use Rattle.std.specs.Prelude.{IsFalse, IsTrue, IfSome, ⊤}
-use Rattle.tree_limits.specs.declared.limits.Limits.{Limits}
+use Rattle.round_model.proofs.Words.{◌≡◌, ◌≢◌, ◌<◌, ◌≤◌, ◌++◌, ◌-◌, ◌||◌, ◌⊎◌, inl, inr, ℕ, zero, suc, List, [], ◌∷◌, Bool, true, false, Option, None, Some, refl, sym, ap, ◌∙◌, subst, arith}
+use Rattle.round_model.proofs.Words.{IsFalse, IsTrue, IfSome, ⊤, Limits, Answer, is_below, not_true, Record, is_removed, level_in, low_in, Fits, FitsRow, Knowledge, learn, Recalled}
+use Rattle.round_model.proofs.Words.{is_lower, recall, IsAfter, Version, Leg, Down, Round, Past, below, has_met, IsInHand, HasArrived, IsUnderRemoval, LeadsDown, LeadsRight, NamesAt}
+use Rattle.round_model.proofs.Words.{reaches, precedes}
 use Rattle.bw_model.specs.declared.step.Step.TheVariants as step
-use Rattle.bw_model.specs.declared.step.Answer.{Answer}
 use Rattle.bw_model.specs.declared.step.Answer.TheVariants as answer
-use Rattle.bw_model.specs.Bytes.{is_below}
-use Rattle.base_page.proofs.KeyLaws.{not_true}
-use Rattle.deltas.specs.declared.record.Record.{Record}
-use Rattle.traces.specs.chain.Chains.{is_removed, level_in, low_in}
-use Rattle.traces.specs.discipline.Fitting.{Fits, FitsRow}
-use Rattle.traces.specs.discipline.Knowledge.{Knowledge, learn}
-use Rattle.traces.specs.discipline.Recalled.{Recalled, is_lower, recall}
-use Rattle.structure_changes.specs.Readings.{IsAfter}
-use Rattle.structure_changes.specs.Versions.{Version}
 use Rattle.round_model.specs.ReadGoals.{ReadGoal, Seek, Left, Beyond}
-use Rattle.round_model.specs.ReadLegs.{Leg, Down, Round, Past, below, has_met}
 use Rattle.round_model.specs.Visits.{Slot, Row, FindsHead, Completes, Continues, Visit, at, to_page, wanted_step}
-use Rattle.round_model.specs.Versions.{IsInHand}
-use Rattle.round_model.specs.Walks.{HasArrived, IsUnderRemoval}
-use Rattle.round_model.specs.Ways.{LeadsDown, LeadsRight, NamesAt, reaches, precedes}
 use Rattle.round_model.specs.ReadRounds.{BeginsToRead, IsAbove, IsGoneAt, IsOn, VisitsToRead, KeepsToRead, SaysAside, goes_beyond, read_way}
 use Rattle.round_model.proofs.Holding.{before_slot, in_hand_row, in_hand_slot}
 use Rattle.round_model.proofs.PageLaws.{above_empty}

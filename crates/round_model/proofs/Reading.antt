@@ -1,27 +1,16 @@
 -- What an answer leaves a reader's round.
-use Rattle.std.proofs.Common.{ap, ◌≡◌, ◌<◌, ◌+◌, ◌||◌, ◌⊎◌, inl, inr, ℕ, List, [], Bool, true, false, Option, Some, None, refl, sym, ◌∙◌, subst, arith}
-use Rattle.std.specs.Prelude.{IfSome}
-use Rattle.tree_limits.specs.declared.limits.Limits.{Limits}
-use Rattle.bw_model.specs.declared.step.Answer.{Answer}
-use Rattle.deltas.specs.declared.record.Record.{Record}
-use Rattle.traces.specs.chain.Chains.{is_removed, low_in}
-use Rattle.traces.specs.discipline.Fitting.{Fits}
-use Rattle.traces.specs.discipline.Knowledge.{Knowledge, learn}
-use Rattle.traces.specs.discipline.Recalled.{Recalled, recall}
-use Rattle.structure_changes.specs.Versions.{Version}
+use Rattle.round_model.proofs.Words.{ap, ◌≡◌, ◌<◌, ◌+◌, ◌||◌, ◌⊎◌, inl, inr, ℕ, List, [], Bool, true, false, Option, Some, None, refl, sym, ◌∙◌, subst, arith, IfSome, Limits, Answer, Record}
+use Rattle.round_model.proofs.Words.{is_removed, low_in, Fits, Knowledge, learn, Recalled, recall, Version, Sight, Slot, Row, Empty, Whole, IsTold, IsInHand, IsReached, IsRoundLast}
+use Rattle.round_model.proofs.Words.{IsSeeking, IsUnderLast, reads_left_at, reads_left_in, with_walk}
 use Rattle.round_model.specs.ReadGoals.{ReadGoal, Seek, Left, Beyond}
 use Rattle.round_model.specs.ReadLegs.{Leg, Down, Round, Past, IsPlain, above_of, below, has_met, level_on}
 use Rattle.round_model.specs.ReadEnds.{ReadEnd, Again, Removed, Leaf, Beside}
 use Rattle.round_model.specs.Descents.{WayState, Root, Page, Finds, Shows as WayShows}
-use Rattle.round_model.specs.Visits.{Sight, Slot, Row, Empty, Whole}
 use Rattle.round_model.specs.ReadRounds.{BeginsToRead, CanMeetLeg, CanPass, EndsRead, HasChildren, IsAtLevel, IsAtMergedPage, IsLeftLeaf, VisitsToRead}
 use Rattle.round_model.specs.ReadRounds.{MissesRead, ReadRound, SeeksKey, Shows, ShowsVisit, Spends, TreatsRead, at, goes_beyond, read_round_kept, wanted_step}
 use Rattle.round_model.specs.ReadRounds.{read_way, way_on, reading}
-use Rattle.round_model.specs.Machines.{IsTold}
-use Rattle.round_model.specs.Versions.{IsInHand}
 use Rattle.round_model.specs.Rounds.{CanSee, Follows, Responds, Sees, machine}
 use Rattle.round_model.specs.Visits as page
-use Rattle.round_model.specs.Walks.{IsReached, IsRoundLast, IsSeeking, IsUnderLast, reads_left_at, reads_left_in, with_walk}
 use Rattle.round_model.specs.Ways.{EndsHere, StaysLeft, precedes, reaches}
 use Rattle.round_model.proofs.Lost.{found_nothing}
 use Rattle.round_model.proofs.Passing.{HasReached, IsOver, at_or_below, begins, goes_down, goes_right, keeps_next, passed_next, reached_next, visits_next}

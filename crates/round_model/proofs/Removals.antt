@@ -4,14 +4,11 @@ use Rattle.std.specs.Prelude.{if◌then◌else◌, is_some, ltb}
 use Rattle.std.proofs.lemmas.Bool.{ltb-false}
 use Rattle.bw_model.specs.declared.step.Answer.TheVariants as answer
 use Rattle.bw_model.specs.declared.step.Step.TheVariants as step
-use Rattle.deltas.specs.declared.record.Record.{Record}
+use Rattle.round_model.proofs.Words.{Record, is_removed, level_in, Version, Slot, Row}
 use Rattle.deltas.specs.declared.record.Record.TheVariants as kind
 use Rattle.deltas.specs.Records.{level_after, next_row, removed_after}
-use Rattle.traces.specs.chain.Chains.{is_removed, level_in}
 use Rattle.traces.specs.chain.Fitted.{FitsOver, IsFitted}
 use Rattle.traces.specs.discipline.Recalled.{IsPaid, Recalled, Walk, is_lower, is_removal, note, recall, removal_level}
-use Rattle.structure_changes.specs.Versions.{Version}
-use Rattle.round_model.specs.Visits.{Slot, Row}
 use Rattle.round_model.specs.Walks.{AreRemovalsAbove, HasRemovalAt, IsRoundLast, IsUnderRemoval, IsUnderLast}
 
 -- booleans

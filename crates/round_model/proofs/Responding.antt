@@ -1,11 +1,8 @@
 -- What follows from what a round makes of an answer, by what it had asked for: slot 0, or the visit of a page.
-use Rattle.std.proofs.Common.{◌≡◌, ◌∙◌, inl, inr, ℕ, Option, Some, None, refl, sym, ap, subst}
-use Rattle.bw_model.specs.declared.step.Answer.{Answer}
+use Rattle.round_model.proofs.Words.{◌≡◌, ◌∙◌, inl, inr, ℕ, Option, Some, None, refl, sym, ap, subst, Answer, Record, Sight}
 use Rattle.bw_model.specs.declared.step.Answer.TheVariants as answer
-use Rattle.deltas.specs.declared.record.Record.{Record}
 use Rattle.round_model.specs.Descents.{Descent, WayState, Root, Page}
 use Rattle.round_model.specs.Rounds.{Responds, Rounds, Sees}
-use Rattle.round_model.specs.Visits.{Sight}
 use Rattle.round_model.specs.Visits as page
 
 -- a round that is gone to where it stands is the same

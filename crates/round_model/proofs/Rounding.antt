@@ -1,22 +1,10 @@
 -- A reader's way by the left of a removed page: beside a removed leaf, and round a removed index page.
-use Rattle.std.proofs.Common.{◌≡◌, ◌≢◌, ◌<◌, ◌≤◌, ◌-◌, ◌||◌, ◌⊎◌, inl, inr, ℕ, List, [], ◌∷◌, Bool, true, false, Option, None, Some, refl, sym, ◌∙◌, subst, arith}
-use Rattle.std.specs.Prelude.{IfSome, IsTrue}
-use Rattle.std.proofs.lemmas.Option.{same_Some}
-use Rattle.tree_limits.specs.declared.limits.Limits.{Limits}
-use Rattle.bw_model.specs.Bytes.{is_below}
-use Rattle.deltas.specs.declared.record.Record.{Record}
-use Rattle.traces.specs.chain.Chains.{high_in, is_removed, level_in, low_in, right_in}
-use Rattle.traces.specs.discipline.Discipline.{HasRead, NamesChild}
-use Rattle.traces.specs.discipline.Fitting.{SaysOf}
-use Rattle.traces.specs.discipline.Knowledge.{Knowledge}
-use Rattle.traces.specs.discipline.Recalled.{Recalled, trail}
-use Rattle.structure_changes.specs.Versions.{Version}
+use Rattle.round_model.proofs.Words.{◌≡◌, ◌≢◌, ◌<◌, ◌≤◌, ◌-◌, ◌||◌, ◌⊎◌, inl, inr, ℕ, List, [], ◌∷◌, Bool, true, false, Option, None, Some, refl, sym, ◌∙◌, subst, arith, IfSome, IsTrue}
+use Rattle.round_model.proofs.Words.{same_Some, Limits, is_below, Record, high_in, is_removed, level_in, low_in, right_in, HasRead, NamesChild, SaysOf, Knowledge, Recalled, trail, Version}
+use Rattle.round_model.proofs.Words.{Leg, Down, Round, Past, above_of, has_met, level_on, to_page, AreRemovalsAbove, IsUnderRemoval, LeadsDown, LeadsOn, LeadsRight, NamesAt, StaysLeft}
+use Rattle.round_model.proofs.Words.{reaches}
 use Rattle.round_model.specs.ReadGoals.{ReadGoal, Seek, Left, Beyond}
-use Rattle.round_model.specs.ReadLegs.{Leg, Down, Round, Past, above_of, has_met, level_on}
 use Rattle.round_model.specs.ReadRounds.{IsAbove, IsAliveLeaf, IsBesideLeaf, IsGoingRound, IsOn, VisitsToRead, KeepsToRead, goes_beyond, left_of, read_way}
-use Rattle.round_model.specs.Visits.{to_page}
-use Rattle.round_model.specs.Walks.{AreRemovalsAbove, IsUnderRemoval}
-use Rattle.round_model.specs.Ways.{LeadsDown, LeadsOn, LeadsRight, NamesAt, StaysLeft, reaches}
 use Rattle.round_model.proofs.Beside.{IsBesideGone, beside_on, says, says_before, within}
 use Rattle.round_model.proofs.Passing.{HasReached, IsBy, IsOver, Passed, WasOn, above_here, at_or_below, before_on, goes_right, is_on_way, keeps_on, met_none, met_still, most_under, of_level}
 use Rattle.round_model.proofs.Removals.{removal_above}

@@ -1,23 +1,11 @@
 -- What the steps of a round leave it, on the way to the key.
-use Rattle.std.proofs.Common.{◌≡◌, ◌<◌, ◌++◌, ◌==◌, ◌⊎◌, inl, inr, ℕ, zero, suc, List, [], ◌∷◌, Bool, true, false, Some, None, refl, subst, arith}
-use Rattle.std.specs.Prelude.{IsFalse, IsTrue}
-use Rattle.std.proofs.lemmas.Bool.{eq-eqb}
-use Rattle.tree_limits.specs.declared.limits.Limits.{Limits}
+use Rattle.round_model.proofs.Words.{◌≡◌, ◌<◌, ◌++◌, ◌==◌, ◌⊎◌, inl, inr, ℕ, zero, suc, List, [], ◌∷◌, Bool, true, false, Some, None, refl, subst, arith, IsFalse, IsTrue, eq-eqb, Limits}
+use Rattle.round_model.proofs.Words.{Answer, Record, replaced_at, next_row, is_removed, Fits, FitsRow, Knowledge, learn, learn_slot, Recalled, is_lower, recall, Version, IsAlive, IsGone}
+use Rattle.round_model.proofs.Words.{IsInHand, NamesAt}
 use Rattle.bw_model.specs.declared.step.Step.TheVariants as step
-use Rattle.bw_model.specs.declared.step.Answer.{Answer}
 use Rattle.bw_model.specs.declared.step.Answer.TheVariants as answer
-use Rattle.deltas.specs.declared.record.Record.{Record}
-use Rattle.deltas.specs.Memory.{replaced_at}
-use Rattle.deltas.specs.Records.{next_row}
-use Rattle.traces.specs.chain.Chains.{is_removed}
-use Rattle.traces.specs.discipline.Fitting.{Fits, FitsRow}
-use Rattle.traces.specs.discipline.Knowledge.{Knowledge, learn, learn_slot}
-use Rattle.traces.specs.discipline.Recalled.{Recalled, is_lower, recall}
-use Rattle.structure_changes.specs.Versions.{Version}
 use Rattle.round_model.specs.Visits.{Slot, Row, FindsHead, Completes, Continues, Visit, at, to_page, wanted_step}
-use Rattle.round_model.specs.Versions.{IsAlive, IsGone, IsInHand}
 use Rattle.round_model.specs.Walks.{HasArrived, IsNamedNow, IsReached, IsSeeking}
-use Rattle.round_model.specs.Ways.{NamesAt}
 use Rattle.round_model.proofs.Meeting.{names_meets}
 use Rattle.round_model.proofs.Removals.{not_passed}
 use Rattle.round_model.proofs.Visiting.{back, row_below, there}

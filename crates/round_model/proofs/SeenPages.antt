@@ -1,10 +1,7 @@
 -- A page that was seen was read.
-use Rattle.std.proofs.Common.{ℕ}
-use Rattle.deltas.specs.declared.record.Record.{Record}
-use Rattle.traces.specs.discipline.Knowledge.{Knowledge}
+use Rattle.round_model.proofs.Words.{ℕ, Record, Knowledge, Version}
 use Rattle.structure_changes.specs.Readings.{HasSeen}
 use Rattle.structure_changes.specs.Reads.{IsReadPage}
-use Rattle.structure_changes.specs.Versions.{Version}
 use Rattle.round_model.specs.Machines.{AreThere}
 
 -- its records may be looked at, where what was read is there

@@ -1,21 +1,13 @@
 -- How many reads the steps of a visit leave a round.
 use Rattle.std.proofs.Common.{◌≡◌, ◌<◌, ◌≤◌, ◌+◌, ◌-◌, ◌*◌, ◌++◌, ◌||◌, inl, inr, ◌⊎◌, ℕ, zero, suc, List, [], ◌∷◌, length, Bool, true, false, None, refl, sym, ap, ◌∙◌, subst, arith, length-append}
-use Rattle.std.specs.Prelude.{IsFalse, IsTrue, if◌then◌else◌}
-use Rattle.tree_limits.specs.declared.limits.Limits.{Limits}
+use Rattle.round_model.proofs.Words.{IsFalse, IsTrue, if◌then◌else◌, Limits, Answer, Record, next_row, is_removed, Fits, FitsRow, Knowledge, Version, IsSeeking, reads_left_at, reads_left_in}
+use Rattle.round_model.proofs.Words.{with_walk}
 use Rattle.bw_model.specs.declared.step.Step.{Step}
 use Rattle.bw_model.specs.declared.step.Step.TheVariants as step
-use Rattle.bw_model.specs.declared.step.Answer.{Answer}
 use Rattle.bw_model.specs.declared.step.Answer.TheVariants as answer
-use Rattle.deltas.specs.declared.record.Record.{Record}
 use Rattle.deltas.specs.declared.record.Record.TheVariants as kind
-use Rattle.deltas.specs.Records.{next_row}
-use Rattle.traces.specs.chain.Chains.{is_removed}
-use Rattle.traces.specs.discipline.Fitting.{Fits, FitsRow}
-use Rattle.traces.specs.discipline.Knowledge.{Knowledge}
 use Rattle.traces.specs.discipline.Recalled.{AnyNames, IsPaid, IsSpentWith, IsUnread, Recalled, Walk, is_lower, is_removal, recall, trail}
-use Rattle.structure_changes.specs.Versions.{Version}
 use Rattle.round_model.specs.Visits.{VisitState, Slot, Row, FindsHead, Completes, Continues, FindsEmpty, Visit, at, wanted_step}
-use Rattle.round_model.specs.Walks.{IsSeeking, reads_left_at, reads_left_in, with_walk}
 use Rattle.round_model.proofs.Meeting.{few_pages, removed_push}
 use Rattle.round_model.proofs.Removals.{base_is_none, lower_first, paid_lower}
 use Rattle.round_model.proofs.Seeking.{arrived}

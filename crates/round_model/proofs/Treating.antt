@@ -1,36 +1,24 @@
 -- What follows from what a writer's round does with a page that was read whole.
-use Rattle.std.proofs.Common.{ap, ◌∙◌, ◌≡◌, ◌≢◌, ◌<◌, ◌≤◌, ◌-◌, inl, inr, ℕ, suc, List, [], ◌∷◌, length, Bool, true, false, Option, Some, None, refl, sym, subst, arith}
-use Rattle.std.specs.Prelude.{IfSome, IsTrue}
+use Rattle.round_model.proofs.Words.{ap, ◌∙◌, ◌≡◌, ◌≢◌, ◌<◌, ◌≤◌, ◌-◌, inl, inr, ℕ, suc, List, [], ◌∷◌, length, Bool, true, false, Option, Some, None, refl, sym, subst, arith, IfSome}
+use Rattle.round_model.proofs.Words.{IsTrue, IfSome_then, is_below, Child, not_true, Record, content_in, covers, is_removed, level_in, low_in, right_in, Knowledge, Version, made, DueChange}
+use Rattle.round_model.proofs.Words.{WriteEnd, IsAlive, IsInHand, LeadsDown, LeadsRight, NamesAt, StaysLeft, reaches, IsHere, IsSplitFinished, TreatsWrite, EndsBy}
 use Rattle.std.proofs.Math.Nat.{lt_of_not-le}
-use Rattle.std.proofs.lemmas.Option.{IfSome_then}
-use Rattle.bw_model.specs.Bytes.{is_below}
-use Rattle.base_page.specs.declared.item.Content.TheVariants.{Child}
 use Rattle.base_page.specs.Pages.{Page as PageOf}
-use Rattle.base_page.proofs.KeyLaws.{not_true}
-use Rattle.deltas.specs.declared.record.Record.{Record}
 use Rattle.deltas.specs.declared.record.Merge.{Merge as MergeRecord}
 use Rattle.deltas.specs.declared.record.Term.{Term}
 use Rattle.deltas.specs.declared.record.Unterm.{Unterm as UntermRecord}
-use Rattle.traces.specs.chain.Chains.{content_in, covers, is_removed, level_in, low_in, right_in}
-use Rattle.traces.specs.discipline.Knowledge.{Knowledge}
 use Rattle.traces.specs.discipline.Recalled.{Recalled, WasHead}
 use Rattle.structure_changes.specs.Sizes.{HasFewItems, many_of}
 use Rattle.structure_changes.specs.Splits.{CanSplit}
 use Rattle.structure_changes.specs.declared.plan.Plan.{Plan}
-use Rattle.structure_changes.specs.Versions.{Version}
 use Rattle.structure_changes.proofs.Few.{few_many}
-use Rattle.structure_changes.proofs.Places.{made}
 use Rattle.round_model.specs.Courses.{WriteGoal, Seek, Left, Merge, Unterm}
-use Rattle.round_model.specs.WriteEnds.{DueChange, WriteEnd}
 use Rattle.round_model.specs.WriteEnds as end
-use Rattle.round_model.specs.Versions.{IsAlive, IsInHand}
 use Rattle.round_model.specs.Visits as page
-use Rattle.round_model.specs.Ways.{LeadsDown, LeadsRight, NamesAt, StaysLeft, reaches}
 use Rattle.round_model.specs.WriteRounds.{IsCleanEnd, IsUncutEnd, IsUnmergedEnd, IsLosingTerm, IsMergeEnd, IsMissing, IsUntermEnd, KeepsToWrite, SeeksLeaf}
 use Rattle.round_model.specs.WriteRounds.{is_cutting, write_way, EndsWrite, IsBased, IsLeftOf, IsKept, IsLeafEnd, IsLong, IsRootEnd, IsTermEnd, VisitsToWrite}
 use Rattle.round_model.specs.WriteRounds.{Shows, WriteRound, goes_left, IsTendEnd, IsDueBy}
 use Rattle.round_model.specs.WriteResponses.{EndsClean, EndsUncut, EndsUnmerged, EndsCut, EndsFine, EndsMerged, EndsSmall, EndsUnposted, EndsUnrooted, IsFine}
-use Rattle.round_model.specs.WriteResponses.{IsHere, IsSplitFinished, TreatsWrite, EndsBy}
 use Rattle.round_model.proofs.Keeping.{HasReached, LiesAbove, Passed, differs}
 use Rattle.round_model.proofs.Leading.{led_aside, termed}
 use Rattle.round_model.proofs.PageLaws.{covered, spans}

@@ -1,17 +1,8 @@
 -- What the steps of a visit leave it.
-use Rattle.std.proofs.Common.{◌≡◌, ◌<◌, ◌==◌, ◌++◌, inl, inr, ℕ, zero, suc, true, List, [], ◌∷◌, Option, Some, None, refl, sym, ap, ◌∙◌, subst, arith}
-use Rattle.std.proofs.lemmas.Bool.{eq-eqb}
-use Rattle.tree_limits.specs.declared.limits.Limits.{Limits}
+use Rattle.round_model.proofs.Words.{◌≡◌, ◌<◌, ◌==◌, ◌++◌, inl, inr, ℕ, zero, suc, true, List, [], ◌∷◌, Option, Some, None, refl, sym, ap, ◌∙◌, subst, arith, eq-eqb, Limits, Answer, Record}
+use Rattle.round_model.proofs.Words.{replaced_at, next_row, IsChainFrom, IsFront, Fits, FitsRow, IsReadWhole, Knowledge, learn, learn_slot, Version}
 use Rattle.bw_model.specs.declared.step.Step.TheVariants as step
-use Rattle.bw_model.specs.declared.step.Answer.{Answer}
 use Rattle.bw_model.specs.declared.step.Answer.TheVariants as answer
-use Rattle.deltas.specs.declared.record.Record.{Record}
-use Rattle.deltas.specs.Memory.{replaced_at}
-use Rattle.deltas.specs.Records.{next_row}
-use Rattle.traces.specs.chain.Chains.{IsChainFrom, IsFront}
-use Rattle.traces.specs.discipline.Fitting.{Fits, FitsRow, IsReadWhole}
-use Rattle.traces.specs.discipline.Knowledge.{Knowledge, learn, learn_slot}
-use Rattle.structure_changes.specs.Versions.{Version}
 use Rattle.round_model.specs.Visits.{Sight, Empty, Whole, VisitState, Slot, Row, Arrives, FindsHead, Completes, Continues, Follows, Reads, Responds, Shows, Visit, at, wanted_step}
 use Rattle.round_model.specs.Versions.{IsSound}
 use Rattle.round_model.proofs.FrontLaws.{front_more, front_next, front_end}

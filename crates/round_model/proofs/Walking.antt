@@ -1,31 +1,14 @@
 -- From page to page: what a step of a visit leaves, and that a page that is named by the one just read was not read before.
 use Rattle.std.proofs.Common.{◌≡◌, ◌≢◌, ◌<◌, ◌++◌, ◌||◌, ◌&&◌, not, ◌==◌, inl, inr, ◌⊎◌, ℕ, zero, suc, List, [], ◌∷◌, Bool, true, false, Some, None, refl, sym, ap, ◌∙◌, subst, arith}
-use Rattle.std.specs.Prelude.{IsTrue, if◌then◌else◌}
-use Rattle.std.specs.List.{AllByRecursion}
-use Rattle.std.specs.Ordering.{is_lt}
-use Rattle.std.proofs.lemmas.Bool.{eq-eqb}
-use Rattle.std.proofs.lemmas.Bool.Decides.{eqb_tells}
-use Rattle.std.proofs.lemmas.Option.{same_Some}
+use Rattle.round_model.proofs.Words.{IsTrue, if◌then◌else◌, AllByRecursion, is_lt, eq-eqb, eqb_tells, same_Some, Limits, is_below, Record, replaced_at, next_row, is_removed, level_in}
+use Rattle.round_model.proofs.Words.{low_in, HasRead, IsFitted, FitsRow, IsReadWhole, SaysOf, Knowledge, learn, learn_slot, IsUnread, Recalled, Walk, is_lower, is_removal, recall, trail}
+use Rattle.round_model.proofs.Words.{Version, NamesPages, NamesAt}
 use Rattle.std.proofs.lemmas.Cmp.{tied_itself, nat_list_cmp_total}
-use Rattle.tree_limits.specs.declared.limits.Limits.{Limits}
 use Rattle.bw_model.specs.declared.step.Step.TheVariants as step
 use Rattle.bw_model.specs.declared.step.Answer.TheVariants as answer
-use Rattle.bw_model.specs.Bytes.{is_below}
 use Rattle.base_page.proofs.KeyLaws.{below_from, below-trans}
-use Rattle.deltas.specs.declared.record.Record.{Record}
-use Rattle.deltas.specs.Memory.{replaced_at}
-use Rattle.deltas.specs.Records.{next_row}
-use Rattle.traces.specs.chain.Chains.{is_removed, level_in, low_in}
-use Rattle.traces.specs.discipline.Discipline.{HasRead}
-use Rattle.traces.specs.chain.Fitted.{IsFitted}
-use Rattle.traces.specs.discipline.Fitting.{FitsRow, IsReadWhole, SaysOf}
-use Rattle.traces.specs.discipline.Knowledge.{Knowledge, learn, learn_slot}
-use Rattle.traces.specs.discipline.Recalled.{IsUnread, Recalled, Walk, is_lower, is_removal, recall, trail}
-use Rattle.structure_changes.specs.Versions.{Version}
 use Rattle.round_model.specs.Visits.{Slot, Row, Arrives, MayVisit, Visit, at, to_page}
-use Rattle.round_model.specs.Versions.{NamesPages}
 use Rattle.round_model.specs.Walks.{AreRecalled, HasArrived, IsAmongPids, IsExpected, IsNamedAt, IsOnWay, IsPast, IsPastAt}
-use Rattle.round_model.specs.Ways.{NamesAt}
 use Rattle.round_model.proofs.Holding.{named_row, named_slot, next_read, next_slot, past_row, past_slot, read_more}
 use Rattle.round_model.proofs.Meeting.{kept_push, removed_push}
 use Rattle.round_model.proofs.PageLaws.{spans}

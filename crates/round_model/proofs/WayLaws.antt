@@ -1,16 +1,9 @@
 -- Which page is on the way.
-use Rattle.std.proofs.Common.{◌≡◌, ◌<◌, ◌-◌, ◌⊎◌, inl, inr, ℕ, List, [], ◌∷◌, Bool, true, false, Option, Some, None, sym, ap, ◌∙◌, refl, arith}
+use Rattle.round_model.proofs.Words.{◌≡◌, ◌<◌, ◌-◌, ◌⊎◌, inl, inr, ℕ, List, [], ◌∷◌, Bool, true, false, Option, Some, None, sym, ap, ◌∙◌, refl, arith, Limits, not_true, Record, content_in}
+use Rattle.round_model.proofs.Words.{covers, high_in, level_in, low_in, right_in, NamesChild, IsFitted, NamesPages, LeadsDown, LeadsOn, LeadsRight, NamesAt, StaysLeft, reaches}
 use Rattle.std.specs.Prelude.{is_some, not, IsTrue, MatchOption}
-use Rattle.tree_limits.specs.declared.limits.Limits.{Limits}
 use Rattle.bw_model.specs.Bytes.{is_below, is_in_range}
 use Rattle.base_page.specs.Places.{IsGreatestChild}
-use Rattle.base_page.proofs.KeyLaws.{not_true}
-use Rattle.deltas.specs.declared.record.Record.{Record}
-use Rattle.traces.specs.chain.Chains.{content_in, covers, high_in, level_in, low_in, right_in}
-use Rattle.traces.specs.discipline.Discipline.{NamesChild}
-use Rattle.traces.specs.chain.Fitted.{IsFitted}
-use Rattle.round_model.specs.Versions.{NamesPages}
-use Rattle.round_model.specs.Ways.{LeadsDown, LeadsOn, LeadsRight, NamesAt, StaysLeft, reaches}
 use Rattle.round_model.proofs.PageLaws.{covered, ends}
 
 pub goes_down : (way : List ℕ → Bool) (chain : List Record) (child : ℕ) → IsFitted chain → IsGreatestChild (content_in chain) way child → LeadsDown way chain child

@@ -1,28 +1,14 @@
 -- What an answer leaves a writer's round.
-use Rattle.std.proofs.Common.{◌∙◌, ◌≡◌, ◌≢◌, ◌<◌, ◌+◌, inl, inr, ℕ, List, [], Bool, true, false, Option, Some, None, refl, sym, subst, arith}
-use Rattle.std.specs.Prelude.{IsTrue}
-use Rattle.std.proofs.lemmas.Option.{IfSome_then}
-use Rattle.tree_limits.specs.declared.limits.Limits.{Limits}
+use Rattle.round_model.proofs.Words.{◌∙◌, ◌≡◌, ◌≢◌, ◌<◌, ◌+◌, inl, inr, ℕ, List, [], Bool, true, false, Option, Some, None, refl, sym, subst, arith, IsTrue, IfSome_then, Limits, Answer}
+use Rattle.round_model.proofs.Words.{is_below, Record, is_removed, low_in, Fits, Knowledge, learn, Recalled, recall, Version, DueChange, WriteEnd, Sight, Slot, Empty, Whole, IsSeeking}
+use Rattle.round_model.proofs.Words.{reads_left_at, reads_left_in, with_walk, precedes, reaches, IsTold}
 use Rattle.bw_model.specs.declared.step.Step.TheVariants as step
-use Rattle.bw_model.specs.declared.step.Answer.{Answer}
 use Rattle.bw_model.specs.declared.step.Answer.TheVariants as answer
-use Rattle.bw_model.specs.Bytes.{is_below}
-use Rattle.deltas.specs.declared.record.Record.{Record}
-use Rattle.traces.specs.chain.Chains.{is_removed, low_in}
-use Rattle.traces.specs.discipline.Fitting.{Fits}
-use Rattle.traces.specs.discipline.Knowledge.{Knowledge, learn}
-use Rattle.traces.specs.discipline.Recalled.{Recalled, recall}
-use Rattle.structure_changes.specs.Versions.{Version}
 use Rattle.round_model.specs.Courses.{WriteGoal, Seek, Left, Merge, Unterm}
-use Rattle.round_model.specs.WriteEnds.{DueChange, WriteEnd}
 use Rattle.round_model.specs.WriteEnds as end
 use Rattle.round_model.specs.Descents.{WayState, Root, Page, Finds, Shows as WayShows}
-use Rattle.round_model.specs.Visits.{Sight, Slot, Empty, Whole}
 use Rattle.round_model.specs.Visits as page
-use Rattle.round_model.specs.Walks.{IsSeeking, reads_left_at, reads_left_in, with_walk}
-use Rattle.round_model.specs.Ways.{precedes, reaches}
 use Rattle.round_model.specs.WriteRounds.{BeginsToWrite, IsMissing, KeepsToWrite, MissesWrite, is_cutting, write_round_kept, write_way, VisitsToWrite, Shows, Spends, WriteRound, at, wanted_step}
-use Rattle.round_model.specs.Machines.{IsTold}
 use Rattle.round_model.specs.Rounds.{CanSee, Follows, Responds, Sees, machine}
 use Rattle.round_model.specs.WriteResponses.{CanMeetGoal, IsHere, IsAtLeft, IsTended, TreatsWrite, writing, EndsBy}
 use Rattle.round_model.proofs.Lost.{found_nothing}

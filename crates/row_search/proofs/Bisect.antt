@@ -1,15 +1,8 @@
 -- What a bisection among ascending items has found so far.
 use Rattle.std.proofs.Common.{◌≡◌, ◌<◌, ◌≤◌, ◌+◌, ℕ, List, length, get_or, drop, map, inl, inr, ap, subst, arith}
-use Rattle.std.specs.List.{AllWithin}
-use Rattle.std.specs.Ordering.{is_eq}
-use Rattle.std.specs.declared.cmp.Ordering.TheVariants.{Less, Equal, Greater}
-use Rattle.std.proofs.lemmas.Bool.{cases_lt}
+use Rattle.row_search.proofs.Words.{AllWithin, is_eq, Less, Equal, Greater, cases_lt, key_cmp, Item, IsAscending, IsAt, IsGap}
 use Rattle.std.proofs.lemmas.List.{get_or-map, length-map}
 use Rattle.std.proofs.lemmas.Map.Keys.{Less-from_sorted}
-use Rattle.bw_model.specs.Bytes.{key_cmp}
-use Rattle.base_page.specs.declared.item.Item.{Item}
-use Rattle.base_page.specs.Pages.{IsAscending}
-use Rattle.base_page.specs.Places.{IsAt, IsGap}
 use Rattle.base_page.proofs.KeyLaws.{above, below, below-trans, same}
 use Rattle.base_page.proofs.ItemLaws.{all-weaker}
 use Rattle.base_page.proofs.PlaceLaws.{within_take, within_drop}

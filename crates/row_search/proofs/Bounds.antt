@@ -1,14 +1,8 @@
 -- What the words of a record's bounds say where there is none.
 use Rattle.std.proofs.Common.{◌≡◌, ℕ, List, get_or, take, drop, refl, arith}
 use Rattle.std.specs.Prelude.{Option, Some, None, IfSome, unwrap_or}
-use Rattle.bw_model.specs.Bytes.{IsShort}
-use Rattle.deltas.specs.Records.{right_after}
-use Rattle.deltas.specs.Spellable.{IsPid, IsSpellable}
-use Rattle.deltas.specs.declared.record.Record.{Record}
+use Rattle.row_search.proofs.Words.{IsShort, right_after, IsPid, IsSpellable, Record, field_size, no_bound, second_at, row_of, bound_words}
 use Rattle.deltas.specs.declared.record.Record.TheVariants.{Base, Put, Delete, Split, Term, Hold, Remove, Merge, Unterm}
-use Rattle.record_slots.specs.Layout.{field_size, no_bound, second_at}
-use Rattle.record_slots.specs.Parts.{row_of}
-use Rattle.record_slots.specs.Spelling.{bound_words}
 use Rattle.row_search.proofs.RowTexts.{text_at}
 
 pub unbounded : (words : List ℕ) (second : Option (List ℕ)) → IfSome second IsShort → bound_words second ≡ take field_size (drop second_at words) → get_or words second_at 0 ≡ no_bound → None ≡ second

@@ -1,13 +1,10 @@
 -- Records by what they are: a base, a put, a delete.
 use Rattle.std.proofs.Common.{◌≡◌, refl, arith}
 use Rattle.std.specs.Prelude.{Some, None}
-use Rattle.base_page.specs.Pages.{Page}
+use Rattle.row_search.proofs.Words.{Page, Record, row_of, delete_of, put_of}
 use Rattle.deltas.specs.declared.record.Delete.{Delete}
 use Rattle.deltas.specs.declared.record.Put.{Put}
-use Rattle.deltas.specs.declared.record.Record.{Record}
 use Rattle.deltas.specs.declared.record.Record.TheVariants as kind
-use Rattle.record_slots.specs.Parts.{row_of}
-use Rattle.row_search.specs.Changes.{delete_of, put_of}
 
 pub put_there : (content : Record) (put : Put) → put_of content ≡ Some put → content ≡ kind.Put put
 put_there (kind.Put one) put e = cc

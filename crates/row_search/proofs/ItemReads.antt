@@ -1,23 +1,10 @@
 -- What an item of a row has, read from its words.
 use Rattle.std.proofs.Common.{◌≡◌, suc, ◌==◌, ◌<◌, ◌+◌, ◌*◌, ◌%◌, ℕ, false, List, length, get_or, take, drop, refl, sym, ap, subst, ◌∙◌, arith}
 use Rattle.std.specs.Prelude.{if◌then◌else◌, nat_le, ◌-◌, Option, Some, None, IfSome}
-use Rattle.std.proofs.lemmas.Bool.{eqb-true, false_from_ne_true}
-use Rattle.std.proofs.lemmas.List.{get_or-drop, drop-drop}
-use Rattle.base_page.specs.declared.item.Content.{Content}
-use Rattle.base_page.specs.declared.item.Content.TheVariants.{Value, Child}
-use Rattle.base_page.specs.declared.item.Item.{Item}
-use Rattle.base_page.specs.Pages.{IsOfLevel}
+use Rattle.row_search.proofs.Words.{eqb-true, false_from_ne_true, get_or-drop, drop-drop, Content, Value, Child, Item, IsOfLevel, Record, field_size, held_mark, item_size, items_at}
+use Rattle.row_search.proofs.Words.{no_bound, second_at, text_size, IsItem, row_of, items_of, IsShort, bound_words, content_words, item_words, IsShortContent, IsSpelling, IsText, bytes_of}
+use Rattle.row_search.proofs.Words.{items_fit, read_back, field_in, item_in}
 use Rattle.deltas.specs.Spellable.{HasPid}
-use Rattle.deltas.specs.declared.record.Record.{Record}
-use Rattle.record_slots.specs.Layout.{field_size, held_mark, item_size, items_at, no_bound, second_at, text_size}
-use Rattle.record_slots.specs.Parts.{IsItem, row_of, items_of}
-use Rattle.bw_model.specs.Bytes.{IsShort}
-use Rattle.record_slots.specs.Spelling.{bound_words, content_words, item_words}
-use Rattle.record_slots.specs.Spells.{IsShortContent, IsSpelling}
-use Rattle.record_slots.specs.Texts.{IsText, bytes_of}
-use Rattle.record_slots.proofs.SpellingLaws.{items_fit}
-use Rattle.record_slots.proofs.TextLaws.{read_back}
-use Rattle.row_search.specs.Reading.{field_in, item_in}
 use Rattle.row_search.proofs.ItemTexts.{item_stands, item_text, window}
 use Rattle.row_search.proofs.ReadingLaws.{content_of, item_read}
 use Rattle.row_search.proofs.RowTexts.{first_of, stands, text_at}

@@ -1,17 +1,8 @@
 -- The texts of a row's items.
 use Rattle.std.proofs.Common.{◌≡◌, ◌<◌, ◌≤◌, ◌+◌, ◌*◌, ◌%◌, ℕ, zero, suc, Bool, true, false, List, [], ◌∷◌, length, get_or, take, drop, refl, sym, ap, ◌∙◌, arith}
-use Rattle.std.specs.Prelude.{if◌then◌else◌}
-use Rattle.std.specs.declared.cmp.Ordering.{Ordering}
-use Rattle.bw_model.specs.Bytes.{key_cmp, longest}
-use Rattle.std.proofs.lemmas.List.{get_or-drop, drop-drop}
-use Rattle.base_page.specs.declared.item.Item.{Item}
-use Rattle.base_page.specs.Rules.{is_held}
-use Rattle.record_slots.specs.Layout.{held_mark, item_size, items_at, text_size}
-use Rattle.record_slots.specs.Spelling.{item_words, items_words}
+use Rattle.row_search.proofs.Words.{if◌then◌else◌, Ordering, key_cmp, longest, get_or-drop, drop-drop, Item, is_held, held_mark, item_size, items_at, text_size, item_words, items_words}
+use Rattle.row_search.proofs.Words.{IsText, first_words, behind_words, StandIn}
 use Rattle.record_slots.specs.Spells.{IsShortItem}
-use Rattle.record_slots.specs.Texts.{IsText}
-use Rattle.record_slots.proofs.ItemLaws.{first_words, behind_words}
-use Rattle.row_search.specs.Rows.{StandIn}
 
 -- a window within the first n
 front : (a n : ℕ) (xs : List ℕ) → a ≤ n → take a (take n xs) ≡ take a xs

@@ -1,11 +1,8 @@
 -- Keys are in the order of their words, and then of their lengths.
 use Rattle.std.proofs.Common.{◌≡◌, ◌<◌, ◌≤◌, ◌+◌, ◌*◌, ◌-◌, ◌^◌, ℕ, zero, suc, List, [], ◌∷◌, length, get_or, drop, refl, sym, ap, subst, ◌∙◌, arith}
-use Rattle.std.specs.declared.cmp.Ordering.{Ordering}
-use Rattle.std.specs.declared.cmp.Ordering.TheVariants.{Less, Equal, Greater}
+use Rattle.row_search.proofs.Words.{Ordering, Less, Equal, Greater, slice_cmp, key_cmp}
 use Rattle.std.specs.Ordering.{nat_cmp, ordering_then, MatchOrdering}
 use Rattle.std.specs.Cmp.{nat_cmp_is, ranked}
-use Rattle.std.specs.Cmp.Lexicographic.{slice_cmp}
-use Rattle.bw_model.specs.Bytes.{key_cmp}
 use Rattle.record_slots.specs.Spelling.{big_endian, text_words}
 use Rattle.record_slots.proofs.WordLaws.{AreBytes, no_packed, packed_below}
 

@@ -10,4 +10,5 @@ pub mod RowTexts
 pub mod SaidItems
 pub mod SaidLaws
 pub mod WordByWord
+pub mod Words
 pub mod WordsCmp

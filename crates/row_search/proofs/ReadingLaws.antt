@@ -4,25 +4,12 @@ use Rattle.std.specs.Prelude.{Option, Some, None, IfSome, if◌then◌else◌, n
 use Rattle.std.specs.List.{All}
 use Rattle.std.proofs.lemmas.Bool.{eqb-true, leb-true, leb-false, false_from_ne_true, true_from_ne_false}
 use Rattle.std.proofs.Math.Dec.{eqb-suc-zero}
-use Rattle.std.proofs.lemmas.List.{get_or-drop}
+use Rattle.row_search.proofs.Words.{get_or-drop, IsShort, longest, Content, Value, Child, Item, IsOfLevel, is_held, IsPid, IsSpellable, Record, text_words, field_words, bound_words}
+use Rattle.row_search.proofs.Words.{content_words, item_words, items_words, IsShortContent, IsSpelling, bytes_of, IsItem, row_of, items_of, first_words, behind_words, counts, items_fit}
+use Rattle.row_search.proofs.Words.{items_spelled, row_spelled, read_back}
 use Rattle.std.proofs.lemmas.List.Elements.{All-head, All-tail}
-use Rattle.bw_model.specs.Bytes.{IsShort, longest}
-use Rattle.base_page.specs.declared.item.Content.{Content}
-use Rattle.base_page.specs.declared.item.Content.TheVariants.{Value, Child}
-use Rattle.base_page.specs.declared.item.Item.{Item}
-use Rattle.base_page.specs.Pages.{IsOfLevel}
-use Rattle.base_page.specs.Rules.{is_held}
-use Rattle.deltas.specs.Spellable.{IsPid, IsSpellable}
-use Rattle.deltas.specs.declared.record.Record.{Record}
 use Rattle.deltas.specs.declared.record.Record.TheVariants.{Base, Put, Delete, Split, Term, Hold, Remove, Merge, Unterm}
 use Rattle.record_slots.specs.Layout.{count_unit, field_size, first_at, held_mark, item_size, items_at, level_unit, no_bound, part_limit, second_at, text_size}
-use Rattle.record_slots.specs.Spelling.{text_words, field_words, bound_words, content_words, item_words, items_words}
-use Rattle.record_slots.specs.Spells.{IsShortContent, IsSpelling}
-use Rattle.record_slots.specs.Texts.{bytes_of}
-use Rattle.record_slots.specs.Parts.{IsItem, row_of, items_of}
-use Rattle.record_slots.proofs.ItemLaws.{first_words, behind_words}
-use Rattle.record_slots.proofs.SpellingLaws.{counts, items_fit, items_spelled, row_spelled}
-use Rattle.record_slots.proofs.TextLaws.{read_back}
 use Rattle.row_search.specs.Reading.{text_in, field_in, bound_in, page_or_none, item_in, items_in, record_from, record_in}
 use Rattle.row_search.proofs.ItemTexts.{unmarked, window}
 

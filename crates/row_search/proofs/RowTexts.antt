@@ -1,28 +1,15 @@
 -- The texts of a row, by its record.
 use Rattle.std.proofs.Common.{◌≡◌, ◌<◌, ◌≤◌, ◌+◌, ◌*◌, ◌/◌, ◌%◌, ℕ, suc, Bool, true, false, List, [], ◌∷◌, length, get_or, take, drop, refl, sym, ap, subst, ◌∙◌, arith}
 use Rattle.std.specs.Prelude.{Option, Some, None, IfSome, not, ◌&&◌, option_map}
-use Rattle.std.specs.declared.cmp.Ordering.{Ordering}
-use Rattle.std.specs.declared.cmp.Ordering.TheVariants.{Less, Equal, Greater}
+use Rattle.row_search.proofs.Words.{Ordering, Less, Equal, Greater, get_or-drop, drop-drop, Value, Item, IsAscending-from, AreItems, IsAscending, IsSpellable, Record, count_unit, field_size}
+use Rattle.row_search.proofs.Words.{first_at, item_size, items_at, no_bound, part_limit, second_at, text_size, field_words, bound_words, IsSpelling, IsText, row_of, items_of, counts}
+use Rattle.row_search.proofs.Words.{items_fit, items_spelled, row_spelled, StandIn}
 use Rattle.std.specs.Ordering.{is_eq, is_lt, is_gt, ordering_reverse}
 use Rattle.std.proofs.lemmas.Cmp.{nat_list_cmp_total}
-use Rattle.std.proofs.lemmas.List.{get_or-drop, drop-drop}
 use Rattle.bw_model.specs.Bytes.{IsShort, key_cmp, is_below, is_under}
-use Rattle.base_page.specs.declared.item.Content.TheVariants.{Value}
-use Rattle.base_page.specs.declared.item.Item.{Item}
-use Rattle.base_page.proofs.ItemLaws.{IsAscending-from}
-use Rattle.base_page.specs.Pages.{AreItems, IsAscending}
 use Rattle.deltas.specs.Records.{names, next_row}
-use Rattle.deltas.specs.Spellable.{IsSpellable}
-use Rattle.deltas.specs.declared.record.Record.{Record}
 use Rattle.deltas.specs.declared.record.Record.TheVariants.{Base, Put, Delete, Split, Term, Hold, Remove, Merge, Unterm}
-use Rattle.record_slots.specs.Layout.{count_unit, field_size, first_at, item_size, items_at, no_bound, part_limit, second_at, text_size}
-use Rattle.record_slots.specs.Spelling.{field_words, bound_words}
-use Rattle.record_slots.specs.Spells.{IsSpelling}
-use Rattle.record_slots.specs.Texts.{IsText}
-use Rattle.record_slots.specs.Parts.{row_of, items_of}
-use Rattle.record_slots.proofs.SpellingLaws.{counts, items_fit, items_spelled, row_spelled}
 use Rattle.row_search.specs.Reading.{first_key, record_in}
-use Rattle.row_search.specs.Rows.{StandIn}
 use Rattle.row_search.proofs.ItemTexts.{window}
 
 pub first_of : (n : ℕ) (xs : List ℕ) → get_or (take (suc n) xs) 0 0 ≡ get_or xs 0 0

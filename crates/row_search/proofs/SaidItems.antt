@@ -1,21 +1,9 @@
 -- The items that a record says are there, by its kind and its parts.
 use Rattle.std.proofs.Common.{◌≡◌, ◌==◌, ◌<◌, ◌+◌, ◌%◌, ℕ, zero, suc, Bool, true, false, List, [], ◌∷◌, length, get_or, take, drop, refl, sym, ap, subst, ◌∙◌, arith}
 use Rattle.std.specs.Prelude.{Some, not}
-use Rattle.std.specs.Ordering.{is_eq}
-use Rattle.std.specs.declared.cmp.Ordering.TheVariants.{Less, Equal, Greater}
-use Rattle.bw_model.specs.Bytes.{key_cmp}
-use Rattle.base_page.specs.declared.item.Content.TheVariants.{Child}
-use Rattle.base_page.specs.declared.item.Item.{Item}
-use Rattle.base_page.specs.Pages.{AreItems, child_in}
-use Rattle.base_page.specs.Places.{IsAt, IsGap}
-use Rattle.base_page.proofs.ItemLaws.{IsAscending-from}
-use Rattle.base_page.proofs.KeyLaws.{below, same}
-use Rattle.deltas.specs.declared.record.Record.{Record}
+use Rattle.row_search.proofs.Words.{is_eq, Less, Equal, Greater, key_cmp, Child, Item, AreItems, child_in, IsAt, IsGap, IsAscending-from, below, same, Record, first_at, held_mark, text_size}
+use Rattle.row_search.proofs.Words.{items_of, row_of, IsSpelling, IsText}
 use Rattle.deltas.specs.declared.record.Record.TheVariants.{Base, Put, Delete, Split, Term, Hold, Remove, Merge, Unterm}
-use Rattle.record_slots.specs.Layout.{first_at, held_mark, text_size}
-use Rattle.record_slots.specs.Parts.{items_of, row_of}
-use Rattle.record_slots.specs.Spells.{IsSpelling}
-use Rattle.record_slots.specs.Texts.{IsText}
 use Rattle.row_search.specs.Items.{is_term, items_said, may_take}
 use Rattle.row_search.proofs.RowTexts.{first_text}
 

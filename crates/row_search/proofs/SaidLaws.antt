@@ -1,13 +1,10 @@
 -- What a record says, by its kind, its parts and its items.
 use Rattle.std.proofs.Common.{◌≡◌, ◌==◌, ℕ, List, get_or, refl, ap, arith}
 use Rattle.std.specs.Prelude.{true, false, Option, Some, None, unwrap_or}
-use Rattle.base_page.specs.declared.item.Content.TheVariants.{Child}
-use Rattle.base_page.specs.declared.item.Item.{Item}
+use Rattle.row_search.proofs.Words.{Child, Item, Record, row_of, items_of}
 use Rattle.base_page.specs.Pages.{content_at}
 use Rattle.deltas.specs.Records.{content_said, high_after, removed_after, right_after}
-use Rattle.deltas.specs.declared.record.Record.{Record}
 use Rattle.deltas.specs.declared.record.Record.TheVariants.{Base, Put, Delete, Split, Term, Hold, Remove, Merge, Unterm}
-use Rattle.record_slots.specs.Parts.{row_of, items_of}
 use Rattle.row_search.specs.OneKey.{one_key, split_at}
 
 -- what it says of a key that it names

@@ -1,15 +1,6 @@
 -- Texts that are compared one word after the other, up to the first one that differs.
 use Rattle.std.proofs.Common.{◌≡◌, ◌<◌, ◌+◌, ℕ, zero, suc, List, [], ◌∷◌, false, true≢false, length, get_or, drop, take, refl, sym, ap, subst, ◌∙◌, arith}
-use Rattle.std.proofs.lemmas.List.{get_or-drop, get_or-take}
-use Rattle.std.specs.declared.cmp.Ordering.{Ordering}
-use Rattle.std.specs.declared.cmp.Ordering.TheVariants.{Less, Equal, Greater}
-use Rattle.std.specs.Ordering.{is_eq, nat_cmp, ordering_then}
-use Rattle.std.specs.Cmp.{nat_cmp_is}
-use Rattle.std.specs.Cmp.Lexicographic.{slice_cmp}
-use Rattle.bw_model.specs.Bytes.{key_cmp}
-use Rattle.record_slots.specs.Layout.{text_size}
-use Rattle.record_slots.specs.Spelling.{text_words}
-use Rattle.record_slots.specs.Texts.{IsText}
+use Rattle.row_search.proofs.Words.{get_or-drop, get_or-take, Ordering, Less, Equal, Greater, is_eq, nat_cmp, ordering_then, nat_cmp_is, slice_cmp, key_cmp, text_size, text_words, IsText}
 use Rattle.row_search.proofs.WordsCmp.{by_words}
 
 settled : (o rest : Ordering) → is_eq o ≡ false → ordering_then o rest ≡ o

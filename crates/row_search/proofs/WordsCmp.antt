@@ -1,8 +1,6 @@
 -- Texts compare as their words do.
 use Rattle.std.proofs.Common.{◌≡◌, List, ℕ, sym, ◌∙◌, arith}
-use Rattle.bw_model.specs.Bytes.{key_cmp}
-use Rattle.record_slots.specs.Layout.{text_size}
-use Rattle.record_slots.specs.Texts.{IsText}
+use Rattle.row_search.proofs.Words.{key_cmp, text_size, IsText}
 use Rattle.row_search.proofs.KeyOrder.{text_order, words_cmp}
 
 pub by_words : (n m : ℕ) (words others text key : List ℕ) → IsText n words text → IsText m others key → words_cmp words n others m ≡ key_cmp text key

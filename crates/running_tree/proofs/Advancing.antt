@@ -1,28 +1,10 @@
 -- A seat that takes the step that its operation wants.
 use Rattle.std.proofs.Common.{◌≡◌, ℕ, List, Option, sym, subst}
 use Rattle.std.specs.Prelude.{IsSome, Some, None}
-use Rattle.atomic_table.specs.Seated.{TableId}
+use Rattle.running_tree.proofs.Words.{TableId, Reply, Limits, Answer, Done, StepOf, Leave, Record, AreThere, May, Fits, Knowledge, knows, learn, Recalled, recalls, command_of, IsWithin}
+use Rattle.running_tree.proofs.Words.{IsLawfulStep, Took, Advances, HaveLaws, IsLawfulRun, IsSeated, Seat, unfinished_command}
 use Rattle.op_machine.specs.machine.Actors.{Actor, ActsOn, IsGoing, IsToldActor, IsToldActorThere, command_left, running_command, wanted_by}
-use Rattle.bw_model.specs.declared.command.Reply.{Reply}
-use Rattle.tree_limits.specs.declared.limits.Limits.{Limits}
-use Rattle.bw_model.specs.declared.step.Answer.{Answer}
-use Rattle.bw_model.specs.declared.step.Answer.TheVariants.{Done}
-use Rattle.bw_model.specs.declared.step.Step.{Step as StepOf}
-use Rattle.bw_model.specs.declared.step.Step.TheVariants.{Leave}
-use Rattle.deltas.specs.declared.record.Record.{Record}
-use Rattle.round_model.specs.Machines.{AreThere}
 use Rattle.traces.specs.declared.trace.Entry.{Entry}
-use Rattle.traces.specs.discipline.Discipline.{May}
-use Rattle.traces.specs.discipline.Fitting.{Fits}
-use Rattle.traces.specs.discipline.Knowledge.{Knowledge, knows, learn}
-use Rattle.traces.specs.discipline.Recalled.{Recalled, recalls}
-use Rattle.traces.specs.trace.Trace.{command_of}
-use Rattle.traces.specs.trace.Within.{IsWithin}
-use Rattle.table_rule.specs.Steps.{IsLawfulStep, Took}
-use Rattle.running_tree.specs.Calls.{Advances}
-use Rattle.running_tree.specs.SeatLaws.{HaveLaws}
-use Rattle.running_tree.specs.Runs.{IsLawfulRun}
-use Rattle.running_tree.specs.Seats.{IsSeated, Seat, unfinished_command}
 use Rattle.running_tree.proofs.Seats.{Wants, known_after, wants, may, allowed, useful, halved, due, going, is_told, goes_so, no_reply, may_take, grown, leaves, command_then, seated_then}
 
 -- what an actor promises of an answer that it takes

@@ -1,23 +1,13 @@
 -- A run in which one actor alone has operations: each is a begin, steps without a reply, and a step with one.
 use Rattle.std.specs.Prelude.{◌≢◌, slice_get, Option, IsSome, ◌==◌, if◌then◌else◌}
-use Rattle.std.specs.List.{AllByRecursion}
+use Rattle.running_tree.proofs.Words.{AllByRecursion, Command, Reply, Limits, Answer, StepOf, Record, is_entry_of, own_entries, command_of, command_of-push, calls_along}
 use Rattle.std.proofs.Common.{◌≡◌, ◌≤◌, ◌++◌, ◌⊎◌, inl, inr, ℕ, List, [], ◌∷◌, length, take, refl, sym, ap, subst, ◌∙◌, true, false, Bool, Some, None, arith, append_assoc, append-nil}
 use mathlib.Core.Logic.{dite}
 use native.Mathlib.Decide.{ℕ_discrete}
-use Rattle.bw_model.specs.declared.command.Command.{Command}
-use Rattle.bw_model.specs.declared.command.Reply.{Reply}
-use Rattle.tree_limits.specs.declared.limits.Limits.{Limits}
-use Rattle.bw_model.specs.declared.step.Answer.{Answer}
-use Rattle.bw_model.specs.declared.step.Step.{Step as StepOf}
-use Rattle.deltas.specs.declared.record.Record.{Record}
 use Rattle.traces.specs.declared.trace.Entry.{Entry}
 use Rattle.traces.specs.declared.trace.Entry.TheVariants.{Begin, Step}
-use Rattle.traces.specs.discipline.Disciplined.{is_entry_of, own_entries}
 use Rattle.traces.specs.trace.Run.{IsNext, IsRun}
-use Rattle.traces.specs.trace.Trace.{command_of}
 use Rattle.traces.proofs.Pushes.{take-push_whole}
-use Rattle.traces.proofs.TraceLaws.{command_of-push}
-use Rattle.running_tree.specs.Calls.{calls_along}
 use Rattle.running_tree.proofs.Going.{answered_snoc}
 
 abbrev pub who : Entry → ℕ

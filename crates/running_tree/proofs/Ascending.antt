@@ -1,6 +1,6 @@
 -- Pairs whose keys ascend, and the log that sets them.
 use Rattle.std.specs.Prelude.{IsTrue, slice_index_or, if◌then◌else◌, Option}
-use Rattle.std.specs.List.{AllByRecursion, Contains, fold}
+use Rattle.running_tree.proofs.Words.{AllByRecursion, Contains, fold, IsPairsOf, KeysAscend}
 use Rattle.std.specs.List.Sorted.{IsStrictlySortedBy}
 use Rattle.std.specs.declared.cmp.Ordering.{Ordering}
 use Rattle.std.specs.Ordering.{is_eq, is_lt, ordering_reverse}
@@ -10,9 +10,7 @@ use Rattle.std.proofs.Common.{◌≡◌, ◌<◌, ◌≤◌, ◌+◌, ◌-◌, �
 use Rattle.std.proofs.lemmas.Cmp.{nat_list_cmp_total}
 use Rattle.bw_model.specs.Bytes.{key_cmp, is_in_range}
 use Rattle.bw_model.specs.Log.{Update, set, updated_key, updated_value, logged_value}
-use Rattle.bw_model.specs.Pairs.{IsPairsOf}
 use Rattle.listing.proofs.PairLaws.{equal_keys}
-use Rattle.running_tree.specs.Loaded.{KeysAscend}
 
 abbrev pub Pair : Type 0
 Pair = List ℕ × List ℕ

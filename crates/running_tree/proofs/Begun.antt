@@ -1,38 +1,15 @@
 -- A seat whose operation begins with its first step.
 use Rattle.std.proofs.Common.{◌≡◌, ◌≢◌, ◌<◌, ◌^◌, ℕ, List, [], ◌∷◌, ◌++◌, Option, Bool, true, false, refl, sym, ap, ◌∙◌, subst, arith}
-use Rattle.std.proofs.lemmas.Option.{same_Some}
+use Rattle.running_tree.proofs.Words.{same_Some, Actor, IsActor, IsActorWith, IsToldActor, command_at, command_left, running_command, wanted_by, UnderWay, steps_due, Command, Reply, Limits}
+use Rattle.running_tree.proofs.Words.{Answer, StepOf, Record, Begin, May, Extends, Recalled, blank, cause_worth, recalls, IsAnswer, command_of, memory_of, IsWithin, Hand, IsLawfulStep, Took}
+use Rattle.running_tree.proofs.Words.{Accounts, HasWord, HaveLaws, IsLawfulRun, IsSeated, Seat, unfinished_command, replaced_same, extends_self}
 use Rattle.std.specs.Prelude.{IsSome, Some, None, IsTrue}
-use Rattle.op_machine.specs.machine.Actors.{Actor, IsActor, IsActorWith, IsToldActor, command_at, command_left, running_command, wanted_by}
-use Rattle.op_machine.specs.machine.UnderWay.{UnderWay}
-use Rattle.op_machine.specs.machine.UnderWay.{steps_due}
-use Rattle.bw_model.specs.declared.command.Command.{Command}
-use Rattle.bw_model.specs.declared.command.Reply.{Reply}
-use Rattle.tree_limits.specs.declared.limits.Limits.{Limits}
-use Rattle.bw_model.specs.declared.step.Answer.{Answer}
-use Rattle.bw_model.specs.declared.step.Step.{Step as StepOf}
 use Rattle.bw_model.specs.declared.step.Step.TheVariants as step
-use Rattle.deltas.specs.declared.record.Record.{Record}
 use Rattle.traces.specs.declared.trace.Entry.{Entry}
-use Rattle.traces.specs.declared.trace.Entry.TheVariants.{Begin}
-use Rattle.traces.specs.discipline.Discipline.{May}
-use Rattle.traces.specs.discipline.Disciplined.{Extends}
 use Rattle.traces.specs.discipline.Knowledge.{Knowledge, after_begin, knows}
-use Rattle.traces.specs.discipline.Recalled.{Recalled, blank, cause_worth, recalls}
-use Rattle.traces.specs.trace.Steps.{IsAnswer}
-use Rattle.traces.specs.trace.Trace.{command_of, memory_of}
-use Rattle.traces.specs.trace.Within.{IsWithin}
-use Rattle.op_machine.specs.machine.Hands.{Hand}
-use Rattle.table_rule.specs.Steps.{IsLawfulStep, Took}
-use Rattle.tree_law.specs.Direct.{Accounts}
-use Rattle.tree_words.specs.Changes.{HasWord}
-use Rattle.running_tree.specs.SeatLaws.{HaveLaws}
-use Rattle.running_tree.specs.Runs.{IsLawfulRun}
-use Rattle.running_tree.specs.Seats.{IsSeated, Seat, unfinished_command}
 use Rattle.running_tree.proofs.LackLaws.{lack_begun}
 use Rattle.running_tree.proofs.Advancing.{Takes, known_may, may_go, seated_on, told_on, within}
 use Rattle.running_tree.proofs.Seats.{without_begin}
-use Rattle.deltas.proofs.Replaced.{replaced_same}
-use Rattle.traces.proofs.OwnEntries.{extends_self}
 
 -- an actor without a command is outside
 idle_outside : (limits : Limits) (a : ℕ) (k : Knowledge) (r : Recalled) (hand : Hand) (running : Option UnderWay) → command_at running ≡ None → IsActorWith limits a k r hand running → k.inside ≡ false

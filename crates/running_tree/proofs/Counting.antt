@@ -1,6 +1,6 @@
 -- Free numbers that are counted by words of free bits.
 use Rattle.std.proofs.Common.{◌≡◌, ◌<◌, ◌≤◌, ◌+◌, ◌*◌, ◌/◌, ◌%◌, ◌^◌, ℕ, zero, suc, Bool, true, false, List, count_ones, ltb, refl, sym, ap, subst, arith, ◌∙◌}
-use Rattle.std.specs.Prelude.{if◌then◌else◌}
+use Rattle.running_tree.proofs.Words.{if◌then◌else◌, Limits, Extends, command_of, memory_of, OwnLasts, Answer, Number, Record, count_of, Kind, IsSame, Seat}
 use Rattle.std.specs.Int.{bit_at}
 use Rattle.std.proofs.lemmas.Nat.{ones-le}
 use Rattle.std.proofs.lemmas.Nat.Bits.{bit_at-suc, bit_at_lowest}
@@ -8,22 +8,12 @@ use Rattle.std.proofs.Math.Nat.{pow-suc}
 use lib.Count.{ones_step}
 use Rattle.std.proofs.lemmas.Bool.{le-ltb, lt-ltb, ltb-true}
 use Rattle.deltas.specs.Memory.{Memory, how_many}
-use Rattle.tree_limits.specs.declared.limits.Limits.{Limits}
 use Rattle.traces.specs.declared.trace.Entry.{Entry}
-use Rattle.traces.specs.discipline.Disciplined.{Extends}
 use Rattle.traces.specs.trace.Steps.{IsAnswer, IsWordOf}
-use Rattle.traces.specs.trace.Trace.{command_of, memory_of}
-use Rattle.tree_law.specs.Own.{OwnLasts}
 use Rattle.traces.proofs.OwnEntries.{extends_on, extends_self}
-use Rattle.bw_model.specs.declared.step.Answer.{Answer}
-use Rattle.bw_model.specs.declared.step.Answer.TheVariants.{Number}
-use Rattle.deltas.specs.declared.record.Record.{Record}
 use Rattle.running_tree.specs.Room.{HasCounted, HasSeenRoom, HasWatched, bits_step, free_among, is_free}
-use Rattle.change_machine.specs.Taking.{count_of}
-use Rattle.change_machine.specs.declared.taking.Kind.{Kind}
 use Rattle.change_machine.specs.declared.taking.Kind.TheVariants.{Pid, Row}
 use Rattle.running_tree.specs.declared.room.Room.{Room}
-use Rattle.running_tree.specs.Seats.{IsSame, Seat}
 
 abbrev mark : Bool → ℕ
 mark b = if b then 1 else 0

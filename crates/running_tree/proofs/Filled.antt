@@ -1,33 +1,19 @@
 -- A run in which actor 0 alone has operations, which upsert pairs whose keys ascend: each replied Set, and the log has these pairs.
 use Rattle.std.specs.Prelude.{◌≢◌, Option}
-use Rattle.std.proofs.Common.{◌≡◌, ◌<◌, ◌≤◌, ◌+◌, ◌-◌, ◌++◌, ◌⊎◌, inl, inr, ℕ, zero, suc, List, [], ◌∷◌, length, map, take, refl, sym, ap, subst, ◌∙◌, Bool}
+use Rattle.running_tree.proofs.Words.{◌≡◌, ◌<◌, ◌≤◌, ◌+◌, ◌-◌, ◌++◌, ◌⊎◌, inl, inr, ℕ, zero, suc, List, [], ◌∷◌, length, map, take, refl, sym, ap, subst, ◌∙◌, Bool, Command, Upsert, Reply}
+use Rattle.running_tree.proofs.Words.{Limits, set, logged_value, IsPairsOf, reply_of, Extends, own_entries, IsListing, IsAnswered, dealt, dealt_from, other_parts, OwnLasts, calls_along}
+use Rattle.running_tree.proofs.Words.{calls_of, IsOneHistory, Seat, Called}
 use Rattle.std.proofs.Common.{Some, None, arith, append_assoc, append-nil, length-append}
 use mathlib.Core.Logic.{dite}
 use native.Mathlib.Decide.{ℕ_discrete}
-use Rattle.bw_model.specs.declared.command.Command.{Command}
-use Rattle.bw_model.specs.declared.command.Command.TheVariants.{Upsert}
-use Rattle.bw_model.specs.declared.command.Reply.{Reply}
 use Rattle.bw_model.specs.declared.command.Reply.TheVariants as kind
-use Rattle.tree_limits.specs.declared.limits.Limits.{Limits}
-use Rattle.bw_model.specs.Log.{set, logged_value}
-use Rattle.bw_model.specs.Pairs.{IsPairsOf}
-use Rattle.bw_model.specs.Replies.{reply_of}
 use Rattle.traces.specs.declared.trace.Entry.{Entry}
 use Rattle.traces.specs.declared.trace.Entry.TheVariants.{Begin, Step}
-use Rattle.traces.specs.discipline.Disciplined.{Extends, own_entries}
 use Rattle.traces.specs.trace.Trace.{command_of, turn_of}
-use Rattle.listing.specs.Listed.{IsListing}
-use Rattle.op_machine.specs.theorem.Answered.{IsAnswered}
 use Rattle.op_machine.specs.theorem.Linearized.{IsLinearized}
 use Rattle.op_machine.specs.theorem.Points.{HasPoints, log_at, log_of}
-use Rattle.table_rule.specs.Views.{dealt, dealt_from, other_parts}
-use Rattle.tree_law.specs.Own.{OwnLasts}
-use Rattle.running_tree.specs.Calls.{calls_along, calls_of}
 use Rattle.running_tree.specs.Loaded.{AreAt, AreLoaded, HaveUpserted, IsStopped, IsStoppedAt, KeysAscend, upsert_of}
-use Rattle.running_tree.specs.Runs.{IsOneHistory}
-use Rattle.running_tree.specs.Seats.{Seat}
 use Rattle.running_tree.specs.Trees.{Tree, fresh_seat}
-use Rattle.running_tree.specs.declared.called.Called.{Called}
 use Rattle.running_tree.proofs.Alone.{Blocks, absent, all_own, are_ours, in_blocks, AreOurs}
 use Rattle.running_tree.proofs.Ascending.{Pair, lists, sets_of, unset_before}
 use Rattle.running_tree.proofs.Gathering.{AllExtend}

@@ -1,16 +1,7 @@
 -- The other actors of a tree that is filled: they stand in one place, and see with a seat the longest run.
-use Rattle.std.proofs.Common.{◌≡◌, ℕ, List, [], ◌∷◌, ◌++◌, map, refl, sym, ap, ◌∙◌, subst}
-use Rattle.op_machine.specs.machine.Actors.{Actor}
-use Rattle.tree_limits.specs.declared.limits.Limits.{Limits}
+use Rattle.running_tree.proofs.Words.{◌≡◌, ℕ, List, [], ◌∷◌, ◌++◌, map, refl, sym, ap, ◌∙◌, subst, Actor, Limits, Extends, Part, Idle, Each, ExtendsFor, HasPart, IsRefreshed, SitsAt, Mine}
+use Rattle.running_tree.proofs.Words.{alone, first_part, other_parts, part, with_run, seen_of, SeatsLast, IsLawfulRun, IsSeenRun, IsSeat}
 use Rattle.traces.specs.declared.trace.Entry.{Entry}
-use Rattle.traces.specs.discipline.Disciplined.{Extends}
-use Rattle.table_rule.specs.declared.view.Part.{Part}
-use Rattle.table_rule.specs.declared.view.Reach.TheVariants.{Idle}
-use Rattle.table_rule.specs.Running.{Each, ExtendsFor}
-use Rattle.table_rule.specs.Views.{HasPart, IsRefreshed, SitsAt, Mine, alone, first_part, other_parts, part, with_run, seen_of}
-use Rattle.running_tree.specs.SeatLaws.{SeatsLast}
-use Rattle.running_tree.specs.Runs.{IsLawfulRun, IsSeenRun}
-use Rattle.running_tree.specs.Seats.{IsSeat}
 use Rattle.running_tree.proofs.Meeting.{seat_extends}
 
 -- the run goes on from what each has seen

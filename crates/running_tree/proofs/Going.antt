@@ -1,22 +1,11 @@
 -- A seat that goes on for several steps.
 use Rattle.std.proofs.Common.{◌≡◌, ◌<◌, ◌≤◌, ◌+◌, ◌-◌, ℕ, List, [], ◌∷◌, ◌++◌, length, refl, sym, ap, ◌∙◌, subst, arith, append_assoc, append-nil, eq-eqb, length-append}
 use Rattle.std.specs.Prelude.{Option, Some, None, IsSome}
-use Rattle.bw_model.specs.declared.command.Command.{Command}
-use Rattle.bw_model.specs.declared.command.Reply.{Reply}
-use Rattle.bw_model.specs.declared.step.Answer.{Answer}
-use Rattle.bw_model.specs.declared.step.Answer.TheVariants.{Done}
-use Rattle.bw_model.specs.declared.step.Step.{Step as StepOf}
-use Rattle.bw_model.specs.declared.step.Step.TheVariants.{Leave}
-use Rattle.deltas.specs.declared.record.Record.{Record}
+use Rattle.running_tree.proofs.Words.{Command, Reply, Answer, Done, StepOf, Leave, Record, own_entries, StartsWith, Called, IsSame, Seat, unfinished_command, own_push, own_extends}
 use Rattle.traces.specs.declared.trace.Entry.{Entry}
 use Rattle.traces.specs.declared.trace.Entry.TheVariants.{Begin, Step}
-use Rattle.traces.specs.discipline.Disciplined.{own_entries}
 use Rattle.running_tree.specs.Calls.{Advances, HasBegun, EndsWith, IsDone, IsCalled, IsFinished, IsResumed, IsSpent, IsStill, answered_last, call_after, calls_along, calls_in, own_count}
-use Rattle.running_tree.specs.Runs.{StartsWith}
-use Rattle.running_tree.specs.declared.called.Called.{Called}
 use Rattle.running_tree.specs.declared.called.Called.TheVariants as called
-use Rattle.running_tree.specs.Seats.{IsSame, Seat, unfinished_command}
-use Rattle.traces.proofs.OwnEntries.{own_push, own_extends}
 
 one_longer : (xs ys : List Entry) (e : Entry) → xs ≡ ys ++ e ∷ [] → length xs ≡ length ys + 1
 one_longer xs ys e is = ap length is ∙ length-append ys (e ∷ [])

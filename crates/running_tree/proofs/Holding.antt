@@ -1,28 +1,21 @@
 -- What a seat holds back between operations.
 use Rattle.std.proofs.Common.{◌≡◌, ◌≢◌, ◌<◌, ◌==◌, ℕ, List, [], ◌∷◌, map, length, Option, Some, None, true, false, inl, inr, refl, sym, subst, arith}
-use Rattle.std.specs.Prelude.{IfSome, if◌then◌else◌, is_some}
+use Rattle.running_tree.proofs.Words.{IfSome, if◌then◌else◌, is_some, same_Some, Limits, IsOwn, Recalled, Actor, IsActor, IsActorWith, command_at, running_command, IsAtRestWith, UnderWay}
+use Rattle.running_tree.proofs.Words.{AreSoMany}
 use Rattle.std.specs.List.{All, AllPairs, Contains}
 use Rattle.std.proofs.lemmas.Bool.{eq-eqb, eqb-true}
 use Rattle.std.proofs.lemmas.List.{get_or-map, length-map}
 use Rattle.std.proofs.lemmas.List.Elements.{All-cons, All-contains, All-nil, Contains-append_right, Contains-push_cases}
 use Rattle.std.proofs.lemmas.List.Kept.{AllPairs-cons}
 use Rattle.std.proofs.lemmas.Map.Made.{Contains-tail}
-use Rattle.std.proofs.lemmas.Option.{same_Some}
-use Rattle.tree_limits.specs.declared.limits.Limits.{Limits}
-use Rattle.traces.specs.discipline.Discipline.{IsOwn}
 use Rattle.traces.specs.discipline.Knowledge as known
 use Rattle.traces.specs.discipline.Knowledge.{Belongings, Knowledge, LimboMark, OwnRow}
-use Rattle.traces.specs.discipline.Recalled.{Recalled}
 use Rattle.epochs.specs.declared.entry.Entry.{Entry}
 use Rattle.epochs.specs.declared.entry.Stage.{Stage}
 use Rattle.epochs.specs.declared.entry.Stage.TheVariants as stage
 use Rattle.epochs.specs.Limbo.{IsLimboList, LimboList, stage_in, stage_of}
 use Rattle.change_machine.specs.Spares.{AreSpare, AreTheSpares, IsNoneOf, IsUnlinked, Spares}
-use Rattle.op_machine.specs.machine.Actors.{Actor, IsActor, IsActorWith, command_at, running_command}
-use Rattle.op_machine.specs.machine.Ops.{IsAtRestWith}
-use Rattle.op_machine.specs.machine.UnderWay.{UnderWay}
 use Rattle.sweep.specs.Kept.{Agrees}
-use Rattle.running_tree.specs.Held.{AreSoMany}
 
 -- an actor without an operation rests
 pub at_rest : (limits : Limits) (a : ℕ) (k : Knowledge) (r : Recalled) (at : Actor) → IsActor limits a k r at → running_command at ≡ None → IsAtRestWith limits a at.hand k

@@ -1,12 +1,6 @@
 -- The parts of seats that are joined.
 use Rattle.std.proofs.Common.{◌≡◌, ℕ, zero, suc, List, [], ◌∷◌, ◌++◌, length, Some, refl, sym, ap, ◌∙◌, subst, arith, length-append}
-use Rattle.std.specs.Prelude.{slice_get}
-use Rattle.tree_limits.specs.declared.limits.Limits.{Limits}
-use Rattle.table_rule.specs.declared.view.Part.{Part}
-use Rattle.table_rule.specs.declared.view.Reach.TheVariants.{Idle}
-use Rattle.table_rule.specs.Running.{Each}
-use Rattle.table_rule.specs.Views.{part}
-use Rattle.running_tree.specs.Seats.{Seat}
+use Rattle.running_tree.proofs.Words.{slice_get, Limits, Part, Idle, Each, part, Seat}
 use Rattle.running_tree.specs.Trees.{AreSeatsOf, HasPartsOf, IsSeatOf, Tree}
 use Rattle.traces.proofs.Pushes.{slice_get-push}
 

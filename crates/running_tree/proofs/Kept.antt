@@ -6,16 +6,11 @@ use mathlib.Core.Logic.{dite}
 use native.Mathlib.Decide.{ℕ_discrete}
 use mathlib.Core.Option.{some, some-injective, some-ne-none}
 use lib.ListN.{get_elem?}
-use Rattle.deltas.specs.declared.record.Record.{Record}
+use Rattle.running_tree.proofs.Words.{Record, Memory, words_of, Limits, row_at, slot_at, KeepMemory}
 use Rattle.deltas.specs.declared.record.Record.TheVariants.{Base, Put, Delete, Split, Term, Hold, Remove, Merge, Unterm}
-use Rattle.deltas.specs.Memory.{Memory}
 use Rattle.record_slots.specs.Layout.{last_at, row_size}
-use Rattle.record_slots.specs.Spelling.{words_of}
 use Rattle.record_slots.specs.Spells.{IsSpelling}
-use Rattle.tree_limits.specs.declared.limits.Limits.{Limits}
-use Rattle.tree_words.specs.Layout.{row_at, slot_at}
 use Rattle.tree_words.specs.Words.{words_in}
-use Rattle.running_tree.specs.Closed.{KeepMemory}
 
 pub word_at : (words : List ℕ) (i found : ℕ) → get_elem? words i ≡ some found → slice_index words i ≡ found
 word_at [] i found e = absurd (some-ne-none found (sym e))

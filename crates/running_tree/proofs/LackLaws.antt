@@ -1,31 +1,15 @@
 -- What an actor keeps of what ran out, along the entries of a run.
 use Rattle.std.proofs.Common.{◌≡◌, ℕ, List, [], ◌∷◌, ◌++◌, Option, Some, None, refl, sym, ap, ◌∙◌, subst, eq-eqb}
 use Rattle.std.specs.Prelude.{IsSome, true}
-use Rattle.std.specs.List.{fold}
+use Rattle.running_tree.proofs.Words.{fold, same_Some, Command, Reply, Answer, Done, StepOf, Leave, Record, Limits, Extends, is_entry_of, own_entries, Knowledge, knows, command_of}
+use Rattle.running_tree.proofs.Words.{own_extends, own_push, Kind, command_left, knows_then, EndsWith, IsLacking}
 use Rattle.std.proofs.lemmas.List.Sums.{fold-append}
-use Rattle.std.proofs.lemmas.Option.{same_Some}
-use Rattle.bw_model.specs.declared.command.Command.{Command}
-use Rattle.bw_model.specs.declared.command.Reply.{Reply}
 use Rattle.bw_model.specs.declared.command.Reply.TheVariants.{Full}
-use Rattle.bw_model.specs.declared.step.Answer.{Answer}
-use Rattle.bw_model.specs.declared.step.Answer.TheVariants.{Done}
-use Rattle.bw_model.specs.declared.step.Step.{Step as StepOf}
-use Rattle.bw_model.specs.declared.step.Step.TheVariants.{Leave}
-use Rattle.deltas.specs.declared.record.Record.{Record}
-use Rattle.tree_limits.specs.declared.limits.Limits.{Limits}
 use Rattle.traces.specs.declared.trace.Entry.{Entry}
 use Rattle.traces.specs.declared.trace.Entry.TheVariants.{Begin, Step}
-use Rattle.traces.specs.discipline.Disciplined.{Extends, is_entry_of, own_entries}
-use Rattle.traces.specs.discipline.Knowledge.{Knowledge, knows}
-use Rattle.traces.specs.trace.Trace.{command_of}
-use Rattle.traces.proofs.OwnEntries.{own_extends, own_push}
 use Rattle.change_machine.specs.Taking.{AllFull}
-use Rattle.change_machine.specs.declared.taking.Kind.{Kind}
 use Rattle.change_machine.specs.declared.taking.Kind.TheVariants.{Pid, Row}
-use Rattle.op_machine.specs.machine.Actors.{command_left, knows_then}
 use Rattle.op_machine.specs.machine.Lacks.{HasLack, TellsLack}
-use Rattle.running_tree.specs.Calls.{EndsWith}
-use Rattle.running_tree.specs.Lacking.{IsLacking}
 use Rattle.running_tree.specs.LastReply.{KeepsLack, last_reply, reply_after}
 use Rattle.running_tree.specs.Seats.{Seat, known_to}
 

@@ -1,19 +1,10 @@
 -- What a tree leaves that is closed with all its seats.
 use Rattle.std.proofs.Common.{◌≡◌, ◌≤◌, ℕ, zero, suc, List, [], ◌∷◌, length, Some, refl, subst, arith}
-use Rattle.std.specs.Prelude.{slice_get}
+use Rattle.running_tree.proofs.Words.{slice_get, Limits, Extends, IsListing, Part, Idle, Each, Running, part, ClosedTree, IsClosedWith, IsLeftBy, ListsAll, IsLawfulRun, IsOneHistory}
+use Rattle.running_tree.proofs.Words.{IsSeenRun, Seat}
 use Rattle.atomic_table.specs.Table.{Final, Seen}
-use Rattle.tree_limits.specs.declared.limits.Limits.{Limits}
 use Rattle.traces.specs.declared.trace.Entry.{Entry}
-use Rattle.traces.specs.discipline.Disciplined.{Extends}
-use Rattle.listing.specs.Listed.{IsListing}
 use Rattle.table_rule.specs.Closing.{AllStand, AreLeft, LeavesWords}
-use Rattle.table_rule.specs.declared.view.Part.{Part}
-use Rattle.table_rule.specs.declared.view.Reach.TheVariants.{Idle}
-use Rattle.table_rule.specs.Running.{Each, Running}
-use Rattle.table_rule.specs.Views.{part}
-use Rattle.running_tree.specs.Closed.{ClosedTree, IsClosedWith, IsLeftBy, ListsAll}
-use Rattle.running_tree.specs.Runs.{IsLawfulRun, IsOneHistory, IsSeenRun}
-use Rattle.running_tree.specs.Seats.{Seat}
 use Rattle.running_tree.specs.Trees.{AreClosed, HasPartsOf}
 
 each_weaker : (P Q : Part → Type 0) → ((p : Part) → P p → Q p) → (parts : List Part) → Each P parts → Each Q parts

@@ -1,24 +1,25 @@
-pub mod Seats
 pub mod Advancing
-pub mod Begun
-pub mod Going
-mod Resuming
-mod Joining
-pub mod Resting
-mod Owning
-mod Meeting
-mod Gathering
-mod Opened
-mod Ascending
 mod Alone
-mod Logged
-mod Filled
-mod Upserting
-mod Kept
-mod Listing
-pub mod Leaving
+mod Ascending
+pub mod Begun
 mod Counting
+mod Filled
+mod Gathering
+pub mod Going
 mod Holding
+mod Joining
+mod Kept
 mod LackLaws
-mod Standing
+pub mod Leaving
+mod Listing
+mod Logged
+mod Meeting
 mod OnWords
+mod Opened
+mod Owning
+pub mod Resting
+mod Resuming
+pub mod Seats
+mod Standing
+mod Upserting
+pub mod Words

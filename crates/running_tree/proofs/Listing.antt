@@ -1,12 +1,10 @@
 -- What is listed of a closed tree.
 use Rattle.std.proofs.Common.{◌≡◌, ℕ, List, [], length, Option, refl}
 use Rattle.traces.specs.declared.trace.Entry.{Entry}
-use Rattle.traces.specs.trace.Trace.{memory_of}
-use Rattle.deltas.specs.Memory.{Memory}
+use Rattle.running_tree.proofs.Words.{memory_of, Memory, ClosedTree, CountsAll, IsLeftBy, KeepMemory, ListsAll, ListsPage}
 use Rattle.listing.specs.Listed.{HavePages, IsAmong, IsPageFrom, PagesAreListed, PagesAreShown}
 use Rattle.tree_law.specs.Leaves.{HasLeafPages}
 use Rattle.tree_law.specs.TraceLaws.{LeavesStand}
-use Rattle.running_tree.specs.Closed.{ClosedTree, CountsAll, IsLeftBy, KeepMemory, ListsAll, ListsPage}
 
 module _ (stand : LeavesStand) (are : PagesAreListed) (closed : ClosedTree) where
   leaves_by : (run : List Entry) → IsLeftBy closed run → HasLeafPages closed.limits (memory_of closed.limits run)

@@ -1,25 +1,13 @@
 -- What an operation of a run in which one actor alone has operations adds to the log, and what it replies.
 use Rattle.std.specs.Prelude.{◌≢◌, slice_get, Option}
-use Rattle.std.specs.List.{AllByRecursion}
+use Rattle.running_tree.proofs.Words.{AllByRecursion, Command, Upsert, Reply, Limits, Answer, StepOf, Update, set, logged_value, reply_of, Record, Memory, slice_get_below, command_of-push}
 use Rattle.std.proofs.Common.{◌≡◌, ◌<◌, ◌≤◌, ◌+◌, ◌-◌, ◌++◌, ◌⊎◌, inl, inr, ℕ, zero, suc, List, [], ◌∷◌, length, take, refl, ap, subst, ◌∙◌, true, false, Bool, Some, None, arith, length-append}
 use mathlib.Core.Logic.{dite}
 use native.Mathlib.Decide.{ℕ_discrete}
-use Rattle.bw_model.specs.declared.command.Command.{Command}
-use Rattle.bw_model.specs.declared.command.Command.TheVariants.{Upsert}
-use Rattle.bw_model.specs.declared.command.Reply.{Reply}
 use Rattle.bw_model.specs.declared.command.Reply.TheVariants as kind
-use Rattle.tree_limits.specs.declared.limits.Limits.{Limits}
-use Rattle.bw_model.specs.declared.step.Answer.{Answer}
-use Rattle.bw_model.specs.declared.step.Step.{Step as StepOf}
-use Rattle.bw_model.specs.Log.{Update, set, logged_value}
-use Rattle.bw_model.specs.Replies.{reply_of}
-use Rattle.deltas.specs.declared.record.Record.{Record}
-use Rattle.deltas.specs.Memory.{Memory}
 use Rattle.traces.specs.declared.trace.Entry.{Entry}
 use Rattle.traces.specs.declared.trace.Entry.TheVariants.{Begin, Step}
 use Rattle.traces.specs.trace.Trace.{command_of, memory_at}
-use Rattle.traces.proofs.Pushes.{slice_get_below}
-use Rattle.traces.proofs.TraceLaws.{command_of-push}
 use Rattle.op_machine.specs.theorem.Answered.{IsAnswered, IsTrueReply, RepliesAt, RepliesAtPoint}
 use Rattle.op_machine.specs.theorem.Operations.{Finishes, IsOwnStep, Operation}
 use Rattle.op_machine.specs.theorem.Points.{HasPoints, IsPoint, log_at, updates_at, updates_by}

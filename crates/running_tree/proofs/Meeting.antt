@@ -1,21 +1,10 @@
 -- Two seats that meet, and a seat that heeds a note.
-use Rattle.std.proofs.Common.{◌≡◌, ℕ, List, [], ◌∷◌, ◌++◌, map, refl, sym, ap, ◌∙◌, subst}
-use Rattle.op_machine.specs.machine.Actors.{Actor, IsActor}
-use Rattle.op_machine.specs.machine.UnderWay.{steps_due}
-use Rattle.tree_limits.specs.declared.limits.Limits.{Limits}
+use Rattle.running_tree.proofs.Words.{◌≡◌, ℕ, List, [], ◌∷◌, ◌++◌, map, refl, sym, ap, ◌∙◌, subst, Actor, IsActor, steps_due, Limits, Extends, knows, recalls, Part, Idle, Noted, HasPart}
+use Rattle.running_tree.proofs.Words.{IsRefreshed, SitsAt, Mine, alone, first_part, other_parts, part, with_run, seen_of, Accounts, SeatsLast, IsLawfulRun, IsSeenRun, StartsWith, IsSeat}
+use Rattle.running_tree.proofs.Words.{IsSeated}
 use Rattle.traces.specs.declared.trace.Entry.{Entry}
-use Rattle.traces.specs.discipline.Disciplined.{Extends}
-use Rattle.traces.specs.discipline.Knowledge.{knows}
-use Rattle.traces.specs.discipline.Recalled.{recalls}
-use Rattle.table_rule.specs.declared.view.Part.{Part}
 use Rattle.table_rule.specs.declared.view.Reach.{Reach}
-use Rattle.table_rule.specs.declared.view.Reach.TheVariants.{Idle, Noted}
 use Rattle.table_rule.specs.Running.{BeginWithSteps, Each, ExtendsFor}
-use Rattle.table_rule.specs.Views.{HasPart, IsRefreshed, SitsAt, Mine, alone, first_part, other_parts, part, with_run, seen_of}
-use Rattle.tree_law.specs.Direct.{Accounts}
-use Rattle.running_tree.specs.SeatLaws.{SeatsLast}
-use Rattle.running_tree.specs.Runs.{IsLawfulRun, IsSeenRun, StartsWith}
-use Rattle.running_tree.specs.Seats.{IsSeat, IsSeated}
 use Rattle.running_tree.proofs.LackLaws.{lack_extends}
 
 -- what an actor keeps shows the same of a run that others have gone on with

@@ -1,12 +1,7 @@
 -- Which steps are taken on a word.
 use Rattle.std.proofs.Common.{◌≡◌, ℕ, Bor, refl, arith}
-use Rattle.bw_model.specs.Lent.{step_of_loan}
-use Rattle.bw_model.specs.declared.step.Step.{Step as StepOf}
+use Rattle.running_tree.proofs.Words.{step_of_loan, StepOf, Record, IsWithin, Limits, HasWord}
 use Rattle.bw_model.specs.declared.step.Step.TheVariants.{Slot, Row, Epoch, Announce, PidBits, RowBits, Place, Exchange, TakePid, TakeRow, Enter, Leave, Retire, ReusePids, ReuseRows}
-use Rattle.deltas.specs.declared.record.Record.{Record}
-use Rattle.traces.specs.trace.Within.{IsWithin}
-use Rattle.tree_limits.specs.declared.limits.Limits.{Limits}
-use Rattle.tree_words.specs.Changes.{HasWord}
 
 -- a step that neither reads a record nor places one
 pub on_word : (limits : Limits) (step : StepOf (Bor Record)) → IsWithin limits (step_of_loan step) → ((row : ℕ) → step ≡ Row row → ⊥)

@@ -1,25 +1,13 @@
 -- Seats of a tree that opens.
 use Rattle.std.proofs.Common.{◌≡◌, ◌<◌, ◌+◌, ◌-◌, ℕ, zero, suc, List, [], ◌∷◌, ◌++◌, length, map, Some, refl, sym, ap, ◌∙◌, subst, arith}
-use Rattle.std.specs.Prelude.{slice_get}
+use Rattle.running_tree.proofs.Words.{slice_get, TableId, opening, Limits, Extends, Recalled, blank, Part, Idle, Running, Mine, alone, dealt, dealt_from, first_part, other_parts, with_run}
+use Rattle.running_tree.proofs.Words.{seen_of, SeatsLast, AreAt, seat_at, IsLawfulRun, IsSeenRun, IsSeat, Seat}
 use mathlib.Core.Logic.{dite}
 use native.Mathlib.Decide.{ℕ_discrete}
-use Rattle.atomic_table.specs.Seated.{TableId}
-use Rattle.atomic_table.specs.Table.{opening}
 use Rattle.op_machine.specs.machine.Actors.{Actor, IsActor, idle_actor}
-use Rattle.tree_limits.specs.declared.limits.Limits.{Limits}
 use Rattle.traces.specs.declared.trace.Entry.{Entry}
-use Rattle.traces.specs.discipline.Disciplined.{Extends}
 use Rattle.traces.specs.discipline.Knowledge.{nothing}
-use Rattle.traces.specs.discipline.Recalled.{Recalled, blank}
-use Rattle.table_rule.specs.declared.view.Part.{Part}
-use Rattle.table_rule.specs.declared.view.Reach.TheVariants.{Idle}
-use Rattle.table_rule.specs.Running.{Running}
-use Rattle.table_rule.specs.Views.{Mine, alone, dealt, dealt_from, first_part, other_parts, with_run, seen_of}
-use Rattle.running_tree.specs.SeatLaws.{SeatsLast}
 use Rattle.tree_words.specs.Opening.{opening_words}
-use Rattle.running_tree.specs.Loaded.{AreAt, seat_at}
-use Rattle.running_tree.specs.Runs.{IsLawfulRun, IsSeenRun}
-use Rattle.running_tree.specs.Seats.{IsSeat, Seat}
 use Rattle.running_tree.specs.Trees.{AreFresh, IsSeatOf, IsTreeTable, Tree}
 use Rattle.running_tree.proofs.Gathering.{AllExtend}
 use Rattle.running_tree.proofs.Meeting.{seat_extends}

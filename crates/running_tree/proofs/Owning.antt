@@ -1,11 +1,6 @@
 -- A seat of the tree is one of its table.
-use Rattle.std.proofs.Common.{◌≡◌, ℕ, List, sym, ap, ◌∙◌, subst}
-use Rattle.atomic_table.specs.Seated.{TableId}
-use Rattle.tree_limits.specs.declared.limits.Limits.{Limits}
+use Rattle.running_tree.proofs.Words.{◌≡◌, ℕ, List, sym, ap, ◌∙◌, subst, TableId, Limits, IsOf, IsSame, Seat, IsSeatOf, IsTreeTable, Tree}
 use Rattle.traces.specs.declared.trace.Entry.{Entry}
-use Rattle.table_rule.specs.Views.{IsOf}
-use Rattle.running_tree.specs.Seats.{IsSame, Seat}
-use Rattle.running_tree.specs.Trees.{IsSeatOf, IsTreeTable, Tree}
 
 pub is_of : (limits key own : Limits) (table at : TableId) (number : ℕ) (seen : List Entry) (tree : Tree) (seat : Seat) → IsTreeTable limits key table
     → record { limits = limits; table = table } ≡ tree

@@ -1,11 +1,6 @@
 -- A call that was spent, and goes on.
-use Rattle.std.proofs.Common.{◌+◌, ℕ, ap, ◌∙◌, arith}
+use Rattle.running_tree.proofs.Words.{◌+◌, ℕ, ap, ◌∙◌, arith, Command, Reply, IsCalled, IsDone, IsFinished, IsResumed, IsSpent, IsStill, answered_last, calls_in, Seat, Called}
 use Rattle.std.specs.Prelude.{None}
-use Rattle.bw_model.specs.declared.command.Command.{Command}
-use Rattle.bw_model.specs.declared.command.Reply.{Reply}
-use Rattle.running_tree.specs.Calls.{IsCalled, IsDone, IsFinished, IsResumed, IsSpent, IsStill, answered_last, calls_in}
-use Rattle.running_tree.specs.Seats.{Seat}
-use Rattle.running_tree.specs.declared.called.Called.{Called}
 use Rattle.running_tree.specs.declared.called.Called.TheVariants as called
 use Rattle.running_tree.proofs.Going.{answered_snoc, starts_on}
 

@@ -1,33 +1,21 @@
 -- A seat whose operation wants a step may take it, whatever the others have done; and what the seat keeps then.
 use Rattle.std.proofs.Common.{◌≡◌, ◌<◌, ◌≤◌, ◌+◌, ◌*◌, inl, ℕ, List, [], ◌∷◌, ◌++◌, Option, refl, sym, ap, ◌∙◌, subst, arith, append-nil}
 use Rattle.std.specs.Prelude.{IsSome, IfSome, Some, None}
-use Rattle.std.proofs.lemmas.Option.{same_Some}
-use Rattle.op_machine.specs.machine.UnderWay.{UnderWay}
+use Rattle.running_tree.proofs.Words.{same_Some, UnderWay, steps_due, Command, Reply, Limits, Answer, StepOf, Leave, Record, Extends, Fits, IsAnswer, Hand, HaveLaws, IsLawfulRun, KeepsLack}
+use Rattle.running_tree.proofs.Words.{IsSeated, replaced_same}
 use Rattle.op_machine.specs.machine.Actors.{Actor, ActsOn, IsActorWith, IsGoing, IsRunning, IsToldActor, command_left, knows_then, running_command, wanted_by}
-use Rattle.op_machine.specs.machine.UnderWay.{steps_due}
-use Rattle.bw_model.specs.declared.command.Command.{Command}
-use Rattle.bw_model.specs.declared.command.Reply.{Reply}
-use Rattle.tree_limits.specs.declared.limits.Limits.{Limits}
-use Rattle.bw_model.specs.declared.step.Answer.{Answer}
 use Rattle.bw_model.specs.declared.step.Answer.TheVariants as answer
-use Rattle.bw_model.specs.declared.step.Step.{Step as StepOf}
-use Rattle.bw_model.specs.declared.step.Step.TheVariants.{Leave}
-use Rattle.deltas.specs.declared.record.Record.{Record}
 use Rattle.traces.specs.declared.trace.Entry.{Entry}
 use Rattle.traces.specs.declared.trace.Entry.TheVariants.{Step}
 use Rattle.traces.specs.discipline.Discipline.{IsAllowed, May, MayFree, MayReply}
-use Rattle.traces.specs.discipline.Disciplined.{Extends}
-use Rattle.traces.specs.discipline.Fitting.{Fits}
 use Rattle.traces.specs.discipline.Knowledge.{Knowledge, after_reply, knows, learn}
 use Rattle.traces.specs.discipline.Recalled.{IsStepSpent, cause_worth, Recalled, recall, recalls}
-use Rattle.traces.specs.trace.Steps.{IsAnswer}
 use Rattle.traces.specs.trace.Trace.{command_of, commands_after, memory_of}
 use Rattle.traces.specs.discipline.Useful.{IsUseful}
 use Rattle.op_machine.specs.theorem.Halves.{IsHalved}
 use Rattle.op_machine.specs.theorem.Readers.{IsOfUse}
 use Rattle.op_machine.proofs.Readers.{of_use}
 use Rattle.op_machine.specs.machine.Bounded.{left_at}
-use Rattle.op_machine.specs.machine.Hands.{Hand}
 use Rattle.op_machine.specs.machine.Shows.{ShowsState}
 use Rattle.op_machine.specs.machine.Spending.{sweep_left}
 use Rattle.op_machine.specs.machine.Tasks.{Task}
@@ -37,12 +25,7 @@ use Rattle.table_rule.specs.Steps.{IsLawfulStep, Took, with_step}
 use Rattle.progress.specs.ReaderStates.{PaysReader}
 use Rattle.tree_law.specs.Direct.{Accounts, StaysDirect}
 use Rattle.tree_law.specs.State.{IsState}
-use Rattle.running_tree.specs.SeatLaws.{HaveLaws}
-use Rattle.running_tree.specs.Runs.{IsLawfulRun}
-use Rattle.running_tree.specs.LastReply.{KeepsLack}
-use Rattle.running_tree.specs.Seats.{IsSeated}
 use Rattle.running_tree.proofs.LackLaws.{lack_stepped}
-use Rattle.deltas.proofs.Replaced.{replaced_same}
 
 -- no begin stands between the run and the step
 pub without_begin : (run : List Entry) (a : ℕ) (step : StepOf Record) (told : Answer Record) (reply : Option Reply) → run ++ Step a step told reply ∷ [] ≡ with_step run a None step told reply

@@ -1,28 +1,13 @@
 -- What a seat's actor has read stands where it lies.
-use Rattle.std.proofs.Common.{◌≡◌, ℕ, List, sym, refl, ap, ◌∙◌, subst}
+use Rattle.running_tree.proofs.Words.{◌≡◌, ℕ, List, sym, refl, ap, ◌∙◌, subst, TableId, Limits, Content, Record, Remove, AreThere, words_of, knows, Idle, ReadsFirst, Took, Mine, SitsAt}
+use Rattle.running_tree.proofs.Words.{seen_of, Seat, IsSeatOf, Tree, IsLawfulRun, HaveLaws, replaced_same}
 use Rattle.std.specs.Prelude.{Some, None, slice_index, unwrap_or}
-use Rattle.atomic_table.specs.Seated.{TableId}
-use Rattle.tree_limits.specs.declared.limits.Limits.{Limits}
-use Rattle.bw_model.specs.declared.step.Answer.TheVariants.{Content}
 use Rattle.bw_model.specs.declared.step.Step.TheVariants.{Row}
-use Rattle.deltas.specs.declared.record.Record.{Record}
-use Rattle.deltas.specs.declared.record.Record.TheVariants.{Remove}
-use Rattle.round_model.specs.Machines.{AreThere}
-use Rattle.record_slots.specs.Spelling.{words_of}
 use Rattle.record_slots.specs.Spells.{HasSpelling}
 use Rattle.traces.specs.declared.trace.Entry.{Entry}
-use Rattle.traces.specs.discipline.Knowledge.{knows}
-use Rattle.table_rule.specs.declared.view.Reach.TheVariants.{Idle}
-use Rattle.table_rule.specs.Steps.{ReadsFirst, Took}
-use Rattle.table_rule.specs.Views.{Mine, SitsAt, seen_of}
-use Rattle.running_tree.specs.Seats.{Seat}
-use Rattle.running_tree.specs.Trees.{IsSeatOf, Tree}
-use Rattle.running_tree.specs.Runs.{IsLawfulRun}
-use Rattle.running_tree.specs.SeatLaws.{HaveLaws}
 use Rattle.running_tree.specs.Stands.{Stands, read_by}
 use Rattle.running_tree.proofs.Owning.{limits_of, table_of}
 use Rattle.running_tree.proofs.Seats.{known_after}
-use Rattle.deltas.proofs.Replaced.{replaced_same}
 
 -- a record that an actor has read is below the limit, and may be looked at
 pub all_stand : HaveLaws → (limits : Limits) (table seat : TableId) (a : ℕ) (me : Mine) → IsLawfulRun limits (seen_of me) → seat ≡ table

@@ -1,16 +1,11 @@
 -- A seat that upserts pairs, one after the other.
 use Rattle.std.specs.Prelude.{◌≢◌, slice_get, Option}
 use Rattle.std.proofs.Common.{◌≡◌, ◌<◌, ◌+◌, ◌++◌, ℕ, List, [], ◌∷◌, length, take, get_or, refl, sym, ap, subst, ◌∙◌, Some, None, append_assoc, append-nil}
-use Rattle.bw_model.specs.declared.command.Command.{Command}
-use Rattle.bw_model.specs.declared.command.Reply.{Reply}
+use Rattle.running_tree.proofs.Words.{Command, Reply, IsCalled, IsDone, calls_in, IsSame, Seat, unfinished_command, Called, LoadStop}
 use Rattle.bw_model.specs.declared.command.Reply.TheVariants as reply
 use Rattle.listing.proofs.PairLaws.{take-grown}
-use Rattle.running_tree.specs.Calls.{IsCalled, IsDone, calls_in}
 use Rattle.running_tree.specs.Loaded.{CallsOff, GoesOnAfter, HasLoaded, HasStopped, HaveUpserted, IsStoppedAt, upsert_of}
-use Rattle.running_tree.specs.Seats.{IsSame, Seat, unfinished_command}
-use Rattle.running_tree.specs.declared.called.Called.{Called}
 use Rattle.running_tree.specs.declared.called.Called.TheVariants as called
-use Rattle.running_tree.specs.declared.called.LoadStop.{LoadStop}
 use Rattle.running_tree.specs.declared.called.LoadStop.TheVariants as stop
 use Rattle.running_tree.proofs.Ascending.{Pair}
 use Rattle.running_tree.proofs.Going.{starts_on}

@@ -1,30 +1,11 @@
 -- A planned record is what the discipline asks to be linked.
-use Rattle.std.proofs.Common.{◌≡◌, ◌<◌, ◌-◌, ℕ, suc, List, [], ◌∷◌, Bool, true, false, Some, ap, ◌∙◌, subst, arith}
-use Rattle.std.specs.Prelude.{IsTrue}
-use Rattle.base_page.specs.declared.item.Content.TheVariants.{Child}
-use Rattle.base_page.specs.Pages.{Page, content_at}
-use Rattle.deltas.specs.declared.record.Record.{Record}
+use Rattle.structure_changes.proofs.Words.{◌≡◌, ◌<◌, ◌-◌, ℕ, suc, List, [], ◌∷◌, Bool, true, false, Some, ap, ◌∙◌, subst, arith, IsTrue, Child, Page, content_at, Record, Hold, Merge, Remove}
+use Rattle.structure_changes.proofs.Words.{Term, Unterm, content_in, covers, is_removed, level_in, low_in, IsFitted, IsPageChain, ruled, SplitPlan, Version, IsSplitPlan, split_to}
+use Rattle.structure_changes.proofs.Words.{IsTermPlan, IsRootPlan, IsHoldPlan, IsRemovePlan, IsMergePlan, IsUntermPlan}
 use Rattle.deltas.specs.declared.record.Record.TheVariants as kind
-use Rattle.deltas.specs.declared.record.Hold.{Hold}
-use Rattle.deltas.specs.declared.record.Merge.{Merge}
-use Rattle.deltas.specs.declared.record.Remove.{Remove}
-use Rattle.deltas.specs.declared.record.Term.{Term}
-use Rattle.deltas.specs.declared.record.Unterm.{Unterm}
-use Rattle.traces.specs.chain.Chains.{content_in, covers, is_removed, level_in, low_in}
 use Rattle.traces.specs.discipline.Discipline.{MayHold, MayMerge, MayPost, MayRemove, MayRoot, MaySplit, MayUnterm}
-use Rattle.traces.specs.chain.Fitted.{IsFitted, IsPageChain}
 use Rattle.traces.specs.discipline.Knowledge.{Knowledge, Ready, Written}
-use Rattle.traces.proofs.FittedLaws.{ruled}
 use Rattle.traces.proofs.UnheldLaws.{unheld_by_items}
-use Rattle.structure_changes.specs.declared.split.SplitPlan.{SplitPlan}
-use Rattle.structure_changes.specs.Versions.{Version}
-use Rattle.structure_changes.specs.Splits.{IsSplitPlan, split_to}
-use Rattle.structure_changes.specs.Terms.{IsTermPlan}
-use Rattle.structure_changes.specs.Roots.{IsRootPlan}
-use Rattle.structure_changes.specs.Holds.{IsHoldPlan}
-use Rattle.structure_changes.specs.Removals.{IsRemovePlan}
-use Rattle.structure_changes.specs.Merges.{IsMergePlan}
-use Rattle.structure_changes.specs.Unterms.{IsUntermPlan}
 use Rattle.structure_changes.specs.Readings.{HasSeen, IsAfter}
 use Rattle.structure_changes.proofs.Places.{index_at, inside, made}
 use Rattle.structure_changes.proofs.RootFits.{some}

@@ -1,6 +1,5 @@
 -- How many deltas are many.
-use Rattle.std.proofs.Common.{◌≤◌, Bool, true, false, arith}
-use Rattle.std.specs.Prelude.{if◌then◌else◌}
+use Rattle.structure_changes.proofs.Words.{◌≤◌, Bool, true, false, arith, if◌then◌else◌}
 use Rattle.tree_limits.specs.declared.limits.Limits.{Limits}
 use Rattle.structure_changes.specs.Sizes.{many_of}
 

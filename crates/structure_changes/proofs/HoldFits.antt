@@ -1,25 +1,12 @@
 -- A hold fits its page: a term that is held beside unheld ones breaks no rule.
 use Rattle.std.proofs.Common.{◌≡◌, ◌≢◌, ◌⊎◌, inl, inr, ◌-◌, get_or, ◌<◌, ◌≤◌, ◌+◌, ℕ, suc, List, [], ◌∷◌, length, true, false, Some, None, refl, sym, ap, ◌∙◌, subst, arith}
 use Rattle.std.specs.Prelude.{IsTrue, ⊤}
-use Rattle.std.specs.declared.cmp.Ordering.TheVariants.{Less, Equal}
-use Rattle.std.proofs.lemmas.Bool.Decides.{eqb_tells}
-use Rattle.std.proofs.lemmas.List.Elements.{All-from_recursion, at_read, recursion_from_All}
-use Rattle.std.proofs.lemmas.Option.{same_Some}
-use Rattle.bw_model.specs.Bytes.{key_cmp, is_in_range}
-use Rattle.base_page.specs.declared.item.Content.TheVariants.{Child}
-use Rattle.base_page.specs.declared.item.Item.{Item}
-use Rattle.base_page.specs.Pages.{Page, content_at, IsAscending, IsOfLevel}
-use Rattle.base_page.specs.Rules.{AreApart, IsFirstAt, IsRuled, held_count, is_held}
-use Rattle.deltas.specs.declared.record.Record.{Record}
+use Rattle.structure_changes.proofs.Words.{Less, Equal, eqb_tells, All-from_recursion, at_read, recursion_from_All, same_Some, key_cmp, is_in_range, Child, Item, Page, content_at}
+use Rattle.structure_changes.proofs.Words.{IsAscending, IsOfLevel, AreApart, IsFirstAt, IsRuled, held_count, is_held, Record, Hold, IsSpellable, is_removed, low_in, FitsOver, Makes}
+use Rattle.structure_changes.proofs.Words.{ascends_after, by_order, fits_over, lacks_first, Version}
 use Rattle.deltas.specs.declared.record.Record.TheVariants as kind
-use Rattle.deltas.specs.declared.record.Hold.{Hold}
 use Rattle.deltas.specs.Fits.{FitsHold}
-use Rattle.deltas.specs.Spellable.{IsSpellable}
-use Rattle.traces.specs.chain.Chains.{is_removed, low_in}
-use Rattle.traces.specs.chain.Fitted.{FitsOver, Makes}
-use Rattle.traces.proofs.FittedLaws.{ascends_after, by_order, fits_over, lacks_first}
 use Rattle.traces.proofs.Updated.{all_put, greater, itself, put_ascends, put_contents, put_few, with_put}
-use Rattle.structure_changes.specs.Versions.{Version}
 use Rattle.structure_changes.specs.Holds.{CanHold, HasFreeNeighbours, IsFreeBeside, IsHoldPlan, hold_of}
 use Rattle.structure_changes.proofs.Places.{above_low, index_at, inside, links, of_made}
 

@@ -2,16 +2,9 @@
 use Rattle.std.proofs.Common.{◌≡◌, ◌≢◌, ◌<◌, ◌≤◌, ◌⊎◌, inl, inr, ◌↔◌, ℕ, zero, suc, List, [], ◌∷◌, length, Option, Some, None, refl, sym, ap, ◌∙◌, subst, arith}
 use Rattle.std.specs.Prelude.{IsTrue, MatchOption, unwrap_or}
 use Rattle.std.specs.List.{AllByRecursion, Contains}
-use Rattle.std.proofs.lemmas.Bool.Decides.{eqb_tells}
-use Rattle.base_page.specs.declared.item.Content.TheVariants.{Value}
-use Rattle.deltas.specs.declared.record.Record.{Record}
-use Rattle.deltas.specs.Records.{next_row}
-use Rattle.deltas.specs.Memory.{Memory, replaced_at}
-use Rattle.traces.specs.chain.Chains.{IsChainFrom, IsChainOf, chain_rows, content_in, covers, high_in, level_in, right_in}
-use Rattle.traces.specs.chain.SideChain.{LivePage, IsSideChainFrom, IsWholeFrom}
+use Rattle.structure_changes.proofs.Words.{eqb_tells, Value, Record, next_row, Memory, replaced_at, IsChainFrom, IsChainOf, chain_rows, content_in, covers, high_in, level_in, right_in}
+use Rattle.structure_changes.proofs.Words.{LivePage, IsSideChainFrom, IsWholeFrom, HasLeaves, IsSpareRow, KeepsMap, with_link, replaced_other}
 use Rattle.traces.proofs.ChainLaws.{IsSideChainFrom-unique}
-use Rattle.structure_changes.specs.Linking.{HasLeaves, IsSpareRow, KeepsMap, with_link}
-use Rattle.deltas.proofs.Replaced.{replaced_other}
 
 -- chains
 

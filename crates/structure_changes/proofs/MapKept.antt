@@ -1,35 +1,13 @@
 -- Linking what a plan gives keeps the leaves whole, and the map.
-use Rattle.std.proofs.Common.{◌≡◌, ◌≢◌, ◌<◌, ◌⊎◌, inl, inr, ℕ, List, [], ◌∷◌, true, false, Option, Some, None, refl, sym, ap, ◌∙◌, subst, arith}
-use Rattle.std.specs.Prelude.{IsTrue, MatchOption, not}
-use Rattle.std.specs.Ordering.{is_lt}
-use Rattle.bw_model.specs.Bytes.{is_below, is_in_range, is_under}
-use Rattle.base_page.specs.declared.item.Content.TheVariants.{Value}
-use Rattle.base_page.specs.Pages.{Page}
+use Rattle.structure_changes.proofs.Words.{◌≡◌, ◌≢◌, ◌<◌, ◌⊎◌, inl, inr, ℕ, List, [], ◌∷◌, true, false, Option, Some, None, refl, sym, ap, ◌∙◌, subst, arith, IsTrue, MatchOption, not, is_lt}
+use Rattle.structure_changes.proofs.Words.{is_below, is_in_range, is_under, Value, Page, Record, Hold, Merge, Remove, Term, Unterm, Memory, replaced_at, next_row, IsChainFrom, IsChainOf}
+use Rattle.structure_changes.proofs.Words.{chain_rows, content_in, covers, high_in, level_in, low_in, right_in, IsPageChain, LivePage, IsSideChainFrom, IsWholeFrom, ruled, SplitPlan}
+use Rattle.structure_changes.proofs.Words.{Version, IsSplitPlan, split_to, IsTermPlan, IsHoldPlan, IsRemovePlan, IsMergePlan, merge_of, IsUntermPlan}
 use Rattle.base_page.proofs.KeyLaws.{above, and_both, and_left, and_right, below-trans, below_from, below_reach, either, not_true}
-use Rattle.deltas.specs.declared.record.Record.{Record}
 use Rattle.deltas.specs.declared.record.Record.TheVariants as kind
-use Rattle.deltas.specs.declared.record.Hold.{Hold}
-use Rattle.deltas.specs.declared.record.Merge.{Merge}
-use Rattle.deltas.specs.declared.record.Remove.{Remove}
-use Rattle.deltas.specs.declared.record.Term.{Term}
-use Rattle.deltas.specs.declared.record.Unterm.{Unterm}
-use Rattle.deltas.specs.Memory.{Memory, replaced_at}
-use Rattle.deltas.specs.Records.{next_row}
-use Rattle.traces.specs.chain.Chains.{IsChainFrom, IsChainOf, chain_rows, content_in, covers, high_in, level_in, low_in, right_in}
 use Rattle.traces.specs.discipline.Discipline.{base_from}
-use Rattle.traces.specs.chain.Fitted.{IsPageChain}
-use Rattle.traces.specs.chain.SideChain.{LivePage, IsSideChainFrom, IsWholeFrom}
 use Rattle.traces.proofs.ChainLaws.{IsChainOf-unique}
-use Rattle.traces.proofs.FittedLaws.{ruled}
-use Rattle.structure_changes.specs.declared.split.SplitPlan.{SplitPlan}
-use Rattle.structure_changes.specs.Versions.{Version}
 use Rattle.structure_changes.specs.Linking.{HasLeaves, HasVersion, IsSpareRow, KeepsMap, with_link, with_root}
-use Rattle.structure_changes.specs.Splits.{IsSplitPlan, split_to}
-use Rattle.structure_changes.specs.Terms.{IsTermPlan}
-use Rattle.structure_changes.specs.Holds.{IsHoldPlan}
-use Rattle.structure_changes.specs.Removals.{IsRemovePlan}
-use Rattle.structure_changes.specs.Merges.{IsMergePlan, merge_of}
-use Rattle.structure_changes.specs.Unterms.{IsUntermPlan}
 use Rattle.structure_changes.proofs.Due.{covered}
 use Rattle.structure_changes.proofs.Leaves.{AreAlike, Avoids, Goes, Segment, Shows, apart, avoided, beside_keeps, chain_stays, link_stays, page_keeps, rest_stays}
 use Rattle.structure_changes.proofs.Places.{made}

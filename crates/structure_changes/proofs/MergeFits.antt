@@ -1,22 +1,10 @@
 -- A merge fits its page: the terms that come in are unheld, so the rules stay.
-use Rattle.std.proofs.Common.{◌≡◌, ◌≢◌, ◌<◌, ◌≤◌, ◌+◌, ◌++◌, ℕ, List, [], ◌∷◌, length, Bool, true, false, Some, refl, sym, ap, ◌∙◌, subst, arith}
-use Rattle.std.specs.Prelude.{if◌then◌else◌, is_some, IsTrue}
-use Rattle.std.specs.List.{AllByRecursion}
-use Rattle.bw_model.specs.Bytes.{is_below, is_under}
-use Rattle.base_page.specs.declared.item.Item.{Item}
-use Rattle.base_page.specs.Pages.{Page}
-use Rattle.base_page.specs.Rules.{AreApart, AreTerms, IsFirstAt, IsRuled, held_count, is_held}
+use Rattle.structure_changes.proofs.Words.{◌≡◌, ◌≢◌, ◌<◌, ◌≤◌, ◌+◌, ◌++◌, ℕ, List, [], ◌∷◌, length, Bool, true, false, Some, refl, sym, ap, ◌∙◌, subst, arith, if◌then◌else◌, is_some, IsTrue}
+use Rattle.structure_changes.proofs.Words.{AllByRecursion, is_below, is_under, Item, Page, AreApart, AreTerms, IsFirstAt, IsRuled, held_count, is_held, below_from, Record, Merge}
+use Rattle.structure_changes.proofs.Words.{IsSpellable, IsSpellablePage, high_in, level_in, low_in, right_in, FitsOver, IsFitted, Makes, fits_over, made_children, made_right, ruled, Version}
 use Rattle.base_page.proofs.CutLaws.{IsPage-joined, content_at-joined}
-use Rattle.base_page.proofs.KeyLaws.{below_from}
-use Rattle.deltas.specs.declared.record.Record.{Record}
 use Rattle.deltas.specs.declared.record.Record.TheVariants as kind
-use Rattle.deltas.specs.declared.record.Merge.{Merge}
 use Rattle.deltas.specs.Fits.{FitsMerge}
-use Rattle.deltas.specs.Spellable.{IsSpellable, IsSpellablePage}
-use Rattle.traces.specs.chain.Chains.{high_in, level_in, low_in, right_in}
-use Rattle.traces.specs.chain.Fitted.{FitsOver, IsFitted, Makes}
-use Rattle.traces.proofs.FittedLaws.{fits_over, made_children, made_right, ruled}
-use Rattle.structure_changes.specs.Versions.{Version}
 use Rattle.structure_changes.specs.Merges.{CanMerge, IsMergePlan, merge_of}
 use Rattle.structure_changes.proofs.Places.{not_empty, of_made}
 

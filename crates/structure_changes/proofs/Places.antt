@@ -1,28 +1,15 @@
 -- What the page of a chain has, and where its terms stand.
-use Rattle.std.proofs.Common.{◌≡◌, ◌≢◌, ◌<◌, ℕ, List, [], ◌∷◌, Bool, true, false, Option, Some, refl, sym, ap, ◌∙◌, subst}
-use Rattle.std.specs.Prelude.{if◌then◌else◌, IsTrue}
+use Rattle.structure_changes.proofs.Words.{◌≡◌, ◌≢◌, ◌<◌, ℕ, List, [], ◌∷◌, Bool, true, false, Option, Some, refl, sym, ap, ◌∙◌, subst, if◌then◌else◌, IsTrue, AllByRecursion, is_eq, is_lt}
+use Rattle.structure_changes.proofs.Words.{recursion_from_All, same_Some, key_cmp, is_below, is_in_range, Content, Child, Item, Page, content_at, IsOfLevel, IsFirstAt, IsRuled, is_held}
+use Rattle.structure_changes.proofs.Words.{Record, level_in, low_in, IsFitted, Makes, Version}
 use Rattle.std.specs.Bool.{Decides}
-use Rattle.std.specs.List.{AllByRecursion}
-use Rattle.std.specs.Ordering.{is_eq, is_lt}
 use Rattle.std.specs.declared.cmp.Ordering.{Ordering}
 use Rattle.std.specs.declared.cmp.Ordering.TheVariants.{Less, Equal, Greater}
-use Rattle.std.proofs.lemmas.List.Elements.{recursion_from_All}
 use Rattle.std.proofs.lemmas.Map.Lookups.{exact_bytes}
-use Rattle.std.proofs.lemmas.Option.{same_Some}
-use Rattle.bw_model.specs.Bytes.{key_cmp, is_below, is_in_range}
-use Rattle.base_page.specs.declared.item.Content.{Content}
-use Rattle.base_page.specs.declared.item.Content.TheVariants.{Child}
-use Rattle.base_page.specs.declared.item.Item.{Item}
-use Rattle.base_page.specs.Pages.{Page, content_at, IsOfLevel}
-use Rattle.base_page.specs.Rules.{IsFirstAt, IsRuled, is_held}
 use Rattle.base_page.proofs.KeyLaws.{and_left, itself, not_true, same}
-use Rattle.deltas.specs.declared.record.Record.{Record}
 use Rattle.deltas.specs.Spellable.{IsSpellableLink}
-use Rattle.traces.specs.chain.Chains.{level_in, low_in}
-use Rattle.traces.specs.chain.Fitted.{IsFitted, Makes}
 use Rattle.traces.proofs.FittedLaws.{Makes-base, by_order, content_all, found_first, items_unique}
 use Rattle.row_chain.specs.Placed.{PlacedChain}
-use Rattle.structure_changes.specs.Versions.{Version}
 use Rattle.structure_changes.specs.Sizes.{HasItems}
 
 -- one chain has one list of records

@@ -1,19 +1,8 @@
 -- A removal fits its page.
-use Rattle.std.proofs.Common.{◌≡◌, ◌≢◌, ◌≤◌, List, [], length, true, Some, refl, ◌∙◌, arith}
-use Rattle.std.specs.Prelude.{IsTrue}
-use Rattle.bw_model.specs.Bytes.{is_below}
-use Rattle.base_page.specs.declared.item.Content.TheVariants.{Child}
-use Rattle.base_page.specs.Pages.{Page, content_at}
-use Rattle.base_page.specs.Rules.{IsRuled}
-use Rattle.deltas.specs.declared.record.Record.{Record}
+use Rattle.structure_changes.proofs.Words.{◌≡◌, ◌≢◌, ◌≤◌, List, [], length, true, Some, refl, ◌∙◌, arith, IsTrue, is_below, Child, Page, content_at, IsRuled, Record, Remove, IsSpellable}
+use Rattle.structure_changes.proofs.Words.{low_in, FitsOver, IsFitted, Makes, fits_over, ruled, Version}
 use Rattle.deltas.specs.declared.record.Record.TheVariants as kind
-use Rattle.deltas.specs.declared.record.Remove.{Remove}
 use Rattle.deltas.specs.Fits.{FitsRemove}
-use Rattle.deltas.specs.Spellable.{IsSpellable}
-use Rattle.traces.specs.chain.Chains.{low_in}
-use Rattle.traces.specs.chain.Fitted.{FitsOver, IsFitted, Makes}
-use Rattle.traces.proofs.FittedLaws.{fits_over, ruled}
-use Rattle.structure_changes.specs.Versions.{Version}
 use Rattle.structure_changes.specs.Removals.{CanRemove, IsRemovePlan, remove_of}
 use Rattle.structure_changes.proofs.Places.{above_empty, above_low, held_inner, index_at, inside, made as made_of, not_empty, of_made}
 

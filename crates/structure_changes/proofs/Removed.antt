@@ -1,16 +1,8 @@
 -- A chain that is removed begins with its removal.
-use Rattle.std.proofs.Common.{◌≡◌, ◌≤◌, List, [], ◌∷◌, length, Bool, true, false, refl, sym, ◌∙◌, subst}
-use Rattle.std.specs.Prelude.{IsTrue}
-use Rattle.bw_model.specs.Bytes.{is_below}
-use Rattle.base_page.specs.declared.item.Item.{Item}
-use Rattle.base_page.specs.Pages.{Page}
-use Rattle.deltas.specs.declared.record.Record.{Record}
+use Rattle.structure_changes.proofs.Words.{◌≡◌, ◌≤◌, List, [], ◌∷◌, length, Bool, true, false, refl, sym, ◌∙◌, subst, IsTrue, is_below, Item, Page, Record, Remove, is_removed, low_in}
+use Rattle.structure_changes.proofs.Words.{FitsOver, IsFitted, Makes, items_unique}
 use Rattle.deltas.specs.declared.record.Record.TheVariants as kind
-use Rattle.deltas.specs.declared.record.Remove.{Remove}
 use Rattle.deltas.specs.Records.{removed_after}
-use Rattle.traces.specs.chain.Chains.{is_removed, low_in}
-use Rattle.traces.specs.chain.Fitted.{FitsOver, IsFitted, Makes}
-use Rattle.traces.proofs.FittedLaws.{items_unique}
 
 -- nothing else fits over a removed page
 removal : (newest : Record) (under : List Record) → FitsOver under newest → removed_after newest (is_removed under) ≡ true → (remove : Remove) × (newest ≡ kind.Remove remove)

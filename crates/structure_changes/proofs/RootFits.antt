@@ -1,25 +1,10 @@
 -- A new root keeps the rules of a page.
-use Rattle.std.proofs.Common.{◌≡◌, ◌<◌, ◌≤◌, ℕ, suc, List, [], ◌∷◌, Bool, true, false, Some, None, refl, sym, ap, ◌∙◌, subst, arith}
-use Rattle.std.specs.Prelude.{if◌then◌else◌, IsTrue}
-use Rattle.std.specs.Ordering.{is_eq}
-use Rattle.std.specs.declared.cmp.Ordering.TheVariants.{Less}
-use Rattle.std.specs.List.Sorted.{IsStrictlySortedBy}
-use Rattle.std.proofs.lemmas.List.Elements.{All-from_recursion}
-use Rattle.bw_model.specs.Bytes.{key_cmp, is_below, is_in_range, is_under}
-use Rattle.base_page.specs.declared.item.Content.{Content}
-use Rattle.base_page.specs.declared.item.Content.TheVariants.{Child}
-use Rattle.base_page.specs.declared.item.Item.{Item}
-use Rattle.base_page.specs.Pages.{Page, IsAscending, IsOfLevel, content_at}
-use Rattle.base_page.proofs.KeyLaws.{below_from, same}
+use Rattle.structure_changes.proofs.Words.{◌≡◌, ◌<◌, ◌≤◌, ℕ, suc, List, [], ◌∷◌, Bool, true, false, Some, None, refl, sym, ap, ◌∙◌, subst, arith, if◌then◌else◌, IsTrue, is_eq, Less}
+use Rattle.structure_changes.proofs.Words.{IsStrictlySortedBy, All-from_recursion, key_cmp, is_below, is_in_range, is_under, Content, Child, Item, Page, IsAscending, IsOfLevel, content_at}
+use Rattle.structure_changes.proofs.Words.{below_from, same, HasPid, IsPid, IsSpellablePage, low_in, level_in, IsFitted, items_unique, ruled, Version, IsNextTo}
 use Rattle.deltas.specs.declared.record.Record.TheVariants as kind
-use Rattle.deltas.specs.Spellable.{HasPid, IsPid, IsSpellablePage}
-use Rattle.traces.specs.chain.Chains.{low_in, level_in}
 use Rattle.traces.specs.discipline.Discipline.{root_over}
-use Rattle.traces.specs.chain.Fitted.{IsFitted}
-use Rattle.traces.proofs.FittedLaws.{items_unique, ruled}
-use Rattle.structure_changes.specs.Versions.{Version}
 use Rattle.structure_changes.specs.Roots.{CanRoot, IsRootPlan}
-use Rattle.structure_changes.specs.Neighbours.{IsNextTo}
 use Rattle.structure_changes.proofs.Places.{made}
 use Rattle.structure_changes.proofs.Removed.{lowest_stands}
 

@@ -1,25 +1,13 @@
 -- A split fits its page: both parts of the items keep the rules.
 use Rattle.std.proofs.Common.{◌≡◌, ◌≢◌, ◌<◌, ◌≤◌, ◌+◌, ◌/◌, ℕ, zero, suc, List, [], ◌∷◌, length, take, drop, Bool, true, false, Some, None, refl, sym, ap, ◌∙◌, subst, arith}
 use Rattle.std.specs.Prelude.{if◌then◌else◌, IfSome, IsTrue, not, slice_index_or}
-use Rattle.std.specs.List.{AllByRecursion, HoldsAt}
-use Rattle.std.specs.Ordering.{is_lt}
-use Rattle.std.proofs.lemmas.List.Elements.{All-from_recursion, recursion_from_All}
-use Rattle.bw_model.specs.Bytes.{is_below, is_in_range, is_under}
-use Rattle.base_page.specs.declared.item.Content.{Content}
-use Rattle.base_page.specs.declared.item.Content.TheVariants.{Value, Child}
-use Rattle.base_page.specs.declared.item.Item.{Item}
-use Rattle.base_page.specs.Pages.{Page, IsPage, IsOfLevel, content_at}
-use Rattle.base_page.specs.Rules.{AreApart, AreTerms, IsFirstAt, IsRuled, held_count, is_held}
-use Rattle.base_page.proofs.KeyLaws.{above, and_both, below_from}
+use Rattle.structure_changes.proofs.Words.{AllByRecursion, HoldsAt, is_lt, All-from_recursion, recursion_from_All, is_below, is_in_range, is_under, Content, Value, Child, Item, Page, IsPage}
+use Rattle.structure_changes.proofs.Words.{IsOfLevel, content_at, AreApart, AreTerms, IsFirstAt, IsRuled, held_count, is_held, above, and_both, below_from, HasPid, IsPid, IsSpellable}
+use Rattle.structure_changes.proofs.Words.{IsSpellablePage, content_in, high_in, is_removed, level_in, right_in, FitsOver, IsFitted, Makes, SplitPlan, Version}
 use Rattle.deltas.specs.declared.record.Record.TheVariants as kind
 use Rattle.deltas.specs.declared.record.Split.{Split}
 use Rattle.deltas.specs.Fits.{FitsSplit}
-use Rattle.deltas.specs.Spellable.{HasPid, IsPid, IsSpellable, IsSpellablePage}
-use Rattle.traces.specs.chain.Chains.{content_in, high_in, is_removed, level_in, right_in}
-use Rattle.traces.specs.chain.Fitted.{FitsOver, IsFitted, Makes}
 use Rattle.traces.proofs.FittedLaws.{fits_over, made_children, made_right, ruled as rules_of}
-use Rattle.structure_changes.specs.declared.split.SplitPlan.{SplitPlan}
-use Rattle.structure_changes.specs.Versions.{Version}
 use Rattle.structure_changes.specs.Splits.{IsSplitPlace, IsSplitPlan, IsUnheldAt}
 use Rattle.structure_changes.proofs.Places.{from_made, not_empty}
 

@@ -1,23 +1,10 @@
 -- A term fits its page: an item that isn't held, put among the items, breaks no rule.
-use Rattle.std.proofs.Common.{◌≡◌, ◌≢◌, ◌<◌, ◌≤◌, ℕ, suc, List, [], ◌∷◌, length, false, Some, None, refl, ◌∙◌, arith}
-use Rattle.std.specs.Prelude.{IsTrue}
-use Rattle.std.specs.declared.cmp.Ordering.TheVariants.{Less}
-use Rattle.std.proofs.lemmas.List.Elements.{All-from_recursion, recursion_from_All}
-use Rattle.bw_model.specs.Bytes.{key_cmp, is_in_range}
-use Rattle.base_page.specs.declared.item.Content.TheVariants.{Child}
-use Rattle.base_page.specs.declared.item.Item.{Item}
-use Rattle.base_page.specs.Pages.{Page, content_at, IsAscending, IsOfLevel}
-use Rattle.base_page.specs.Rules.{AreApart, AreTerms, IsRuled, held_count, is_held}
-use Rattle.deltas.specs.declared.record.Record.{Record}
+use Rattle.structure_changes.proofs.Words.{◌≡◌, ◌≢◌, ◌<◌, ◌≤◌, ℕ, suc, List, [], ◌∷◌, length, false, Some, None, refl, ◌∙◌, arith, IsTrue, Less, All-from_recursion, recursion_from_All}
+use Rattle.structure_changes.proofs.Words.{key_cmp, is_in_range, Child, Item, Page, content_at, IsAscending, IsOfLevel, AreApart, AreTerms, IsRuled, held_count, is_held, Record, Term}
+use Rattle.structure_changes.proofs.Words.{IsSpellable, content_in, covers, is_removed, level_in, low_in, FitsOver, Makes, by_order, fits_over, Version}
 use Rattle.deltas.specs.declared.record.Record.TheVariants as kind
-use Rattle.deltas.specs.declared.record.Term.{Term}
 use Rattle.deltas.specs.Fits.{FitsTerm}
-use Rattle.deltas.specs.Spellable.{IsSpellable}
-use Rattle.traces.specs.chain.Chains.{content_in, covers, is_removed, level_in, low_in}
-use Rattle.traces.specs.chain.Fitted.{FitsOver, Makes}
-use Rattle.traces.proofs.FittedLaws.{by_order, fits_over}
 use Rattle.traces.proofs.Updated.{all_put, greater, itself, put_ascends, put_contents, put_few, with_put}
-use Rattle.structure_changes.specs.Versions.{Version}
 use Rattle.structure_changes.specs.Terms.{IsTermPlan, term_of}
 use Rattle.structure_changes.proofs.Places.{above_low, at_first, from_made, links}
 

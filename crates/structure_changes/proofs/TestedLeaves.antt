@@ -1,19 +1,10 @@
 -- Leaves that tests make, under deletes that change nothing.
-use Rattle.std.proofs.Common.{◌≡◌, ◌≤◌, ◌+◌, ◌++◌, ℕ, length, List, [], ◌∷◌, false, None, refl, sym, ◌∙◌, subst, arith}
-use Rattle.std.specs.Prelude.{IsTrue}
+use Rattle.structure_changes.proofs.Words.{◌≡◌, ◌≤◌, ◌+◌, ◌++◌, ℕ, length, List, [], ◌∷◌, false, None, refl, sym, ◌∙◌, subst, arith, IsTrue, All-from_recursion, recursion_from_All}
+use Rattle.structure_changes.proofs.Words.{is_in_range, Content, Value, Child, Item, Page, IsPage, IsOfLevel, Record, HasPid, IsSpellablePage, covers, high_in, is_removed, level_in, low_in}
+use Rattle.structure_changes.proofs.Words.{FitsOver, IsFitted, IsPageChain}
 use Rattle.std.specs.List.{All, AllByRecursion}
-use Rattle.std.proofs.lemmas.List.Elements.{All-from_recursion, recursion_from_All}
-use Rattle.bw_model.specs.Bytes.{is_in_range}
-use Rattle.base_page.specs.declared.item.Content.{Content}
-use Rattle.base_page.specs.declared.item.Content.TheVariants.{Value, Child}
-use Rattle.base_page.specs.declared.item.Item.{Item}
-use Rattle.base_page.specs.Pages.{Page, IsPage, IsOfLevel}
 use Rattle.base_page.proofs.KeyLaws.{itself}
-use Rattle.deltas.specs.declared.record.Record.{Record}
 use Rattle.deltas.specs.declared.record.Record.TheVariants as kind
-use Rattle.deltas.specs.Spellable.{HasPid, IsSpellablePage}
-use Rattle.traces.specs.chain.Chains.{covers, high_in, is_removed, level_in, low_in}
-use Rattle.traces.specs.chain.Fitted.{FitsOver, IsFitted, IsPageChain}
 use Rattle.traces.proofs.FittedLaws.{over, ruled}
 use Rattle.traces.proofs.Updated.{delete_fits}
 use Rattle.structure_changes.proofs.Places.{made}

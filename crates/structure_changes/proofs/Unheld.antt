@@ -1,17 +1,6 @@
 -- On a leaf no term is held.
-use Rattle.std.proofs.Common.{◌≡◌, ℕ, List, [], ◌∷◌, false, refl, ◌∙◌, arith}
-use Rattle.std.specs.List.{AllByRecursion}
-use Rattle.std.proofs.lemmas.List.Elements.{recursion_from_All}
-use Rattle.base_page.specs.declared.item.Content.{Content}
-use Rattle.base_page.specs.declared.item.Content.TheVariants.{Value, Child}
-use Rattle.base_page.specs.declared.item.Item.{Item}
-use Rattle.base_page.specs.Pages.{IsOfLevel}
-use Rattle.base_page.specs.Rules.{held_count, is_held}
-use Rattle.deltas.specs.declared.record.Record.{Record}
-use Rattle.traces.specs.chain.Chains.{level_in}
-use Rattle.traces.specs.chain.Fitted.{IsFitted}
-use Rattle.traces.proofs.FittedLaws.{ruled}
-use Rattle.structure_changes.specs.Sizes.{HasNoneHeld}
+use Rattle.structure_changes.proofs.Words.{◌≡◌, ℕ, List, [], ◌∷◌, false, refl, ◌∙◌, arith, AllByRecursion, recursion_from_All, Content, Value, Child, Item, IsOfLevel, held_count, is_held}
+use Rattle.structure_changes.proofs.Words.{Record, level_in, IsFitted, ruled, HasNoneHeld}
 use Rattle.structure_changes.proofs.Places.{from_made, made}
 
 value_free : (level : ℕ) (content : Content) → level ≡ 0 → IsOfLevel level content → is_held content ≡ false

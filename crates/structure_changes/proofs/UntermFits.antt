@@ -1,26 +1,11 @@
 -- An unterm fits its page: a held term that goes breaks no rule.
-use Rattle.std.proofs.Common.{◌≡◌, ◌≤◌, ℕ, List, [], ◌∷◌, Bool, true, false, Some, None, refl, sym, ap, ◌∙◌, subst, arith}
-use Rattle.std.specs.Prelude.{if◌then◌else◌, IsTrue}
-use Rattle.std.specs.List.Sorted.{IsStrictlySortedBy}
-use Rattle.std.specs.Ordering.{is_eq}
-use Rattle.std.specs.declared.cmp.Ordering.TheVariants.{Less}
-use Rattle.std.proofs.lemmas.List.Elements.{All-from_recursion, recursion_from_All}
-use Rattle.std.proofs.lemmas.Option.{same_Some}
-use Rattle.bw_model.specs.Bytes.{key_cmp, is_in_range}
-use Rattle.base_page.specs.declared.item.Content.TheVariants.{Child}
-use Rattle.base_page.specs.declared.item.Item.{Item}
-use Rattle.base_page.specs.Pages.{Page, content_at, IsAscending, IsOfLevel}
-use Rattle.base_page.specs.Rules.{AreApart, IsFirstAt, IsRuled, held_count, is_held}
-use Rattle.deltas.specs.declared.record.Record.{Record}
+use Rattle.structure_changes.proofs.Words.{◌≡◌, ◌≤◌, ℕ, List, [], ◌∷◌, Bool, true, false, Some, None, refl, sym, ap, ◌∙◌, subst, arith, if◌then◌else◌, IsTrue, IsStrictlySortedBy, is_eq}
+use Rattle.structure_changes.proofs.Words.{Less, All-from_recursion, recursion_from_All, same_Some, key_cmp, is_in_range, Child, Item, Page, content_at, IsAscending, IsOfLevel, AreApart}
+use Rattle.structure_changes.proofs.Words.{IsFirstAt, IsRuled, held_count, is_held, Record, Unterm, IsSpellable, is_removed, low_in, FitsOver, IsFitted, Makes, ascends_after, by_order}
+use Rattle.structure_changes.proofs.Words.{fits_over, lacks_first, ruled, Version}
 use Rattle.deltas.specs.declared.record.Record.TheVariants as kind
-use Rattle.deltas.specs.declared.record.Unterm.{Unterm}
 use Rattle.deltas.specs.Fits.{FitsUnterm}
-use Rattle.deltas.specs.Spellable.{IsSpellable}
-use Rattle.traces.specs.chain.Chains.{is_removed, low_in}
-use Rattle.traces.specs.chain.Fitted.{FitsOver, IsFitted, Makes}
-use Rattle.traces.proofs.FittedLaws.{ascends_after, by_order, fits_over, lacks_first, ruled}
 use Rattle.traces.proofs.Updated.{all_without, chosen, greater, itself, without, without_ascends, without_contents, without_few}
-use Rattle.structure_changes.specs.Versions.{Version}
 use Rattle.structure_changes.specs.Unterms.{CanUnterm, IsUntermPlan, unterm_of}
 use Rattle.structure_changes.proofs.Places.{above_low, held_inner, index_at, inside, links, made as made_of}
 

@@ -2,28 +2,16 @@
 -- at the mark the log has the key, and the memory hasn't.
 use Rattle.std.specs.Prelude.{codes, slice_get, take, map}
 use Rattle.std.specs.Option.{option_to_list}
-use Rattle.std.proofs.Common.{◌≡◌, ◌<◌, ◌≤◌, ℕ, suc, List, [], ◌∷◌, ◌++◌, Bool, true, Some, None, Option, refl, ap, arith, inl, inr, lit<, ◌∙◌}
-use Rattle.bw_model.specs.declared.command.Command.{Command}
-use Rattle.bw_model.specs.declared.command.Command.TheVariants.{Insert}
+use Rattle.op_machine.proofs.Words.{◌≡◌, ◌<◌, ◌≤◌, ℕ, suc, List, [], ◌∷◌, ◌++◌, Bool, true, Some, None, Option, refl, ap, arith, inl, inr, lit<, ◌∙◌, Command, Insert, reply_of, update_of}
+use Rattle.op_machine.proofs.Words.{Memory, Entry, Spells, IsRun, memory_at, turn_of, slice_get_below, IsRun-from_steps, Operation, IsOwnStep, Finishes, IsQuiet, HasMapOf, IsLinearized}
 use Rattle.bw_model.specs.declared.command.Reply.TheVariants as reply
 use Rattle.bw_model.specs.Log.{Update, set, logged_value}
-use Rattle.bw_model.specs.Replies.{reply_of, update_of}
 use Rattle.bw_model.proofs.LogLaws.{logged_value-push}
 use Rattle.bw_model.specs.declared.step.Step.TheVariants.{Leave}
 use Rattle.bw_model.specs.declared.step.Answer.TheVariants.{Done}
-use Rattle.deltas.specs.Memory.{Memory}
-use Rattle.traces.specs.declared.trace.Entry.{Entry}
 use Rattle.traces.specs.declared.trace.Entry.TheVariants.{Begin, Step}
-use Rattle.traces.specs.chain.SideChain.{Spells}
-use Rattle.traces.specs.trace.Run.{IsRun}
-use Rattle.traces.specs.trace.Trace.{memory_at, turn_of}
-use Rattle.traces.proofs.Pushes.{slice_get_below}
-use Rattle.traces.proofs.RunLaws.{IsRun-from_steps}
-use Rattle.op_machine.specs.theorem.Operations.{Operation, IsOwnStep, Finishes}
 use Rattle.op_machine.specs.theorem.Points.{HasPoints, log_at, updates_at, updates_by}
 use Rattle.op_machine.specs.theorem.Answered.{IsAnswered, IsTrueReply, RepliesAt}
-use Rattle.op_machine.specs.theorem.Quiet.{IsQuiet, HasMapOf}
-use Rattle.op_machine.specs.theorem.Linearized.{IsLinearized}
 use Rattle.op_machine.specs.theorem.Examples.{small, opening_leaf, claimed_insert}
 use Rattle.op_machine.proofs.Listed.{EachAt-get, UpTo-at, stands_at}
 use Rattle.op_machine.proofs.runs.Kinds.{is_begin, leaf_at}

@@ -1,18 +1,10 @@
 -- Operations that read, or fill, slots of pages that nobody has taken, or take numbers without end.
-use Rattle.std.specs.Prelude.{codes, slice_get}
-use Rattle.std.proofs.Common.{◌≡◌, ◌<◌, ◌≤◌, ℕ, zero, suc, Some, None, Bool, true, false, refl, arith, inl, inr, lit<, ◌∙◌}
-use Rattle.bw_model.specs.declared.command.Command.{Command}
-use Rattle.bw_model.specs.declared.command.Command.TheVariants.{Insert}
+use Rattle.op_machine.proofs.Words.{codes, slice_get, ◌≡◌, ◌<◌, ◌≤◌, ℕ, zero, suc, Some, None, Bool, true, false, refl, arith, inl, inr, lit<, ◌∙◌, Command, Insert, TakePid, Entry}
+use Rattle.op_machine.proofs.Words.{HasFewChanges, IsDirect, Operation, IsInPhase, Phase, free, owned}
 use Rattle.bw_model.specs.declared.step.Answer.TheVariants.{Whether}
 use Rattle.bw_model.specs.declared.step.Link.TheVariants as link
-use Rattle.bw_model.specs.declared.step.Step.TheVariants.{TakePid}
-use Rattle.traces.specs.declared.trace.Entry.{Entry}
 use Rattle.traces.specs.declared.trace.Entry.TheVariants.{Begin, Step}
-use Rattle.op_machine.specs.theorem.Changes.{HasFewChanges}
-use Rattle.op_machine.specs.theorem.Direct.{IsDirect}
 use Rattle.op_machine.specs.theorem.Examples.{small, foreign_fill, many_takes, unmet_read}
-use Rattle.op_machine.specs.theorem.Operations.{Operation}
-use Rattle.op_machine.specs.theorem.Phases.{IsInPhase, Phase, free, owned}
 use Rattle.op_machine.proofs.Listed.{passes_at}
 use Rattle.op_machine.proofs.PhaseLaws.{is_taken, moved_by_step}
 

@@ -1,40 +1,19 @@
 -- An actor inserts a key into the opening tree and looks it up: a run with its points, answered and quiet.
-use Rattle.std.specs.Prelude.{codes}
-use Rattle.std.proofs.Common.{◌≡◌, ◌<◌, ◌⊎◌, ℕ, suc, List, [], ◌∷◌, Bool, true, false, Some, None, Option, ◌++◌, refl, sym, ap, subst, arith, inl, inr, lit<, ◌∙◌}
+use Rattle.op_machine.proofs.Words.{codes, ◌≡◌, ◌<◌, ◌⊎◌, ℕ, suc, List, [], ◌∷◌, Bool, true, false, Some, None, Option, ◌++◌, refl, sym, ap, subst, arith, inl, inr, lit<, ◌∙◌, bit_at}
+use Rattle.op_machine.proofs.Words.{eqb-true, Command, Get, Insert, StepOf, Answer, Record, opening, ShowsRow, IsRun, memory_at, TakesStep, Happens, IsRun-from_steps, EndAtLeaves, Finishes}
+use Rattle.op_machine.proofs.Words.{IsOperation, IsOwnStep, Operation, RepliesAtLeave, option_map, is_eq, Value, log_at, HasPoints, IsPoint, has_point, IsAnswered, IsQuiet, HasMapOf, map}
+use Rattle.op_machine.proofs.Words.{turn_of, IsFaithful, KnowsRow, IsLinearized}
 use Rattle.std.specs.Prelude.{slice_get, take, if◌then◌else◌, ◌*◌, ◌+◌, ◌-◌, ◌^◌, ◌==◌}
-use Rattle.std.specs.Int.{bit_at}
-use Rattle.std.proofs.lemmas.Bool.{eqb-true}
-use Rattle.bw_model.specs.declared.command.Command.{Command}
-use Rattle.bw_model.specs.declared.command.Command.TheVariants.{Get, Insert}
 use Rattle.bw_model.specs.declared.command.Reply.{Reply}
 use Rattle.bw_model.specs.declared.command.Reply.TheVariants as reply
-use Rattle.bw_model.specs.declared.step.Step.{Step as StepOf}
 use Rattle.bw_model.specs.declared.step.Step.TheVariants.{Slot, Row, Exchange}
-use Rattle.bw_model.specs.declared.step.Answer.{Answer}
 use Rattle.bw_model.specs.declared.step.Answer.TheVariants.{Number, Whether}
-use Rattle.deltas.specs.declared.record.Record.{Record}
-use Rattle.deltas.specs.Memory.{opening}
 use Rattle.traces.specs.declared.trace.Entry.TheVariants.{Begin, Step}
 use Rattle.traces.specs.trace.Steps.{IsWordOf}
-use Rattle.traces.specs.discipline.Learnt.{ShowsRow}
-use Rattle.traces.specs.trace.Run.{IsRun}
-use Rattle.traces.specs.trace.Trace.{memory_at, TakesStep, Happens}
-use Rattle.traces.proofs.RunLaws.{IsRun-from_steps}
-use Rattle.op_machine.specs.theorem.Operations.{EndAtLeaves, Finishes, IsOperation, IsOwnStep, Operation, RepliesAtLeave}
-use Rattle.std.specs.Option.{option_map}
-use Rattle.std.specs.Ordering.{is_eq}
 use Rattle.bw_model.specs.Bytes.{key_cmp}
-use Rattle.base_page.specs.declared.item.Content.TheVariants.{Value}
 use Rattle.bw_model.specs.declared.step.Link.TheVariants as link
 use Rattle.bw_model.specs.Log.{Update, set}
-use Rattle.op_machine.specs.theorem.Points.{log_at, HasPoints, IsPoint, has_point}
-use Rattle.op_machine.specs.theorem.Answered.{IsAnswered}
-use Rattle.op_machine.specs.theorem.Quiet.{IsQuiet, HasMapOf}
-use Rattle.std.specs.Prelude.{map}
-use Rattle.traces.specs.trace.Trace.{turn_of}
-use Rattle.op_machine.specs.theorem.Faithful.{IsFaithful, KnowsRow}
 use Rattle.op_machine.specs.theorem.Examples.{small, opening_leaf, put_a, insert_and_lookup}
-use Rattle.op_machine.specs.theorem.Linearized.{IsLinearized}
 use Rattle.op_machine.specs.theorem.Updates.{LinksUpdate, IsUpdating, UpdatesAtLinks}
 use Rattle.op_machine.proofs.Listed.{EachAt-get, UpTo, UpTo-at, UpTo-parts, all_below-at, behind, same_operation, stands_at}
 use Rattle.op_machine.proofs.runs.Kinds.{is_begin, is_done, leaf_at, may_place, one_begin, one_reply, one_row, outside, reads_row, wins}

@@ -1,21 +1,11 @@
 -- Tests of the entries of runs that are written out, and what follows where all of them pass.
 use Rattle.std.proofs.Common.{◌≡◌, ◌==◌, ◌||◌, ℕ, List, [], ◌∷◌, Bool, true, false, Some, None, Option, refl, inl, inr, lit<}
-use Rattle.std.specs.Prelude.{not}
-use Rattle.std.proofs.lemmas.Bool.{eqb-true}
-use Rattle.bw_model.specs.declared.command.Command.{Command}
+use Rattle.op_machine.proofs.Words.{not, eqb-true, Command, StepOf, Answer, Record, Entry, IsChainOf, MayPlace, memory_at, memory_of, TakesStep, small, opening_leaf}
 use Rattle.bw_model.specs.declared.command.Reply.{Reply}
-use Rattle.bw_model.specs.declared.step.Step.{Step as StepOf}
 use Rattle.bw_model.specs.declared.step.Step.TheVariants.{Row, Exchange, Announce, ReusePids, ReuseRows}
-use Rattle.bw_model.specs.declared.step.Answer.{Answer}
 use Rattle.bw_model.specs.declared.step.Answer.TheVariants.{Whether}
-use Rattle.deltas.specs.declared.record.Record.{Record}
-use Rattle.traces.specs.declared.trace.Entry.{Entry}
 use Rattle.traces.specs.declared.trace.Entry.TheVariants.{Begin, Step}
-use Rattle.traces.specs.chain.Chains.{IsChainOf}
-use Rattle.traces.specs.trace.Run.{MayPlace}
-use Rattle.traces.specs.trace.Trace.{memory_at, memory_of, TakesStep}
 use Rattle.traces.proofs.ChainLaws.{unplaced}
-use Rattle.op_machine.specs.theorem.Examples.{small, opening_leaf}
 use Rattle.op_machine.specs.theorem.Faithful.{touches_pages}
 use Rattle.op_machine.proofs.Listed.{all_at, passes_at}
 

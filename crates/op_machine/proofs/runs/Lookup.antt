@@ -1,51 +1,27 @@
 -- An actor looks a key up in the opening tree, and finds none: a run with its point, answered, quiet and faithful.
-use Rattle.std.specs.Prelude.{codes}
+use Rattle.op_machine.proofs.Words.{codes, Command, Get, StepOf, Answer, Record, Memory, opening, Entry, IsRun, map, turn_of, Happens, memory_at, TakesStep, IsStep, IsRun-from_steps}
+use Rattle.op_machine.proofs.Words.{EndAtLeaves, Finishes, IsOperation, IsOwnStep, Operation, RepliesAtLeave, Update, logged_value, reply_of, log_at, HasPoints, IsPoint, has_point}
+use Rattle.op_machine.proofs.Words.{IsAnswered, IsQuiet, HasMapOf, cause_worth, IsChainOf, level_in, IsChainOf-unique, slice_get_below, HasFewChanges, IsFaithful, KnowsRow, Phase, MovesAt}
+use Rattle.op_machine.proofs.Words.{MovesPhase, KeepsPhases, indexed, takes, splits, becomes_root, terms, under_root, holds, removes, merges, unterms, reuses, IsFreedByRule, UpdatesAtLinks}
 use Rattle.std.proofs.Common.{◌≡◌, ◌<◌, ◌≤◌, ℕ, suc, List, [], ◌∷◌, ◌++◌, length, Bool, true, false, Some, None, refl, sym, subst, ap, arith, inl, inr, lit<, lit≤, ◌+◌, ◌*◌, ◌∙◌}
 use Rattle.std.specs.Prelude.{drop, min, slice_get, slice_range, take, ◌-◌}
 use Rattle.std.specs.List.{count_by}
 use Rattle.std.proofs.lemmas.Bool.{cases_lt}
 use Rattle.std.proofs.lemmas.List.{length-drop, length-take, take_all}
 use Rattle.std.proofs.lemmas.List.Sums.{count_by-le-length}
-use Rattle.bw_model.specs.declared.command.Command.{Command}
-use Rattle.bw_model.specs.declared.command.Command.TheVariants.{Get}
 use Rattle.bw_model.specs.declared.command.Reply.{Reply}
 use Rattle.bw_model.specs.declared.command.Reply.TheVariants as reply
-use Rattle.bw_model.specs.declared.step.Step.{Step as StepOf}
 use Rattle.bw_model.specs.declared.step.Step.TheVariants.{Slot, Row, Place, Exchange, TakePid, TakeRow, ReusePids, ReuseRows}
-use Rattle.bw_model.specs.declared.step.Answer.{Answer}
 use Rattle.bw_model.specs.declared.step.Answer.TheVariants.{Number}
-use Rattle.deltas.specs.declared.record.Record.{Record}
-use Rattle.deltas.specs.Memory.{Memory, opening}
-use Rattle.traces.specs.declared.trace.Entry.{Entry}
 use Rattle.traces.specs.declared.trace.Entry.TheVariants.{Begin, Step}
-use Rattle.traces.specs.trace.Run.{IsRun}
-use Rattle.std.specs.Prelude.{map}
-use Rattle.traces.specs.trace.Trace.{turn_of}
-use Rattle.traces.specs.trace.Trace.{Happens, memory_at, TakesStep, IsStep}
-use Rattle.traces.proofs.RunLaws.{IsRun-from_steps}
-use Rattle.op_machine.specs.theorem.Operations.{EndAtLeaves, Finishes, IsOperation, IsOwnStep, Operation, RepliesAtLeave}
-use Rattle.bw_model.specs.Log.{Update, logged_value}
-use Rattle.bw_model.specs.Replies.{reply_of}
-use Rattle.op_machine.specs.theorem.Points.{log_at, HasPoints, IsPoint, has_point}
-use Rattle.op_machine.specs.theorem.Answered.{IsAnswered}
-use Rattle.op_machine.specs.theorem.Quiet.{IsQuiet, HasMapOf}
-use Rattle.traces.specs.discipline.Recalled.{cause_worth}
-use Rattle.traces.specs.chain.Chains.{IsChainOf, level_in}
-use Rattle.traces.proofs.ChainLaws.{IsChainOf-unique}
-use Rattle.traces.proofs.Pushes.{slice_get_below}
-use Rattle.op_machine.specs.theorem.Changes.{HasFewChanges}
 use Rattle.op_machine.specs.theorem.Direct.{IsDirect, is_step_of}
 use Rattle.op_machine.specs.theorem.Progress.{AreAmong, ChangesTree, ReadsAtOnce, is_begin as begins_one, is_end, is_step, steps_from, takes_number}
 use Rattle.op_machine.specs.theorem.Readers.{IsReading}
-use Rattle.op_machine.specs.theorem.Faithful.{IsFaithful, KnowsRow}
 use Rattle.op_machine.specs.theorem.Index.{IsExactIndex, IsPageOfLevel, IsRootLevel}
-use Rattle.op_machine.specs.theorem.Phases.{Phase, MovesAt, MovesPhase, KeepsPhases, indexed, takes, splits, becomes_root, terms, under_root, holds, removes, merges, unterms, reuses}
-use Rattle.op_machine.specs.theorem.Reuse.{IsFreedByRule}
 use Rattle.op_machine.specs.theorem.Examples.{small, opening_leaf, lookup}
 use Rattle.op_machine.specs.theorem.Linearized.{IsLinearized, IsOrderly}
 use Rattle.op_machine.specs.theorem.ReadersEnd.{ReadersEnd, one_memory}
 use Rattle.op_machine.specs.theorem.Unhindered.{EndsAlone, IsLockFree, IsUnhindered}
-use Rattle.op_machine.specs.theorem.Updates.{UpdatesAtLinks}
 use Rattle.op_machine.proofs.Listed.{EachAt-get, UpTo-at, passes_at, same_operation, stands_at}
 use Rattle.op_machine.proofs.runs.Kinds.{is_begin, is_done, leaf_at, one_begin, one_reply, one_row, outside, reads_row}
 use Rattle.op_machine.proofs.MapLaws.{one_leaf}

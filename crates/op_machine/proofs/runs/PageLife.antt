@@ -1,32 +1,19 @@
 -- The life of a page: split off, indexed by a new root, held, removed, merged, taken out of the index, and its slot emptied.
-use Rattle.std.specs.Prelude.{codes}
-use Rattle.std.proofs.Common.{◌≡◌, ◌<◌, ◌∙◌, ℕ, List, [], ◌∷◌, Bool, true, false, None, Some, Option, refl, sym, subst, arith, lit<}
+use Rattle.op_machine.proofs.Words.{codes, ◌≡◌, ◌<◌, ◌∙◌, ℕ, List, [], ◌∷◌, Bool, true, false, None, Some, Option, refl, sym, subst, arith, lit<, Exchange, Record, IsChainOf, IsRun}
+use Rattle.op_machine.proofs.Words.{MayPlace, memory_at, memory_of, IsRun-from_steps, log_at, IsQuiet, HasMapOf, ap, low_in, high_in, right_in, is_below, is_in_range, IsWhole, content_in}
+use Rattle.op_machine.proofs.Words.{level_in, IsChainOf-unique}
 use Rattle.std.specs.Prelude.{not, take, if◌then◌else◌}
-use Rattle.bw_model.specs.declared.step.Step.TheVariants.{Exchange}
 use Rattle.bw_model.specs.declared.step.Answer.TheVariants.{Whether}
 use Rattle.deltas.specs.declared.record.Record.TheVariants.{Base}
-use Rattle.deltas.specs.declared.record.Record.{Record}
 use Rattle.traces.specs.declared.trace.Entry.TheVariants.{Step}
-use Rattle.traces.specs.chain.Chains.{IsChainOf}
-use Rattle.traces.specs.trace.Run.{IsRun, MayPlace}
-use Rattle.traces.specs.trace.Trace.{memory_at, memory_of}
-use Rattle.traces.proofs.RunLaws.{IsRun-from_steps}
-use Rattle.op_machine.specs.theorem.Points.{log_at}
-use Rattle.op_machine.specs.theorem.Quiet.{IsQuiet, HasMapOf}
 use Rattle.std.specs.Prelude.{replicate}
-use Rattle.std.proofs.Common.{ap}
-use Rattle.traces.specs.chain.Chains.{low_in, high_in, right_in}
 use Rattle.op_machine.specs.theorem.Examples.{small, opening_leaf, new_leaf, split_away, root_page, root, remove_leaf, merge_leaf, index_above, page_life}
 use Rattle.op_machine.proofs.Listed.{UpTo, UpTo-at, UpTo-parts, all_at, behind}
 use Rattle.op_machine.proofs.runs.Kinds.{is_of, leaf_at, may_place}
-use Rattle.bw_model.specs.Bytes.{is_below, is_in_range}
 use Rattle.base_page.specs.declared.item.Content.{Content as ContentOf}
-use Rattle.traces.specs.chain.SideChain.{IsWhole}
-use Rattle.traces.specs.chain.Chains.{content_in, level_in}
 use Rattle.op_machine.specs.theorem.Phases.{MakesRoot, MovesAt, free, owned, fresh, indexed, held, removed, merged, cleared, takes, splits, becomes_root, under_root, holds, removes, merges, unterms}
 use Rattle.op_machine.specs.theorem.Index.{IsLevel, IsRootLevel, IsPageOfLevel, HasTerm}
 use Rattle.op_machine.proofs.MapLaws.{no_values}
-use Rattle.traces.proofs.ChainLaws.{IsChainOf-unique}
 
 place : (k row : ℕ) → all_at (λ n. is_of 0) (take k page_life) ≡ true → (memory_of small (take k page_life)).free_rows row ≡ false
     → (memory_of small (take k page_life)).rows row ≡ None → MayPlace small (take k page_life) 0 row

@@ -1,18 +1,11 @@
 -- Traces that the definitions refuse.
-use Rattle.std.specs.Prelude.{codes, slice_get}
-use Rattle.std.proofs.Common.{◌≡◌, ◌<◌, ℕ, [], ◌∷◌, Some, None, Option, true, refl, arith, inl, inr, lit<}
-use Rattle.bw_model.specs.declared.command.Command.{Command}
-use Rattle.bw_model.specs.declared.command.Command.TheVariants.{Get, Insert}
+use Rattle.op_machine.proofs.Words.{codes, slice_get, ◌≡◌, ◌<◌, ℕ, [], ◌∷◌, Some, None, Option, true, refl, arith, inl, inr, lit<, Command, Get, Insert, Record, TakesStep, IsDirect}
+use Rattle.op_machine.proofs.Words.{IsFaithful, Operation}
 use Rattle.bw_model.specs.declared.command.Reply.{Reply}
 use Rattle.bw_model.specs.declared.step.Step.TheVariants.{Slot, Row, TakeRow}
 use Rattle.bw_model.specs.declared.step.Answer.TheVariants.{Number, Content, Whether}
 use Rattle.bw_model.specs.declared.step.Link.TheVariants as link
-use Rattle.deltas.specs.declared.record.Record.{Record}
 use Rattle.traces.specs.declared.trace.Entry.TheVariants.{Begin, Step}
-use Rattle.traces.specs.trace.Trace.{TakesStep}
-use Rattle.op_machine.specs.theorem.Direct.{IsDirect}
-use Rattle.op_machine.specs.theorem.Faithful.{IsFaithful}
-use Rattle.op_machine.specs.theorem.Operations.{Operation}
 use Rattle.op_machine.specs.theorem.Examples.{small, opening_leaf, unnamed_read, two_puts, needless_base, taking_reader}
 use Rattle.op_machine.proofs.Listed.{EachAt-get, stands_at}
 use Rattle.op_machine.proofs.runs.Kinds.{is_begin}

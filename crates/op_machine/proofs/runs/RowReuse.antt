@@ -1,24 +1,14 @@
 -- A consolidation whose old row is freed by the rule, and the same without the look at the other actor, which breaks it.
 use Rattle.std.specs.Prelude.{nat_le, take, ◌/◌, ◌%◌, ◌==◌, ◌||◌, not}
-use Rattle.std.specs.Int.{bit_at}
-use Rattle.std.specs.List.{Contains}
+use Rattle.op_machine.proofs.Words.{bit_at, Contains, nat_tests, slice_get, Some, ◌≡◌, ◌<◌, ℕ, zero, suc, List, [], ◌∷◌, Bool, true, false, None, Option, refl, subst, arith, inl, lit<}
+use Rattle.op_machine.proofs.Words.{StepOf, Answer, Record, IsRun, memory_at, TakesStep, IsChainFrom-unique, IsRun-from_steps}
 use Rattle.std.proofs.lemmas.Bool.{eqb-true, eq-eqb, ne_eqb}
-use Rattle.std.proofs.lemmas.Bool.Decides.{nat_tests}
-use Rattle.std.specs.Prelude.{slice_get}
-use Rattle.std.proofs.Common.{Some, ◌≡◌, ◌<◌, ℕ, zero, suc, List, [], ◌∷◌, Bool, true, false, None, Option, refl, subst, arith, inl, lit<}
 use Rattle.bw_model.specs.declared.command.Reply.{Reply}
-use Rattle.bw_model.specs.declared.step.Step.{Step as StepOf}
 use Rattle.bw_model.specs.declared.step.Step.TheVariants.{Epoch, Announce, Leave, Retire, ReuseRows, ReusePids}
-use Rattle.bw_model.specs.declared.step.Answer.{Answer}
 use Rattle.bw_model.specs.declared.step.Answer.TheVariants.{Done}
-use Rattle.deltas.specs.declared.record.Record.{Record}
 use Rattle.traces.specs.declared.trace.Entry.TheVariants.{Step}
 use Rattle.traces.specs.chain.Chains.{IsChainFrom, IsOnChain, chain_rows}
 use Rattle.tree_limits.specs.Words.{is_among}
-use Rattle.traces.specs.trace.Run.{IsRun}
-use Rattle.traces.specs.trace.Trace.{memory_at, TakesStep}
-use Rattle.traces.proofs.ChainLaws.{IsChainFrom-unique}
-use Rattle.traces.proofs.RunLaws.{IsRun-from_steps}
 use Rattle.op_machine.specs.theorem.Reuse.{IsFreed, IsFreedByRule, UnlinksRow, HandsRow}
 use Rattle.op_machine.specs.theorem.Examples.{small, opening_leaf, row_reuse, hurried_reuse}
 use Rattle.op_machine.proofs.Listed.{EachAt-get, all_below-at, and_left, and_right, stands_at}

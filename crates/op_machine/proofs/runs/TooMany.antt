@@ -6,13 +6,10 @@ use Rattle.std.specs.List.Sorted.{IsStrictlyIncreasing}
 use Rattle.std.proofs.lemmas.List.Elements.{All-from_recursion}
 use Rattle.bw_model.specs.declared.step.Answer.TheVariants.{Whether}
 use Rattle.bw_model.specs.declared.step.Link.TheVariants as link
-use Rattle.bw_model.specs.declared.step.Step.TheVariants.{Exchange}
+use Rattle.op_machine.proofs.Words.{Exchange, Happens, memory_at, HasFewChanges, ChangesTree}
 use Rattle.traces.specs.declared.trace.Entry.TheVariants.{Step}
-use Rattle.traces.specs.trace.Trace.{Happens, memory_at}
-use Rattle.op_machine.specs.theorem.Changes.{HasFewChanges}
 use Rattle.op_machine.specs.theorem.Examples.{small, nine_bases}
 use Rattle.op_machine.specs.theorem.Links.{link_of}
-use Rattle.op_machine.specs.theorem.Progress.{ChangesTree}
 use Rattle.op_machine.proofs.Listed.{UpTo-at}
 
 abbrev places : List ℕ

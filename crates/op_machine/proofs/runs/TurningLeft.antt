@@ -1,24 +1,14 @@
 -- What the definitions make of an insert and a lookup that meet a removed leaf, or its empty slot.
-use Rattle.std.proofs.Common.{◌≡◌, inl, inr, ℕ, Option, Some, None, refl, ap, subst, arith}
-use Rattle.bw_model.specs.declared.step.Answer.{Answer}
+use Rattle.op_machine.proofs.Words.{◌≡◌, inl, inr, ℕ, Option, Some, None, refl, ap, subst, arith, Answer, Record, Version, WriteGoal, ReadGoal, Descent, Finds, Moves, Sees, writing}
+use Rattle.op_machine.proofs.Words.{WriteRound, AfterWriting, StepsInRound, new_leaf, small}
 use Rattle.bw_model.specs.declared.step.Answer.TheVariants.{Content, Number}
-use Rattle.deltas.specs.declared.record.Record.{Record}
-use Rattle.structure_changes.specs.Versions.{Version}
-use Rattle.round_model.specs.Courses.{WriteGoal}
 use Rattle.round_model.specs.Courses as goal
-use Rattle.round_model.specs.ReadGoals.{ReadGoal}
 use Rattle.round_model.specs.ReadGoals as read_goal
-use Rattle.round_model.specs.Descents.{Descent, Finds, Responds as Moves}
-use Rattle.round_model.specs.Rounds.{Sees}
 use Rattle.round_model.specs.Visits.{Sight, Empty, Whole, to_page}
 use Rattle.round_model.specs.WriteEnds.{WriteEnd, Again}
-use Rattle.round_model.specs.WriteResponses.{writing}
-use Rattle.round_model.specs.WriteRounds.{WriteRound}
 use Rattle.op_machine.specs.machine.GoesLeft.{GoesLeft, MeetsReading, MeetsWriting, first_read, first_write}
 use Rattle.op_machine.specs.machine.Meeting.{before_base, before_slot, inserting, looking, reading_down, reading_left, removed_version, writing_down, writing_left}
-use Rattle.op_machine.specs.machine.RoundSteps.{AfterWriting, StepsInRound}
 use Rattle.op_machine.specs.machine.States.{State, Begun, Epoch, Enter, Read, Write, Change, Leave}
-use Rattle.op_machine.specs.theorem.Examples.{new_leaf, small}
 
 insert_meets : MeetsWriting (writing_down before_base) (Content new_leaf) removed_version
 insert_meets = record {

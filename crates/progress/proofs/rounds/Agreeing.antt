@@ -1,28 +1,12 @@
 -- What a reader's round reads is as in the memory in which its steps are counted.
-use Rattle.std.proofs.Common.{◌≡◌, ◌⊎◌, ◌++◌, ℕ, List, [], ◌∷◌, Option, Some, refl, sym, ap, subst, ◌∙◌, inl, inr}
-use Rattle.tree_limits.specs.declared.limits.Limits.{Limits}
-use Rattle.bw_model.specs.declared.step.Answer.{Answer}
-use Rattle.bw_model.specs.declared.step.Answer.TheVariants.{Number}
-use Rattle.deltas.specs.Memory.{Memory}
-use Rattle.deltas.specs.declared.record.Record.{Record}
-use Rattle.traces.specs.chain.Chains.{IsChainFrom, IsChainOf, level_in, low_in}
-use Rattle.traces.specs.declared.trace.Entry.{Entry}
-use Rattle.traces.specs.discipline.Knowledge.{Knowledge, knows}
-use Rattle.traces.specs.discipline.Recalled.{Recalled}
-use Rattle.traces.specs.trace.Steps.{IsAnswer}
-use Rattle.traces.specs.trace.Trace.{memory_of}
-use Rattle.traces.proofs.ChainLaws.{IsChainFrom-unique}
-use Rattle.round_model.specs.Descents.{WayState, Root, Page}
+use Rattle.progress.proofs.Words.{◌≡◌, ◌⊎◌, ◌++◌, ℕ, List, [], ◌∷◌, Option, Some, refl, sym, ap, subst, ◌∙◌, inl, inr, Limits, Answer, Number, Memory, Record, IsChainFrom, IsChainOf}
+use Rattle.progress.proofs.Words.{level_in, low_in, Entry, Knowledge, knows, Recalled, IsAnswer, memory_of, IsChainFrom-unique, WayState, Root, Page, ReadGoal, Leg, Down, Round, Past}
+use Rattle.progress.proofs.Words.{IsOnWay, Key, IsInTree, IsState}
 use Rattle.round_model.specs.Descents as way
-use Rattle.round_model.specs.ReadGoals.{ReadGoal}
-use Rattle.round_model.specs.ReadLegs.{Leg, Down, Round, Past}
 use Rattle.round_model.specs.ReadRounds.{ReadRound, ShowsState, ShowsVisit, wanted_step}
 use Rattle.round_model.specs.ReadRounds as read
 use Rattle.round_model.specs.Visits.{Slot, Row, Visit, VisitState}
 use Rattle.round_model.specs.Visits as seen
-use Rattle.round_model.specs.Walks.{IsOnWay}
-use Rattle.tree_law.specs.Keys.{Key}
-use Rattle.tree_law.specs.State.{IsInTree, IsState}
 use Rattle.progress.proofs.rounds.Known.{expected_reached, read_front}
 use Rattle.progress.proofs.rounds.Pages.{Standing}
 use Rattle.progress.proofs.rounds.Resuming.{SettledAt, SettledLeft}

@@ -1,44 +1,15 @@
 -- A reader's steps among the entries of others that change the tree.
 use Rattle.std.proofs.Common.{◌≡◌, ◌<◌, ◌≤◌, ◌+◌, ◌*◌, ◌⊎◌, ◌++◌, ℕ, zero, suc, List, [], ◌∷◌, length, Bool, true, false, cond, Option, Some, None, refl, sym, ap, subst, ◌∙◌, inl, inr, arith}
-use Rattle.std.proofs.Math.Nat.{add-mul, suc-mul}
-use Rattle.std.proofs.lemmas.Bool.Decides.{eqb_tells}
-use Rattle.std.proofs.lemmas.List.{length-append}
-use Rattle.std.specs.Prelude.{if◌then◌else◌}
-use Rattle.tree_limits.specs.declared.limits.Limits.{Limits}
-use Rattle.bw_model.specs.declared.step.Answer.{Answer}
-use Rattle.bw_model.specs.declared.step.Step.{Step as StepOf}
+use Rattle.progress.proofs.Words.{add-mul, suc-mul, eqb_tells, length-append, if◌then◌else◌, Limits, Answer, StepOf, either, Memory, Record, Entry, Begin, Step, knows, Recalled, IsNext}
+use Rattle.progress.proofs.Words.{IsAnswer, memory_of, WayState, Root, Page, ReadEnd, Again, Removed, Leaf, Beside, ReadGoal, Leg, Visit, VisitState, by_step, first_read, read_left_of}
+use Rattle.progress.proofs.Words.{is_leaving, AfterReading, State, Read, Task, is_step_of, IsState, ReadsIn, one_walk}
 use Rattle.bw_model.specs.declared.step.Step.TheVariants.{Row, Slot}
-use Rattle.base_page.proofs.KeyLaws.{either}
-use Rattle.deltas.specs.Memory.{Memory}
-use Rattle.deltas.specs.declared.record.Record.{Record}
-use Rattle.traces.specs.declared.trace.Entry.{Entry}
-use Rattle.traces.specs.declared.trace.Entry.TheVariants.{Begin, Step}
-use Rattle.traces.specs.discipline.Knowledge.{knows}
-use Rattle.traces.specs.discipline.Recalled.{Recalled}
-use Rattle.traces.specs.trace.Run.{IsNext}
-use Rattle.traces.specs.trace.Steps.{IsAnswer}
-use Rattle.traces.specs.trace.Trace.{memory_of}
-use Rattle.round_model.specs.Descents.{WayState, Root, Page}
 use Rattle.round_model.specs.Descents as way
-use Rattle.round_model.specs.ReadEnds.{ReadEnd, Again, Removed, Leaf, Beside}
-use Rattle.round_model.specs.ReadGoals.{ReadGoal}
-use Rattle.round_model.specs.ReadLegs.{Leg}
 use Rattle.round_model.specs.ReadRounds.{ReadRound, at, reading, wanted_step}
 use Rattle.round_model.specs.ReadRounds as read
 use Rattle.round_model.specs.Rounds.{Responds}
-use Rattle.round_model.specs.Visits.{Visit, VisitState}
 use Rattle.round_model.specs.Visits as seen
-use Rattle.round_model.proofs.Responding.{by_step}
-use Rattle.op_machine.specs.machine.GoesLeft.{first_read, read_left_of}
-use Rattle.op_machine.specs.machine.Outcomes.{is_leaving}
-use Rattle.op_machine.specs.machine.RoundSteps.{AfterReading}
-use Rattle.op_machine.specs.machine.States.{State, Read}
-use Rattle.op_machine.specs.machine.Tasks.{Task}
-use Rattle.op_machine.specs.theorem.Direct.{is_step_of}
-use Rattle.tree_law.specs.State.{IsState}
-use Rattle.progress.specs.ReaderRuns.{ReadsIn}
 use Rattle.progress.specs.ReadersAmong.{AreLawful, IsLawfulMoment, IsOtherMoment, IsOthers, IsOwnMoment, Moment, ReadersEndAmongChanges, all_changes, changes_tree, own_steps}
-use Rattle.progress.specs.RoundsEnd.{one_walk}
 use Rattle.progress.specs.RoundsIn.{IsReadIn, IsRoundIn, IsStateIn, IsVisitIn}
 use Rattle.progress.proofs.Tallies.{one_at_most}
 use Rattle.progress.proofs.rounds.Agreeing.{answer_same}

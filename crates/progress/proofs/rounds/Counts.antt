@@ -1,8 +1,5 @@
 -- How many elements of a list pass a test.
-use Rattle.std.proofs.Common.{◌≡◌, ◌<◌, ◌≤◌, ◌+◌, ℕ, zero, suc, List, [], ◌∷◌, Bool, true, false, cond, length, refl, ap, subst, ◌∙◌, ◌⊎◌, inl, inr, arith}
-use Rattle.std.proofs.lemmas.Bool.{cases_lt}
-use Rattle.std.specs.Prelude.{◌||◌}
-use Rattle.std.specs.List.{Contains}
+use Rattle.progress.proofs.Words.{◌≡◌, ◌<◌, ◌≤◌, ◌+◌, ℕ, zero, suc, List, [], ◌∷◌, Bool, true, false, cond, length, refl, ap, subst, ◌∙◌, ◌⊎◌, inl, inr, arith, cases_lt, ◌||◌, Contains}
 use Rattle.progress.proofs.Tallies.{one_at_most}
 
 abbrev pub many : {X : Type 0} → (X → Bool) → List X → ℕ

@@ -1,21 +1,8 @@
 -- How many steps a reader's rounds take in one memory, by the limits.
-use Rattle.std.proofs.Common.{◌≡◌, ◌≤◌, ◌+◌, ◌*◌, ℕ, zero, suc, List, Bool, true, false, cond, refl, ap, subst, inl, inr, arith}
+use Rattle.progress.proofs.Words.{◌≡◌, ◌≤◌, ◌+◌, ◌*◌, ℕ, zero, suc, List, Bool, true, false, cond, refl, ap, subst, inl, inr, arith, count_by, Limits, Memory, is_removed, low_in, LivePage}
+use Rattle.progress.proofs.Words.{Version, Left, ReadRound, first_read, read_left_of, Task, memory_of, HasWholeTree, EndsWithin, FindsEach, IsRoundIn, WasRemovedLeaf}
 use Rattle.std.proofs.Math.Nat.{add-mul, mul-le-mul_right, suc-mul}
 use Rattle.std.proofs.lemmas.List.Recursion.{is_count_by}
-use Rattle.std.specs.List.{count_by}
-use Rattle.tree_limits.specs.declared.limits.Limits.{Limits}
-use Rattle.deltas.specs.Memory.{Memory}
-use Rattle.traces.specs.chain.Chains.{is_removed, low_in}
-use Rattle.traces.specs.chain.SideChain.{LivePage}
-use Rattle.structure_changes.specs.Versions.{Version}
-use Rattle.round_model.specs.ReadGoals.{Left}
-use Rattle.round_model.specs.ReadRounds.{ReadRound}
-use Rattle.op_machine.specs.machine.GoesLeft.{first_read, read_left_of}
-use Rattle.op_machine.specs.machine.Tasks.{Task}
-use Rattle.traces.specs.trace.Trace.{memory_of}
-use Rattle.tree_law.specs.OneMemory.{HasWholeTree}
-use Rattle.progress.specs.ReaderRuns.{EndsWithin, FindsEach}
-use Rattle.progress.specs.RoundsIn.{IsRoundIn, WasRemovedLeaf}
 use Rattle.progress.specs.RoundsEnd.{IsRemovedLeaf, LeftRoundsEnd, LookupsEnd, LookupsEndInStates, RoundsEndInStates, StaleRoundsEnd, StandingRoundsEnd, one_walk, removed_leaves}
 use Rattle.progress.proofs.rounds.Counts.{many, many_within}
 use Rattle.progress.proofs.rounds.Known.{tree}

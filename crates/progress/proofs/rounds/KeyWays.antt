@@ -1,13 +1,7 @@
 -- Ways of keys: where one key is on a way, each key below it is.
 use Rattle.std.proofs.Common.{◌≡◌, List, Bool, true, false, Option, Some, None, refl, sym, ◌∙◌}
-use Rattle.std.specs.Prelude.{IsTrue, not}
-use Rattle.bw_model.specs.Bytes.{is_below}
-use Rattle.base_page.proofs.KeyLaws.{not_true}
-use Rattle.deltas.specs.declared.record.Record.{Record}
-use Rattle.traces.specs.chain.Chains.{covers, high_in, low_in}
-use Rattle.round_model.specs.Ways.{StaysLeft, precedes, reaches}
+use Rattle.progress.proofs.Words.{IsTrue, not, is_below, not_true, Record, covers, high_in, low_in, StaysLeft, precedes, reaches, by_below, covers_from, covers_to, upto_below, upto_trans}
 use Rattle.tree_law.specs.Keys.{IsUnder, IsUpTo, Key}
-use Rattle.tree_law.proofs.shape.KeyOrder.{by_below, covers_from, covers_to, upto_below, upto_trans}
 
 abbrev pub IsWay : (Key → Bool) → Type 0
 IsWay way = (a b : Key) → way b ≡ true → IsUpTo a b → way a ≡ true

@@ -1,38 +1,22 @@
 -- Where a reader's round stands in the memory of a state, by what its actor knows.
 use Rattle.std.proofs.Common.{◌≡◌, ◌<◌, ◌≤◌, ◌⊎◌, ◌++◌, ℕ, zero, suc, List, [], Bool, true, false, Option, Some, None, refl, sym, ap, subst, ◌∙◌, inl, inr, arith}
-use Rattle.std.specs.Prelude.{IsTrue}
-use Rattle.tree_limits.specs.declared.limits.Limits.{Limits}
-use Rattle.base_page.specs.declared.item.Content.TheVariants.{Child}
-use Rattle.deltas.specs.Memory.{Memory}
-use Rattle.deltas.specs.declared.record.Record.{Record}
-use Rattle.std.specs.List.{Contains}
+use Rattle.progress.proofs.Words.{IsTrue, Limits, Child, Memory, Record, Contains, IsPageChain, LivePage, Entry, Knowledge, knows, memory_of, IsChainFrom-unique, same_page, Version, Key}
+use Rattle.progress.proofs.Words.{HasWholeTree, IsState, phase_of, covers_from, KeepsItsPlace, IsPlace, NamesPlaces}
 use Rattle.op_machine.specs.theorem.Phases as phase
 use Rattle.traces.specs.chain.Chains.{IsChainFrom, IsFront, content_in, covers, is_removed, level_in, low_in, right_in}
-use Rattle.traces.specs.chain.Fitted.{IsPageChain}
-use Rattle.traces.specs.chain.SideChain.{LivePage}
-use Rattle.traces.specs.declared.trace.Entry.{Entry}
-use Rattle.traces.specs.discipline.Knowledge.{Knowledge, knows}
-use Rattle.traces.specs.trace.Trace.{memory_of}
-use Rattle.traces.proofs.ChainLaws.{IsChainFrom-unique, same_page}
 use Rattle.structure_changes.specs.Readings.{HasSeen}
-use Rattle.structure_changes.specs.Versions.{Version}
 use Rattle.structure_changes.proofs.Due.{covered}
 use Rattle.round_model.specs.Walks.{IsExpected}
 use Rattle.round_model.specs.Ways.{NamesAt}
-use Rattle.tree_law.specs.Keys.{Key}
-use Rattle.tree_law.specs.OneMemory.{HasWholeTree}
 use Rattle.tree_law.specs.Owners.{ChainNames, HeadFits, InOrder, IsOut, OrderFits, Reached, SeenFits}
 use Rattle.tree_law.specs.Phase.{Cleared, Keeps, Nobody, PageOwner, Placed, Stage, rank, rank_of}
 use Rattle.tree_law.specs.Shared.{row_in, shared_part, slot_in}
-use Rattle.tree_law.specs.State.{IsState, phase_of}
 use Rattle.tree_law.specs.Tree.{IsOff}
 use Rattle.tree_law.proofs.links.Keeping.{on_or_merged}
 use Rattle.tree_law.proofs.WholeTrees.{listed_tree}
 use Rattle.tree_law.proofs.shape.Chains.{chain_within, front_of}
-use Rattle.tree_law.proofs.shape.KeyOrder.{covers_from}
 use Rattle.tree_law.proofs.shape.Leaves.{not_free}
 use Rattle.tree_law.proofs.shape.Mapping.{chain_at, slot_some}
-use Rattle.progress.specs.RoundsIn.{KeepsItsPlace, IsPlace, NamesPlaces}
 
 -- a slot without a row holds 0
 no_row : (slots : ℕ → ℕ) (page : ℕ) → 0 < page → slot_in slots page ≡ None → slots page ≡ 0

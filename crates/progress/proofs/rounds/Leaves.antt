@@ -1,15 +1,6 @@
 -- Removed leaves, and the leaf to the left of one.
-use Rattle.std.proofs.Common.{◌≡◌, ◌≢◌, ℕ, List, Bool, true, false, Option, Some, sym, ap, subst, ◌∙◌}
-use Rattle.std.specs.Prelude.{IsTrue}
-use Rattle.base_page.specs.declared.item.Content.TheVariants.{Child}
-use Rattle.base_page.proofs.KeyLaws.{either}
-use Rattle.traces.specs.chain.Chains.{content_in, covers, high_in, is_removed, low_in, right_in}
-use Rattle.traces.specs.chain.SideChain.{LivePage}
-use Rattle.deltas.specs.declared.record.Record.{Record}
-use Rattle.structure_changes.specs.Versions.{Version}
-use Rattle.round_model.specs.Ways.{LeadsRight, StaysLeft, precedes, reaches}
-use Rattle.tree_law.specs.Keys.{IsBelow, IsUpTo, Key}
-use Rattle.tree_law.specs.LevelPages.{IsPageOn}
+use Rattle.progress.proofs.Words.{◌≡◌, ◌≢◌, ℕ, List, Bool, true, false, Option, Some, sym, ap, subst, ◌∙◌, IsTrue, Child, either, content_in, covers, high_in, is_removed, low_in, right_in}
+use Rattle.progress.proofs.Words.{LivePage, Record, Version, LeadsRight, StaysLeft, precedes, reaches, IsBelow, IsUpTo, Key, IsPageOn}
 use Rattle.tree_law.proofs.shape.KeyOrder.{below_not, by_below, covers_from, covers_to, not_below, under_trans, upto_both, upto_trans}
 use Rattle.progress.proofs.rounds.KeyWays.{precedes_is_way, reaches_is_way, within}
 use Rattle.progress.proofs.rounds.Measures.{none_after, removed_after}

@@ -1,22 +1,8 @@
 -- What a round makes of a page that began in an earlier memory: it comes to a place, with fewer pages left, or it ends.
 use Rattle.std.proofs.Common.{◌≡◌, ◌<◌, ◌≤◌, ◌+◌, ◌⊎◌, ℕ, zero, suc, List, Bool, true, false, Option, Some, None, refl, sym, ap, subst, ◌∙◌, inl, inr, arith}
-use Rattle.std.specs.Prelude.{⊤}
-use Rattle.deltas.specs.declared.record.Record.{Record}
-use Rattle.traces.specs.chain.Chains.{is_removed, level_in, low_in, right_in}
-use Rattle.traces.specs.chain.Fitted.{IsPageChain}
-use Rattle.traces.specs.chain.SideChain.{LivePage}
-use Rattle.structure_changes.specs.Versions.{Version}
-use Rattle.round_model.specs.Descents.{Page}
-use Rattle.round_model.specs.ReadEnds.{ReadEnd, Again, Removed, Leaf, Beside}
-use Rattle.round_model.specs.ReadGoals.{ReadGoal, Left, Beyond}
-use Rattle.round_model.specs.ReadLegs.{Leg, Round, Past, below, level_on}
-use Rattle.round_model.specs.ReadRounds.{IsLeftLeaf, ReadRound, TreatsRead, reading_on_to, left_of, on, read_way, toward}
-use Rattle.round_model.specs.Visits.{to_page}
-use Rattle.round_model.specs.Ways.{LeadsDown, LeadsOn, LeadsRight, reaches}
-use Rattle.tree_law.specs.Keys.{IsBelow, Key}
-use Rattle.tree_law.specs.LevelPages.{IsPageOn}
-use Rattle.tree_law.proofs.shape.KeyOrder.{below_not, below_upto}
-use Rattle.progress.specs.RoundsIn.{IsGoalIn, KeepsItsPlace, IsLegIn, IsPlace, NamesPlaces, WasRemovedLeaf}
+use Rattle.progress.proofs.Words.{⊤, Record, is_removed, level_in, low_in, right_in, IsPageChain, LivePage, Version, Page, ReadEnd, Again, Removed, Leaf, Beside, ReadGoal, Left, Beyond, Leg}
+use Rattle.progress.proofs.Words.{Round, Past, below, level_on, IsLeftLeaf, ReadRound, TreatsRead, reading_on_to, left_of, on, read_way, toward, to_page, LeadsDown, LeadsOn, LeadsRight}
+use Rattle.progress.proofs.Words.{reaches, IsBelow, Key, IsPageOn, below_not, below_upto, IsGoalIn, KeepsItsPlace, IsLegIn, IsPlace, NamesPlaces, WasRemovedLeaf}
 use Rattle.progress.proofs.rounds.Measures.{left_less, left_more, left_over, left_within, under_all, under_less}
 use Rattle.progress.proofs.rounds.Pages.{On, Standing, chain_on, live, low_of, right, right_above, same_pid}
 use Rattle.progress.proofs.rounds.Places.{Few, below_plain, child_of, few_above, few_any, few_below, first, kept_here, leg_below, leg_level, most, names_above}

@@ -1,14 +1,8 @@
 -- How many pages a round may still come to, and how many removed leaves are ahead.
-use Rattle.std.proofs.Common.{◌≡◌, ◌<◌, ◌≤◌, ◌+◌, ◌*◌, ℕ, zero, suc, Bool, true, false, refl, sym, ap, subst, ◌∙◌, inl, inr, arith}
-use Rattle.std.specs.List.{Contains}
+use Rattle.progress.proofs.Words.{◌≡◌, ◌<◌, ◌≤◌, ◌+◌, ◌*◌, ℕ, zero, suc, Bool, true, false, refl, sym, ap, subst, ◌∙◌, inl, inr, arith, Contains, eqb_tells, is_below, is_removed, level_in}
+use Rattle.progress.proofs.Words.{LivePage, reaches, IsBelow, IsUpTo, Key}
 use Rattle.std.specs.Prelude.{not, ◌&&◌, ◌||◌, ◌==◌}
-use Rattle.std.proofs.lemmas.Bool.Decides.{eqb_tells}
-use Rattle.bw_model.specs.Bytes.{is_below}
 use Rattle.base_page.proofs.KeyLaws.{and_both, and_left, and_right, either, not_true}
-use Rattle.traces.specs.chain.Chains.{is_removed, level_in}
-use Rattle.traces.specs.chain.SideChain.{LivePage}
-use Rattle.round_model.specs.Ways.{reaches}
-use Rattle.tree_law.specs.Keys.{IsBelow, IsUpTo, Key}
 use Rattle.tree_law.proofs.shape.KeyOrder.{below_not, below_upto, not_below, upto_refl}
 use Rattle.progress.proofs.rounds.Counts.{any, any_in, any_of, has_number, many, many_more, many_none, many_up, many_within, numbers, numbers_length}
 use Rattle.progress.proofs.rounds.Pages.{On, Standing, chain_on, low_of, same_pid}

@@ -1,23 +1,10 @@
 -- The pages of a whole tree that a reader's way comes to.
-use Rattle.std.proofs.Common.{◌≡◌, ◌⊎◌, ℕ, suc, Bool, true, false, Option, Some, refl, sym, ap, subst, ◌∙◌, inl, inr, arith}
-use Rattle.std.specs.List.{Contains}
-use Rattle.std.specs.Prelude.{IsTrue, IsSome, is_some}
-use Rattle.tree_limits.specs.declared.limits.Limits.{Limits}
-use Rattle.bw_model.specs.Bytes.{is_below}
+use Rattle.progress.proofs.Words.{◌≡◌, ◌⊎◌, ℕ, suc, Bool, true, false, Option, Some, refl, sym, ap, subst, ◌∙◌, inl, inr, arith, Contains, IsTrue, IsSome, is_some, Limits, is_below, Child}
+use Rattle.progress.proofs.Words.{either, Memory, IsChainOf, content_in, covers, high_in, is_removed, low_in, LivePage, Version, LeadsDown, LeadsRight, StaysLeft, IsBelow, IsUpTo, Key}
+use Rattle.progress.proofs.Words.{IsPageOn, HasWholeTree, IsChildAt, below_not, below_upto, not_below}
 use Rattle.base_page.specs.declared.item.Content.{Content}
-use Rattle.base_page.specs.declared.item.Content.TheVariants.{Child}
-use Rattle.base_page.proofs.KeyLaws.{either}
-use Rattle.deltas.specs.Memory.{Memory}
-use Rattle.traces.specs.chain.Chains.{IsChainOf, content_in, covers, high_in, is_removed, low_in}
-use Rattle.traces.specs.chain.SideChain.{LivePage}
 use Rattle.traces.proofs.ChainLaws.{IsChainOf-unique, same_page}
-use Rattle.structure_changes.specs.Versions.{Version}
-use Rattle.round_model.specs.Ways.{LeadsDown, LeadsRight, StaysLeft}
 use Rattle.round_model.proofs.PageLaws.{spans}
-use Rattle.tree_law.specs.Keys.{IsBelow, IsUpTo, Key}
-use Rattle.tree_law.specs.LevelPages.{IsPageOn}
-use Rattle.tree_law.specs.OneMemory.{HasWholeTree, IsChildAt}
-use Rattle.tree_law.proofs.shape.KeyOrder.{below_not, below_upto, not_below}
 use Rattle.progress.proofs.rounds.KeyWays.{IsWay, within}
 
 -- a page that was read whole, as it stands

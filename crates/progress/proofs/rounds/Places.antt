@@ -1,14 +1,7 @@
 -- Pages to which a round may come that began in an earlier memory, and how many are left to it: each twice at most.
 use Rattle.std.proofs.Common.{◌≡◌, ◌<◌, ◌≤◌, ◌+◌, ◌*◌, ◌⊎◌, ℕ, suc, Bool, true, Some, None, subst, inl, inr, arith}
-use Rattle.base_page.specs.declared.item.Content.TheVariants.{Child}
-use Rattle.base_page.proofs.KeyLaws.{either}
-use Rattle.traces.specs.chain.Chains.{IsChainOf, content_in, is_removed, level_in}
-use Rattle.traces.specs.chain.SideChain.{LivePage}
-use Rattle.structure_changes.specs.Versions.{Version}
-use Rattle.round_model.specs.ReadLegs.{Leg, Down, Round, Past, IsPlain, above_of, below, level_on}
-use Rattle.tree_law.specs.Keys.{IsBelow, Key}
-use Rattle.tree_law.specs.LevelPages.{IsPageOn}
-use Rattle.progress.specs.RoundsIn.{KeepsItsPlace, IsLegIn, IsPlace, NamesPlaces}
+use Rattle.progress.proofs.Words.{Child, either, IsChainOf, content_in, is_removed, level_in, LivePage, Version, Leg, Down, Round, Past, IsPlain, above_of, below, level_on, IsBelow, Key}
+use Rattle.progress.proofs.Words.{IsPageOn, KeepsItsPlace, IsLegIn, IsPlace, NamesPlaces}
 use Rattle.progress.proofs.rounds.Measures.{left_few, left_from, left_less, left_more, left_within, under_all, under_few}
 use Rattle.progress.proofs.rounds.Tops.{top_of}
 use Rattle.progress.proofs.rounds.Pages.{On, Standing, chain_on, low_of, same_pid}

@@ -1,34 +1,11 @@
 -- A reader's run in one memory comes to its end, wherever its round stands at first.
 use Rattle.std.proofs.Common.{◌≡◌, ◌<◌, ◌≤◌, ◌+◌, ◌*◌, ◌⊎◌, ◌++◌, ℕ, suc, List, [], ◌∷◌, length, true, Option, Some, None, refl, sym, ap, subst, ◌∙◌, inl, inr, arith}
-use Rattle.std.proofs.lemmas.List.{length-append}
-use Rattle.std.specs.Prelude.{⊤}
-use Rattle.tree_limits.specs.declared.limits.Limits.{Limits}
-use Rattle.bw_model.specs.declared.step.Answer.{Answer}
-use Rattle.bw_model.specs.declared.step.Answer.TheVariants.{Number}
-use Rattle.deltas.specs.declared.record.Record.{Record}
-use Rattle.traces.specs.chain.Chains.{IsChainOf}
-use Rattle.traces.specs.chain.SideChain.{LivePage}
-use Rattle.traces.specs.trace.Steps.{IsAnswer}
-use Rattle.traces.proofs.ChainLaws.{same_page}
-use Rattle.structure_changes.specs.Versions.{Version}
-use Rattle.round_model.specs.Descents.{WayState, Root, Page}
-use Rattle.round_model.specs.ReadEnds.{ReadEnd, Again, Removed, Leaf, Beside}
-use Rattle.round_model.specs.ReadGoals.{ReadGoal, Seek, Left}
-use Rattle.round_model.specs.ReadLegs.{Leg, Down}
+use Rattle.progress.proofs.Words.{length-append, ⊤, Limits, Answer, Number, Record, IsChainOf, LivePage, IsAnswer, same_page, Version, WayState, Root, Page, ReadEnd, Again, Removed, Leaf}
+use Rattle.progress.proofs.Words.{Beside, ReadGoal, Seek, Left, Leg, Down, Sight, Empty, Whole, Visit, VisitState, to_page, by_step, first_read, read_left_of, is_leaving, AfterReading}
+use Rattle.progress.proofs.Words.{State, Read, Task, Key, IsPageOn, EndsWithin, IsReaderRun, ReadsIn, IsGoalIn, IsLegIn, IsPlace, IsRoundIn, IsStateIn, IsVisitIn, WasRemovedLeaf}
 use Rattle.round_model.specs.ReadRounds.{ReadRound, at, reading, wanted_step}
 use Rattle.round_model.specs.Rounds.{Responds, Sees}
-use Rattle.round_model.specs.Visits.{Sight, Empty, Whole, Visit, VisitState, to_page}
 use Rattle.round_model.specs.Visits as seen
-use Rattle.round_model.proofs.Responding.{by_step}
-use Rattle.op_machine.specs.machine.GoesLeft.{first_read, read_left_of}
-use Rattle.op_machine.specs.machine.Outcomes.{is_leaving}
-use Rattle.op_machine.specs.machine.RoundSteps.{AfterReading}
-use Rattle.op_machine.specs.machine.States.{State, Read}
-use Rattle.op_machine.specs.machine.Tasks.{Task}
-use Rattle.tree_law.specs.Keys.{Key}
-use Rattle.tree_law.specs.LevelPages.{IsPageOn}
-use Rattle.progress.specs.ReaderRuns.{EndsWithin, IsReaderRun, ReadsIn}
-use Rattle.progress.specs.RoundsIn.{IsGoalIn, IsLegIn, IsPlace, IsRoundIn, IsStateIn, IsVisitIn, WasRemovedLeaf}
 use Rattle.progress.proofs.rounds.Loosely.{Loose, LooseThen, Moves, Stale, loosely, stalely}
 use Rattle.progress.proofs.rounds.Measures.{all_removed, one_round, times}
 use Rattle.progress.proofs.rounds.Pages.{Standing, live}

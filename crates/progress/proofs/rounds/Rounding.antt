@@ -1,16 +1,7 @@
 -- Round a removed index page, to the page on its left, and on from there.
 use Rattle.std.proofs.Common.{◌≡◌, ◌≢◌, ℕ, suc, Bool, true, false, Option, Some, None, sym, ap, subst, ◌∙◌, inl, inr}
-use Rattle.std.specs.Prelude.{IsSome, IsTrue}
-use Rattle.base_page.proofs.KeyLaws.{either}
-use Rattle.traces.specs.chain.Chains.{content_in, covers, is_removed, low_in, right_in}
-use Rattle.traces.specs.chain.SideChain.{LivePage}
-use Rattle.structure_changes.specs.Versions.{Version}
-use Rattle.round_model.specs.ReadRounds.{left_of}
-use Rattle.round_model.specs.Ways.{LeadsDown, LeadsRight, StaysLeft}
-use Rattle.base_page.specs.declared.item.Content.TheVariants.{Child}
-use Rattle.tree_law.specs.Keys.{IsBelow, IsUpTo, Key}
-use Rattle.tree_law.specs.LevelPages.{IsPageOn}
-use Rattle.tree_law.specs.OneMemory.{IsChildAt}
+use Rattle.progress.proofs.Words.{IsSome, IsTrue, either, content_in, covers, is_removed, low_in, right_in, LivePage, Version, left_of, LeadsDown, LeadsRight, StaysLeft, Child, IsBelow}
+use Rattle.progress.proofs.Words.{IsUpTo, Key, IsPageOn, IsChildAt}
 use Rattle.tree_law.proofs.shape.KeyOrder.{below_not, below_upto, by_below, not_below, not_self, upto_below, upto_both}
 use Rattle.progress.proofs.rounds.KeyWays.{IsWay, within}
 use Rattle.progress.proofs.rounds.Pages.{Below, Clear, On, Standing, Under, chain_on, down, live, low_of, one_child, right, same_pid, some_of, term_of}

@@ -1,35 +1,13 @@
 -- A reader's run in one memory comes to its end.
 use Rattle.std.proofs.Common.{◌≡◌, ◌≢◌, ◌<◌, ◌≤◌, ◌+◌, ◌*◌, ◌⊎◌, ℕ, zero, suc, List, [], ◌∷◌, length, Bool, true, Option, Some, None, refl, sym, subst, ◌∙◌, inl, inr, arith}
-use Rattle.std.specs.Prelude.{⊤}
-use Rattle.tree_limits.specs.declared.limits.Limits.{Limits}
-use Rattle.bw_model.specs.declared.step.Answer.{Answer}
-use Rattle.bw_model.specs.declared.step.Answer.TheVariants.{Number}
-use Rattle.deltas.specs.declared.record.Record.{Record}
-use Rattle.traces.specs.chain.Chains.{IsChainFrom, IsChainOf, low_in}
-use Rattle.traces.specs.chain.SideChain.{LivePage}
-use Rattle.traces.proofs.ChainLaws.{same_page}
-use Rattle.traces.specs.trace.Steps.{IsAnswer}
-use Rattle.structure_changes.specs.Versions.{Version}
-use Rattle.round_model.specs.Descents.{WayState, Root, Page}
-use Rattle.round_model.specs.ReadEnds.{ReadEnd, Again, Removed, Leaf, Beside}
-use Rattle.round_model.specs.ReadGoals.{ReadGoal, Seek, Left, Beyond}
-use Rattle.round_model.specs.ReadLegs.{Leg, Down, Round, Past}
+use Rattle.progress.proofs.Words.{⊤, Limits, Answer, Number, Record, IsChainFrom, IsChainOf, low_in, LivePage, same_page, IsAnswer, Version, WayState, Root, Page, ReadEnd, Again, Removed}
+use Rattle.progress.proofs.Words.{Leaf, Beside, ReadGoal, Seek, Left, Beyond, Leg, Down, Round, Past, Sight, Empty, Whole, Visit, to_page, precedes, reaches, by_step, read_left_of}
+use Rattle.progress.proofs.Words.{is_leaving, AfterReading, State, Read, Task, Key, IsPageOn, EndsWithin, FindsEach, IsReaderRun, ReadsIn, last_round}
 use Rattle.round_model.specs.ReadRounds.{ReadRound, at, read_way, reading, wanted_step}
 use Rattle.round_model.specs.Rounds.{Responds, Sees}
-use Rattle.round_model.specs.Visits.{Sight, Empty, Whole, Visit, to_page}
 use Rattle.round_model.specs.Visits as page
-use Rattle.round_model.specs.Ways.{precedes, reaches}
 use Rattle.round_model.proofs.PageLaws.{above_empty}
-use Rattle.round_model.proofs.Responding.{by_step}
 use Rattle.round_model.proofs.WayLaws.{lowest}
-use Rattle.op_machine.specs.machine.GoesLeft.{read_left_of}
-use Rattle.op_machine.specs.machine.Outcomes.{is_leaving}
-use Rattle.op_machine.specs.machine.RoundSteps.{AfterReading}
-use Rattle.op_machine.specs.machine.States.{State, Read}
-use Rattle.op_machine.specs.machine.Tasks.{Task}
-use Rattle.tree_law.specs.Keys.{Key}
-use Rattle.tree_law.specs.LevelPages.{IsPageOn}
-use Rattle.progress.specs.ReaderRuns.{EndsWithin, FindsEach, IsReaderRun, ReadsIn, last_round}
 use Rattle.progress.proofs.rounds.Measures.{left_few, left_some, left_within, one_round, removed_after, times}
 use Rattle.progress.proofs.rounds.Pages.{Standing, live, low_of, root_clear}
 use Rattle.progress.proofs.rounds.Treating.{OnRound, OnWay}

@@ -1,23 +1,12 @@
 -- A reader's round that shows what its actor knows stands in the memory of the state.
 use Rattle.std.proofs.Common.{◌≡◌, ◌++◌, ℕ, List, false, Option, Some, None, refl, sym, subst}
-use Rattle.tree_limits.specs.declared.limits.Limits.{Limits}
-use Rattle.deltas.specs.declared.record.Record.{Record}
-use Rattle.traces.specs.chain.Chains.{is_removed, right_in}
-use Rattle.traces.specs.declared.trace.Entry.{Entry}
-use Rattle.traces.specs.discipline.Knowledge.{Knowledge, knows}
-use Rattle.traces.specs.discipline.Recalled.{Recalled}
-use Rattle.structure_changes.specs.Versions.{Version}
-use Rattle.round_model.specs.Descents.{WayState, Root, Page}
-use Rattle.round_model.specs.ReadGoals.{ReadGoal, Seek, Left, Beyond}
-use Rattle.round_model.specs.ReadLegs.{Leg, Down, Round, Past}
+use Rattle.progress.proofs.Words.{Limits, Record, is_removed, right_in, Entry, Knowledge, knows, Recalled, Version, WayState, Root, Page, ReadGoal, Seek, Left, Beyond, Leg, Down, Round}
+use Rattle.progress.proofs.Words.{Past, Key, IsState, IsGoalIn, IsLegIn, IsRoundIn, IsStateIn, IsVisitIn, NamesPlaces, WasRemovedLeaf}
 use Rattle.round_model.specs.ReadRounds.{BeginsToRead, IsAbove, IsAside, IsGoneAt, IsOn, KeepsToRead, ReadRound, ShowsState, ShowsVisit, VisitsToRead}
 use Rattle.round_model.specs.ReadRounds as read
 use Rattle.round_model.specs.Visits.{Slot, Row, Visit, VisitState}
 use Rattle.round_model.specs.Visits as seen
 use Rattle.round_model.specs.Walks.{IsAhead, IsOnWay}
-use Rattle.tree_law.specs.Keys.{Key}
-use Rattle.tree_law.specs.State.{IsState}
-use Rattle.progress.specs.RoundsIn.{IsGoalIn, IsLegIn, IsRoundIn, IsStateIn, IsVisitIn, NamesPlaces, WasRemovedLeaf}
 use Rattle.progress.proofs.rounds.Known.{WasRead, expected_place, read_beyond, read_front, read_kept, read_names, read_whole, tree}
 
 module _ (limits : Limits) (entries : List Entry) (state : IsState limits entries) (actor : ℕ) where

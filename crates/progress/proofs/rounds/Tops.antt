@@ -1,7 +1,5 @@
 -- A page is of level 15 at most.
-use Rattle.std.proofs.Common.{◌≤◌, List, arith}
-use Rattle.deltas.specs.declared.record.Record.{Record}
-use Rattle.traces.specs.chain.Chains.{level_in}
+use Rattle.progress.proofs.Words.{◌≤◌, List, arith, Record, level_in}
 use Rattle.traces.specs.chain.Fitted.{IsFitted}
 use Rattle.traces.proofs.FittedLaws.{ruled}
 use Rattle.structure_changes.proofs.Places.{made}

@@ -1,22 +1,9 @@
 -- What a reader's round makes of a page of the tree: it goes on to a page, or ends at a removed leaf, or at the leaf that it sought.
 use Rattle.std.proofs.Common.{◌≡◌, ◌≢◌, ◌<◌, ◌≤◌, ◌+◌, ◌⊎◌, ℕ, suc, Bool, true, false, Option, Some, None, refl, sym, ap, subst, ◌∙◌, inl, inr, arith}
-use Rattle.std.specs.Prelude.{⊤}
-use Rattle.base_page.specs.Places.{HasNoChild}
-use Rattle.traces.specs.chain.Chains.{content_in, is_removed, level_in, low_in, right_in}
-use Rattle.traces.specs.chain.SideChain.{LivePage}
-use Rattle.tree_limits.specs.declared.limits.Limits.{Limits}
-use Rattle.structure_changes.specs.Versions.{Version}
-use Rattle.round_model.specs.Descents.{WayState, Page}
-use Rattle.round_model.specs.ReadEnds.{ReadEnd, Again, Removed, Leaf, Beside}
-use Rattle.round_model.specs.ReadGoals.{ReadGoal, Seek, Left, Beyond}
-use Rattle.round_model.specs.ReadLegs.{Leg, Down, Round, Past, IsPlain, above_of, below, level_on}
+use Rattle.progress.proofs.Words.{⊤, HasNoChild, content_in, is_removed, level_in, low_in, right_in, LivePage, Limits, Version, WayState, Page, ReadEnd, Again, Removed, Leaf, Beside}
+use Rattle.progress.proofs.Words.{ReadGoal, Seek, Left, Beyond, Leg, Down, Round, Past, IsPlain, above_of, below, level_on, to_page, LeadsOn, LeadsRight, StaysLeft, reaches, IsBelow, Key}
+use Rattle.progress.proofs.Words.{IsPageOn, below_not, below_upto, upto_below, upto_trans, WasRemovedLeaf}
 use Rattle.round_model.specs.ReadRounds.{IsLeftLeaf, IsLost, IsOffLevel, LacksLeft, ReadRound, TreatsRead, reading_on_to, left_of, on, read_way, toward}
-use Rattle.round_model.specs.Visits.{to_page}
-use Rattle.round_model.specs.Ways.{LeadsOn, LeadsRight, StaysLeft, reaches}
-use Rattle.tree_law.specs.Keys.{IsBelow, Key}
-use Rattle.tree_law.specs.LevelPages.{IsPageOn}
-use Rattle.tree_law.proofs.shape.KeyOrder.{below_not, below_upto, upto_below, upto_trans}
-use Rattle.progress.specs.RoundsIn.{WasRemovedLeaf}
 use Rattle.progress.proofs.rounds.KeyWays.{IsWay, precedes_is_way, reaches_is_way}
 use Rattle.progress.proofs.rounds.Leaves.{IsBeyond, IsRemovedLeaf, beside_right, left_stands, none_beyond, of_level, of_term, past_right}
 use Rattle.progress.proofs.rounds.Measures.{after_few, all_removed, fewer_after, left_from, left_less, one_round, removed_after, times, times_up}

@@ -1,35 +1,15 @@
 -- What stays of the tree where an entry doesn't change it.
 use Rattle.std.proofs.Common.{◌≡◌, ◌≢◌, ◌<◌, ◌≤◌, ◌⊎◌, ◌++◌, ℕ, suc, List, [], ◌∷◌, length, true, false, Option, Some, None, refl, sym, ap, subst, ◌∙◌, inl, inr, arith}
-use Rattle.std.proofs.lemmas.Bool.Decides.{eqb_tells}
-use Rattle.std.specs.Prelude.{MatchOption, ◌==◌}
-use Rattle.tree_limits.specs.declared.limits.Limits.{Limits}
-use Rattle.bw_model.specs.declared.command.Reply.{Reply}
-use Rattle.bw_model.specs.declared.step.Answer.{Answer}
-use Rattle.bw_model.specs.declared.step.Answer.TheVariants.{Whether}
-use Rattle.bw_model.specs.declared.step.Link.{Link}
+use Rattle.progress.proofs.Words.{eqb_tells, MatchOption, ◌==◌, Limits, Reply, Answer, Whether, Link, Exchange, Place, Memory, next_row, Record, IsChainFrom, IsChainOf, Entry, Begin, Step}
+use Rattle.progress.proofs.Words.{IsNext, memory_after_entry, memory_at, memory_of, pushed_length, slice_get-push, take-push_whole, IsDirect, IsInPhase, MovesPhase, Phase, free, owned}
+use Rattle.progress.proofs.Words.{takes, splits, becomes_root, terms, under_root, holds, removes, merges, unterms, reuses, shared_part, IsInTree, IsState, phase_of, slot_some}
 use Rattle.bw_model.specs.declared.step.Link.TheVariants as link
-use Rattle.bw_model.specs.declared.step.Step.TheVariants.{Exchange, Place}
-use Rattle.deltas.specs.Memory.{Memory}
-use Rattle.deltas.specs.Records.{next_row}
-use Rattle.deltas.specs.declared.record.Record.{Record}
-use Rattle.traces.specs.chain.Chains.{IsChainFrom, IsChainOf}
-use Rattle.traces.specs.declared.trace.Entry.{Entry}
-use Rattle.traces.specs.declared.trace.Entry.TheVariants.{Begin, Step}
 use Rattle.traces.specs.discipline.Knowledge.{Knowledge, OwnRow, Written, knows, knows_after}
-use Rattle.traces.specs.trace.Run.{IsNext}
-use Rattle.traces.specs.trace.Trace.{memory_after_entry, memory_at, memory_of}
-use Rattle.traces.proofs.Pushes.{pushed_length, slice_get-push, take-push_whole}
 use Rattle.traces.proofs.TraceLaws.{Happens-below, Happens-kept, Happens-push_cases, memory_of-push}
-use Rattle.op_machine.specs.theorem.Direct.{IsDirect}
 use Rattle.op_machine.specs.theorem.Links.{Wins, link_of}
-use Rattle.op_machine.specs.theorem.Phases.{IsInPhase, MovesPhase, Phase, free, owned}
-use Rattle.op_machine.specs.theorem.Phases.{takes, splits, becomes_root, terms, under_root, holds, removes, merges, unterms, reuses}
 use Rattle.tree_law.specs.Owners.{Linked, OwnFits, Reached, Spare}
 use Rattle.tree_law.specs.Phase.{Cleared, Fresh, Keeps, Nobody, PageOwner, Placed, Stage}
-use Rattle.tree_law.specs.Shared.{shared_part}
-use Rattle.tree_law.specs.State.{IsInTree, IsState, phase_of}
 use Rattle.tree_law.proofs.links.Keeping.{slot_of}
-use Rattle.tree_law.proofs.shape.Mapping.{slot_some}
 use Rattle.tree_law.proofs.trace.Beginning.{knows-push}
 use Rattle.tree_law.proofs.trace.Names.{placed_at, slot_none}
 use Rattle.progress.specs.ReadersAmong.{changes_tree, is_change}

@@ -1,15 +1,7 @@
 -- The visit of a page whose chain stands in the memory: it reads one record after another, and finds the whole page.
 use Rattle.std.proofs.Common.{◌≡◌, ◌<◌, ◌++◌, append_assoc, ℕ, suc, List, [], ◌∷◌, length, Some, None, refl, sym, ap, subst, ◌∙◌, inl, inr, arith}
-use Rattle.std.specs.Prelude.{MatchOption}
-use Rattle.tree_limits.specs.declared.limits.Limits.{Limits}
-use Rattle.bw_model.specs.declared.step.Answer.{Answer}
+use Rattle.progress.proofs.Words.{MatchOption, Limits, Answer, Memory, next_row, Record, IsChainFrom, IsChainOf, IsAnswer, Version}
 use Rattle.bw_model.specs.declared.step.Answer.TheVariants.{Number, Content}
-use Rattle.deltas.specs.Memory.{Memory}
-use Rattle.deltas.specs.Records.{next_row}
-use Rattle.deltas.specs.declared.record.Record.{Record}
-use Rattle.traces.specs.chain.Chains.{IsChainFrom, IsChainOf}
-use Rattle.traces.specs.trace.Steps.{IsAnswer}
-use Rattle.structure_changes.specs.Versions.{Version}
 use Rattle.round_model.specs.Visits.{Completes, Continues, FindsHead, Responds, Empty, Whole, Visit, VisitState, Slot, Row, wanted_step}
 
 module _ (memory : Memory) where

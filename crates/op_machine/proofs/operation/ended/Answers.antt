@@ -1,9 +1,5 @@
-use Rattle.std.proofs.Common.{◌≡◌, ap, subst, sym, ◌∙◌}
-use Rattle.bw_model.specs.Answers.{answer_of}
-use Rattle.traces.specs.discipline.Knowledge.{Limbos}
-use Rattle.op_machine.specs.machine.Places.{OpPlaces, state_of}
+use Rattle.op_machine.proofs.Words.{◌≡◌, ap, subst, sym, ◌∙◌, answer_of, Limbos, OpPlaces, state_of, AreKept}
 use Rattle.op_machine.specs.machine.Shows.{learn_last, wanted_at}
-use Rattle.sweep.specs.Kept.{AreKept}
 use Rattle.op_machine.proofs.operation.ended.Goals as goal
 
 pub unlink-requires : goal.unlink-requires

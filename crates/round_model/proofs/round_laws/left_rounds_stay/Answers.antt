@@ -1,10 +1,5 @@
-use Rattle.std.proofs.Common.{◌≡◌, inl, inr, None, sym, ap, ◌∙◌}
-use Rattle.structure_changes.specs.Versions.{Version}
-use Rattle.round_model.specs.Visits.{Sight, Empty, Whole}
+use Rattle.round_model.proofs.Words.{◌≡◌, inl, inr, None, sym, ap, ◌∙◌, Version, Sight, Empty, Whole, WriteRound, TreatsWrite, writing, Sees}
 use Rattle.round_model.specs.Courses.{Seek, Merge, Unterm}
-use Rattle.round_model.specs.WriteRounds.{WriteRound}
-use Rattle.round_model.specs.WriteResponses.{TreatsWrite, writing}
-use Rattle.round_model.specs.Rounds.{Sees}
 use Rattle.round_model.proofs.round_laws.left_rounds_stay.Goals as goal
 
 treated : (old new : WriteRound) (version : Version) → TreatsWrite old version new None → new.goal ≡ Seek → old.goal ≡ Seek

@@ -1,8 +1,6 @@
 use Rattle.std.proofs.Common.{◌≡◌, ◌+◌, ◌++◌, ◌∷◌, [], suc, set, take, ap, ◌∙◌, sym, arith, length-set}
-use Rattle.std.proofs.lemmas.List.{take_all}
+use Rattle.row_search.proofs.Words.{take_all, text_size, text_words}
 use Rattle.std.proofs.Math.Seq.{take-suc-set}
-use Rattle.record_slots.specs.Layout.{text_size}
-use Rattle.record_slots.specs.Spelling.{text_words}
 use Rattle.record_slots.proofs.TextLaws.{text_grows}
 use Rattle.row_search.proofs.key_words.words_of.Goals as goal
 

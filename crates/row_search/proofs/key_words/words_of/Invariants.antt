@@ -1,6 +1,4 @@
-use Rattle.std.proofs.Common.{◌≡◌, length, take}
-use Rattle.record_slots.specs.Layout.{text_size}
-use Rattle.record_slots.specs.Spelling.{text_words}
+use Rattle.row_search.proofs.Words.{◌≡◌, length, take, text_size, text_words}
 use Rattle.row_search.proofs.key_words.words_of.Given as goal
 
 abbrev pub invariant-loop-place : goal.invariant-loop-place

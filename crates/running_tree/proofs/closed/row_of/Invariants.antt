@@ -1,7 +1,4 @@
-use Rattle.std.proofs.Common.{◌≡◌, ◌<◌, ℕ, length}
-use Rattle.std.specs.Prelude.{slice_index}
-use Rattle.record_slots.specs.Layout.{row_size}
-use Rattle.tree_words.specs.Layout.{row_at}
+use Rattle.running_tree.proofs.Words.{◌≡◌, ◌<◌, ℕ, length, slice_index, row_size, row_at}
 use Rattle.running_tree.proofs.closed.row_of.Given as goal
 
 abbrev pub invariant-loop-j : goal.invariant-loop-j

@@ -1,10 +1,8 @@
 use Rattle.std.proofs.Common.{◌≡◌, Some, None, arith, sym, ap, subst, ◌∙◌}
-use Rattle.std.specs.Prelude.{slice_get}
+use Rattle.running_tree.proofs.Words.{slice_get, unfinished_command, slice_get_below}
 use mathlib.Core.Logic.{dite}
 use native.Mathlib.Decide.{ℕ_discrete}
-use Rattle.running_tree.specs.Seats.{unfinished_command}
 use Rattle.running_tree.proofs.Resting.{at_index, get_one, has_none, has_one}
-use Rattle.traces.proofs.Pushes.{slice_get_below}
 use Rattle.running_tree.proofs.closing.are_idle.Goals as goal
 
 pub returns-then-not-is_idle : goal.returns-then-not-is_idle

@@ -1,6 +1,5 @@
 use Rattle.std.proofs.Common.{◌≡◌, ◌<◌, ℕ, Some, None}
-use Rattle.std.specs.Prelude.{slice_get}
-use Rattle.running_tree.specs.Seats.{Seat, unfinished_command}
+use Rattle.running_tree.proofs.Words.{slice_get, Seat, unfinished_command}
 use Rattle.running_tree.proofs.closing.are_idle.Given as goal
 
 abbrev pub invariant-loop-seat : goal.invariant-loop-seat

@@ -1,5 +1,4 @@
-use Rattle.std.proofs.Common.{◌≡◌, ◌++◌, ◌∷◌, [], append-nil, append_assoc, sym, ap, subst, ◌∙◌}
-use Rattle.running_tree.specs.Trees.{HasPartsOf, IsSeatOf}
+use Rattle.running_tree.proofs.Words.{◌≡◌, ◌++◌, ◌∷◌, [], append-nil, append_assoc, sym, ap, subst, ◌∙◌, HasPartsOf, IsSeatOf}
 use Rattle.running_tree.proofs.Joining.{is_one, none_joined, puts_behind}
 use Rattle.running_tree.proofs.closing.joined.Goals as goal
 

@@ -1,6 +1,4 @@
-use Rattle.std.proofs.Common.{◌≡◌, ◌++◌, List, [], length}
-use Rattle.running_tree.specs.Seats.{Seat}
-use Rattle.running_tree.specs.Trees.{HasPartsOf}
+use Rattle.running_tree.proofs.Words.{◌≡◌, ◌++◌, List, [], length, Seat, HasPartsOf}
 use Rattle.running_tree.proofs.closing.joined.Given as goal
 
 abbrev pub invariant-loop-seat : goal.invariant-loop-seat

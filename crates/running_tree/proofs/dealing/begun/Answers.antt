@@ -1,8 +1,4 @@
-use Rattle.std.proofs.Common.{[], refl, sym, ap, subst, ◌∙◌}
-use Rattle.atomic_table.specs.Table.{opening}
-use Rattle.running_tree.specs.Runs.{IsLawfulRun}
-use Rattle.table_rule.specs.Running.{Running}
-use Rattle.table_rule.specs.Views.{Mine, dealt, other_parts}
+use Rattle.running_tree.proofs.Words.{[], refl, sym, ap, subst, ◌∙◌, opening, IsLawfulRun, Running, Mine, dealt, other_parts}
 use Rattle.running_tree.proofs.Opened.{deals_first, fresh, is_tree, seat_is}
 use Rattle.running_tree.proofs.dealing.begun.Goals as goal
 

@@ -1,12 +1,5 @@
 use Rattle.std.proofs.Common.{◌≡◌, ◌+◌, ◌-◌, ◌++◌, [], ◌∷◌, Some, length, length-append, sym, ap, subst, arith, ◌∙◌}
-use Rattle.std.specs.Prelude.{slice_get}
-use Rattle.tree_limits.specs.declared.limits.Limits.{Limits}
-use Rattle.running_tree.specs.Loaded.{seat_at}
-use Rattle.running_tree.specs.Seats.{Seat}
-use Rattle.running_tree.specs.Trees.{Tree}
-use Rattle.table_rule.specs.declared.view.Reach.TheVariants.{Idle}
-use Rattle.running_tree.specs.Runs.{IsSeenRun}
-use Rattle.table_rule.specs.Views.{alone, seen_of}
+use Rattle.running_tree.proofs.Words.{slice_get, Limits, seat_at, Seat, Tree, Idle, IsSeenRun, alone, seen_of}
 use Rattle.running_tree.proofs.Opened.{first_seat_at, fresh_then, deals_one, extends_one, first_left, first_extend, leaves_others, one_more, seat_is}
 use Rattle.running_tree.proofs.dealing.dealt_out.Goals as goal
 

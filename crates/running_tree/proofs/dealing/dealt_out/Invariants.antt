@@ -1,7 +1,5 @@
 use Rattle.std.proofs.Common.{◌≡◌, ◌<◌, ◌+◌, ℕ, [], length, Some}
-use Rattle.std.specs.Prelude.{slice_get}
-use Rattle.table_rule.specs.Views.{dealt_from}
-use Rattle.running_tree.specs.Loaded.{seat_at}
+use Rattle.running_tree.proofs.Words.{slice_get, dealt_from, seat_at}
 use Rattle.running_tree.proofs.Gathering.{AllExtend}
 use Rattle.running_tree.proofs.Opened.{left_of}
 use Rattle.running_tree.proofs.dealing.dealt_out.Given as goal

@@ -1,11 +1,4 @@
-use Rattle.std.proofs.Common.{◌≡◌, sym, ap, subst, ◌∙◌}
-use Rattle.tree_limits.specs.declared.limits.Limits.{Limits}
-use Rattle.table_rule.specs.declared.view.Reach.TheVariants.{Idle}
-use Rattle.table_rule.specs.Views.{SitsAt, seen_of}
-use Rattle.traces.specs.discipline.Disciplined.{Extends}
-use Rattle.running_tree.specs.Runs.{IsSeenRun}
-use Rattle.running_tree.specs.Seats.{IsSeat, Seat}
-use Rattle.running_tree.specs.Trees.{Tree}
+use Rattle.running_tree.proofs.Words.{◌≡◌, sym, ap, subst, ◌∙◌, Limits, Idle, SitsAt, seen_of, Extends, IsSeenRun, IsSeat, Seat, Tree}
 use Rattle.running_tree.proofs.Gathering.{first_extends, first_run, first_seat, others_are, others_extend, some_part}
 use Rattle.running_tree.proofs.Owning.{is_of, still_of}
 use Rattle.running_tree.proofs.dealing.gathered.Goals as goal

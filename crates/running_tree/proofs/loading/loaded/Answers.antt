@@ -1,15 +1,7 @@
 use Rattle.std.proofs.Common.{◌≡◌, ◌++◌, ℕ, None, IfErr, IfOk, sym, ap, ◌∙◌, subst}
-use Rattle.tree_limits.specs.declared.limits.Limits.{Limits}
-use Rattle.traces.specs.discipline.Disciplined.{Extends}
-use Rattle.traces.specs.trace.Trace.{command_of}
-use Rattle.table_rule.specs.Views.{Mine}
+use Rattle.running_tree.proofs.Words.{Limits, Extends, command_of, Mine, calls_in, calls_of, HasLoaded, HasStopped, HaveUpserted, IsStoppedAt, IsOneHistory, Seat, LoadStop}
 use Rattle.bw_model.specs.declared.command.Reply.TheVariants as reply
-use Rattle.running_tree.specs.Calls.{calls_in, calls_of}
-use Rattle.running_tree.specs.Loaded.{HasLoaded, HasStopped, HaveUpserted, IsStoppedAt}
-use Rattle.running_tree.specs.Runs.{IsOneHistory}
-use Rattle.running_tree.specs.Seats.{Seat}
 use Rattle.running_tree.specs.declared.called.Called.TheVariants as called
-use Rattle.running_tree.specs.declared.called.LoadStop.{LoadStop}
 use Rattle.running_tree.specs.declared.called.LoadStop.TheVariants as stop
 use Rattle.running_tree.specs.declared.filling.TheConstants.{LOAD_BUDGET}
 use Rattle.running_tree.proofs.Filled.{are_loaded, is_stopped}

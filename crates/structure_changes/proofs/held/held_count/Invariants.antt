@@ -1,5 +1,4 @@
-use Rattle.std.proofs.Common.{◌≡◌, ◌≤◌, ◌+◌, drop}
-use Rattle.base_page.specs.Rules.{held_count}
+use Rattle.structure_changes.proofs.Words.{◌≡◌, ◌≤◌, ◌+◌, drop, held_count}
 use Rattle.structure_changes.proofs.held.held_count.Given as goal
 
 abbrev pub invariant-loop-item : goal.invariant-loop-item

@@ -1,6 +1,5 @@
-use Rattle.std.proofs.Common.{ap, refl, sym, ◌∙◌, ◌≡◌, arith}
+use Rattle.structure_changes.proofs.Words.{ap, refl, sym, ◌∙◌, ◌≡◌, arith, held_count}
 use Rattle.std.proofs.lemmas.Bool.Decides.{nat_tests}
-use Rattle.base_page.specs.Rules.{held_count}
 use Rattle.structure_changes.proofs.Places.{from_made, of_made}
 use Rattle.structure_changes.proofs.Unheld.{leaf_unheld}
 use Rattle.structure_changes.proofs.held.is_unheld.Goals as goal

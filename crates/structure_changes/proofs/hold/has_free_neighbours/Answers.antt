@@ -1,5 +1,4 @@
-use Rattle.std.proofs.Common.{◌∙◌, refl, sym, arith}
-use Rattle.std.proofs.lemmas.Bool.{false≢true}
+use Rattle.structure_changes.proofs.Words.{◌∙◌, refl, sym, arith, false≢true}
 use Rattle.structure_changes.proofs.HoldFits.{free_so_far, free_there}
 use Rattle.structure_changes.proofs.hold.has_free_neighbours.Goals as goal
 use Rattle.structure_changes.proofs.hold.has_free_neighbours.Goals.{then-not-is_free_beside-via-then-not-is_free_beside, then-not-is_free_beside-via-else-not-is_free_beside+then-not-is_free_beside-2}

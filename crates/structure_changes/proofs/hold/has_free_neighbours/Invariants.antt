@@ -1,5 +1,4 @@
-use Rattle.std.proofs.Common.{ℕ, suc, ◌<◌}
-use Rattle.structure_changes.specs.Holds.{IsFreeBeside}
+use Rattle.structure_changes.proofs.Words.{ℕ, suc, ◌<◌, IsFreeBeside}
 use Rattle.structure_changes.proofs.hold.has_free_neighbours.Given as goal
 
 abbrev pub invariant-loop-place : goal.invariant-loop-place

@@ -1,6 +1,4 @@
-use Rattle.std.proofs.Common.{refl, sym, ◌∙◌}
-use Rattle.std.proofs.lemmas.Bool.{false≢true}
-use Rattle.base_page.proofs.KeyLaws.{not_true}
+use Rattle.structure_changes.proofs.Words.{refl, sym, ◌∙◌, false≢true, not_true}
 use Rattle.structure_changes.proofs.Places.{decides_key}
 use Rattle.structure_changes.proofs.hold.is_free_beside.Goals as goal
 

@@ -1,9 +1,4 @@
-use Rattle.std.proofs.Common.{◌≡◌, ◌≢◌, ◌<◌, refl, sym, ap, ◌∙◌, arith}
-use Rattle.std.proofs.lemmas.Bool.{false≢true}
-use Rattle.base_page.specs.Rules.{held_count}
-use Rattle.traces.specs.chain.Chains.{is_removed, low_in}
-use Rattle.traces.specs.chain.Fitted.{Makes}
-use Rattle.structure_changes.specs.Holds.{HasFreeNeighbours}
+use Rattle.structure_changes.proofs.Words.{◌≡◌, ◌≢◌, ◌<◌, refl, sym, ap, ◌∙◌, arith, false≢true, held_count, is_removed, low_in, Makes, HasFreeNeighbours}
 use Rattle.structure_changes.proofs.HoldFits.{planned}
 use Rattle.structure_changes.proofs.Places.{decides_key, from_made, of_made, same_records}
 use Rattle.structure_changes.proofs.hold.plan_hold.Goals as goal

@@ -1,8 +1,4 @@
-use Rattle.std.proofs.Common.{◌≡◌, ◌<◌, ◌≤◌, length, true, sym, ap, ◌∙◌, arith}
-use Rattle.base_page.specs.Rules.{held_count}
-use Rattle.traces.specs.chain.Chains.{is_removed, level_in}
-use Rattle.traces.specs.chain.Fitted.{IsFitted, Makes}
-use Rattle.traces.proofs.FittedLaws.{page_of, ruled}
+use Rattle.structure_changes.proofs.Words.{◌≡◌, ◌<◌, ◌≤◌, length, true, sym, ap, ◌∙◌, arith, held_count, is_removed, level_in, IsFitted, Makes, page_of, ruled}
 use Rattle.structure_changes.proofs.MergeFits.{planned}
 use Rattle.structure_changes.proofs.Places.{from_made, of_made, same_records}
 use Rattle.structure_changes.proofs.Removed.{few_removed}

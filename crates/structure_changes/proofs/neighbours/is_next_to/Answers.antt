@@ -1,6 +1,5 @@
 use Rattle.std.proofs.Common.{◌≡◌, Some, rules, sym, ap, ◌∙◌}
-use Rattle.std.proofs.lemmas.Option.{same_Some}
-use Rattle.traces.specs.chain.Chains.{high_in, low_in, right_in}
+use Rattle.structure_changes.proofs.Words.{same_Some, high_in, low_in, right_in}
 use Rattle.structure_changes.proofs.Places.{decides_key, same_records}
 use Rattle.structure_changes.proofs.neighbours.is_next_to.Goals as goal
 

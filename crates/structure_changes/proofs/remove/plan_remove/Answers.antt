@@ -1,10 +1,5 @@
-use Rattle.std.proofs.Common.{refl, sym, ap, ◌∙◌, arith}
-use Rattle.std.proofs.lemmas.Bool.{false≢true}
-use Rattle.traces.specs.chain.Chains.{is_removed}
-use Rattle.traces.specs.chain.Fitted.{IsFitted}
-use Rattle.traces.proofs.FittedLaws.{page_of, ruled}
+use Rattle.structure_changes.proofs.Words.{refl, sym, ap, ◌∙◌, arith, false≢true, is_removed, IsFitted, page_of, ruled, HasNoneHeld}
 use Rattle.structure_changes.proofs.RemoveFits.{planned}
-use Rattle.structure_changes.specs.Sizes.{HasNoneHeld}
 use Rattle.structure_changes.proofs.Places.{same_records}
 use Rattle.structure_changes.proofs.remove.plan_remove.Goals as goal
 

@@ -1,13 +1,7 @@
 use Rattle.std.proofs.Common.{◌≡◌, ◌≤◌, ◌+◌, ◌==◌, ℕ, suc, List, [], ◌∷◌, length, true, false, None, refl, sym, ap, ◌∙◌, arith}
-use Rattle.std.specs.Prelude.{IsTrue}
+use Rattle.structure_changes.proofs.Words.{IsTrue, is_below, Child, Item, IsPid, is_removed, level_in, low_in, IsFitted}
 use Rattle.std.proofs.lemmas.Bool.{eqb-true}
-use Rattle.bw_model.specs.Bytes.{is_below}
-use Rattle.base_page.specs.declared.item.Content.TheVariants.{Child}
-use Rattle.base_page.specs.declared.item.Item.{Item}
-use Rattle.deltas.specs.Spellable.{IsPid}
 use Rattle.deltas.specs.declared.record.Record.TheVariants as kind
-use Rattle.traces.specs.chain.Chains.{is_removed, level_in, low_in}
-use Rattle.traces.specs.chain.Fitted.{IsFitted}
 use Rattle.structure_changes.proofs.RootFits.{planned, root_stands, some}
 use Rattle.structure_changes.proofs.Places.{same_records}
 use Rattle.structure_changes.proofs.root.plan_root.Goals as goal

@@ -1,6 +1,4 @@
-use Rattle.std.proofs.Common.{◌≤◌, length, sym, ap, ◌∙◌, arith}
-use Rattle.traces.specs.chain.Chains.{is_removed}
-use Rattle.traces.specs.chain.Fitted.{IsFitted, Makes}
+use Rattle.structure_changes.proofs.Words.{◌≤◌, length, sym, ap, ◌∙◌, arith, is_removed, IsFitted, Makes}
 use Rattle.structure_changes.proofs.SplitFits.{apart, planned}
 use Rattle.structure_changes.proofs.Places.{same_records}
 use Rattle.structure_changes.proofs.split.plan_split.Goals as goal

@@ -1,8 +1,4 @@
-use Rattle.std.proofs.Common.{◌≡◌, ◌<◌, ◌/◌, List, length, true, sym, ap, subst, ◌∙◌, arith}
-use Rattle.std.specs.List.{HoldsAt}
-use Rattle.std.proofs.lemmas.List.Elements.{at_read}
-use Rattle.base_page.specs.declared.item.Item.{Item}
-use Rattle.base_page.specs.Rules.{is_held}
+use Rattle.structure_changes.proofs.Words.{◌≡◌, ◌<◌, ◌/◌, List, length, true, sym, ap, subst, ◌∙◌, arith, HoldsAt, at_read, Item, is_held}
 use Rattle.structure_changes.proofs.SplitFits.{next_place}
 use Rattle.structure_changes.proofs.split.split_place.Goals as goal
 

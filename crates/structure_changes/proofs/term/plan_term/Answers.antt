@@ -1,9 +1,4 @@
-use Rattle.std.proofs.Common.{◌≡◌, false, Option, Some, None, refl, sym, ap, ◌∙◌, arith}
-use Rattle.std.specs.Prelude.{is_some}
-use Rattle.base_page.specs.declared.item.Content.{Content}
-use Rattle.traces.specs.chain.Chains.{is_removed, low_in}
-use Rattle.traces.specs.chain.Fitted.{IsFitted}
-use Rattle.traces.proofs.FittedLaws.{page_of, ruled}
+use Rattle.structure_changes.proofs.Words.{◌≡◌, false, Option, Some, None, refl, sym, ap, ◌∙◌, arith, is_some, Content, is_removed, low_in, IsFitted, page_of, ruled}
 use Rattle.structure_changes.proofs.TermFits.{planned}
 use Rattle.structure_changes.proofs.Places.{same_records}
 use Rattle.structure_changes.proofs.term.plan_term.Goals as goal

@@ -1,10 +1,5 @@
-use Rattle.std.proofs.Common.{◌≡◌, false, refl, sym, ap, ◌∙◌, arith}
+use Rattle.structure_changes.proofs.Words.{◌≡◌, false, refl, sym, ap, ◌∙◌, arith, false≢true, is_below, high_in, is_removed, low_in, IsFitted, IsNextTo}
 use Rattle.std.specs.Prelude.{IfSome, IsFalse, IsTrue}
-use Rattle.std.proofs.lemmas.Bool.{false≢true}
-use Rattle.bw_model.specs.Bytes.{is_below}
-use Rattle.traces.specs.chain.Chains.{high_in, is_removed, low_in}
-use Rattle.traces.specs.chain.Fitted.{IsFitted}
-use Rattle.structure_changes.specs.Neighbours.{IsNextTo}
 use Rattle.structure_changes.proofs.UntermFits.{planned}
 use Rattle.structure_changes.proofs.Places.{same_records}
 use Rattle.structure_changes.proofs.unterm.plan_unterm.Goals as goal

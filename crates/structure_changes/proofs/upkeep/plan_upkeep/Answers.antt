@@ -1,6 +1,4 @@
-use Rattle.std.proofs.Common.{arith, inr}
-use Rattle.traces.specs.chain.Fitted.{IsFitted}
-use Rattle.structure_changes.specs.Sizes.{HasNoneHeld}
+use Rattle.structure_changes.proofs.Words.{arith, inr, IsFitted, HasNoneHeld}
 use Rattle.structure_changes.proofs.Places.{made}
 use Rattle.structure_changes.proofs.upkeep.plan_upkeep.Goals as goal
 

@@ -1,12 +1,6 @@
-use Rattle.traces.specs.discipline.Recalled.{cause_worth}
-use Rattle.std.proofs.Common.{Some, ap, sym, subst, Option, ◌∙◌}
+use Rattle.op_machine.proofs.Words.{cause_worth, Some, ap, sym, subst, Option, ◌∙◌, blank, is_leaving, Task, IsActorWith, UnderWay}
 use Rattle.bw_model.specs.Lent.{step_of_loan}
 use Rattle.traces.specs.discipline.Knowledge.{after_begin}
-use Rattle.traces.specs.discipline.Recalled.{blank}
-use Rattle.op_machine.specs.machine.Outcomes.{is_leaving}
-use Rattle.op_machine.specs.machine.Tasks.{Task}
-use Rattle.op_machine.specs.machine.Actors.{IsActorWith}
-use Rattle.op_machine.specs.machine.UnderWay.{UnderWay}
 use Rattle.op_machine.proofs.ActorGoing.{begun_few, begun_left, command_is, idle_at, is_asking, shown_begun, told_start}
 use Rattle.op_machine.proofs.actor.Actor.begin.Goals as goal
 

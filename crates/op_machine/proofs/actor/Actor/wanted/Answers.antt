@@ -1,6 +1,5 @@
-use Rattle.std.proofs.Common.{ap}
+use Rattle.op_machine.proofs.Words.{ap, wanted_by}
 use Rattle.op_machine.proofs.ActorGoing.{is_asking, is_on, shown_at}
-use Rattle.op_machine.specs.machine.Actors.{wanted_by}
 use Rattle.op_machine.proofs.actor.Actor.wanted.Goals as goal
 
 pub returns : goal.returns

@@ -1,7 +1,6 @@
-use Rattle.std.proofs.Common.{◌≡◌, ap, rules}
+use Rattle.op_machine.proofs.Words.{◌≡◌, ap, rules, Hand}
 use Rattle.structure_changes.specs.declared.after.After.TheVariants.{Limbo}
 use Rattle.op_machine.specs.declared.then.Then.TheVariants.{After}
-use Rattle.op_machine.specs.machine.Hands.{Hand}
 use Rattle.op_machine.proofs.TakingOut.{gone, taken}
 use Rattle.op_machine.proofs.hand.Hand.unlink.Goals as goal
 

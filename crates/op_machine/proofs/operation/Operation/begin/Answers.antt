@@ -1,5 +1,4 @@
-use Rattle.std.proofs.Common.{ap}
-use Rattle.op_machine.specs.machine.Tasks.{Task}
+use Rattle.op_machine.proofs.Words.{ap, Task}
 use Rattle.op_machine.proofs.Worth.{begin_few}
 use Rattle.op_machine.proofs.operation.Operation.begin.Goals as goal
 

@@ -1,6 +1,5 @@
-use Rattle.std.proofs.Common.{◌≡◌, ap, refl}
+use Rattle.op_machine.proofs.Words.{◌≡◌, ap, refl, OpPlaces, ended_with}
 use Rattle.op_machine.specs.machine.Outcomes.{Changed, change_out}
-use Rattle.op_machine.specs.machine.Places.{OpPlaces, ended_with}
 use Rattle.op_machine.proofs.Going.{follows, goes_on, told_change}
 use Rattle.op_machine.proofs.GoingLeft.{in_change}
 use Rattle.op_machine.proofs.operation.Operation.change_on.Goals as goal

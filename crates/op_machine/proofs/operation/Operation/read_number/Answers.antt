@@ -1,9 +1,8 @@
-use Rattle.std.proofs.Common.{ap}
+use Rattle.op_machine.proofs.Words.{ap, state_of}
 use Rattle.bw_model.specs.declared.step.Answer.TheVariants.{Number}
 use Rattle.round_model.specs.ReadEnds.{Again}
 use Rattle.rounds.specs.ReadRounds.{read_again_if}
 use Rattle.op_machine.specs.machine.Outcomes.{Read, read_out}
-use Rattle.op_machine.specs.machine.Places.{state_of}
 use Rattle.op_machine.proofs.Going.{follows, goes_on}
 use Rattle.op_machine.proofs.InPlaces.{comes_to, reader_is, reads_into, reads_state, reads_step, stands_reading}
 use Rattle.op_machine.proofs.operation.Operation.read_number.Goals as goal

@@ -1,9 +1,7 @@
-use Rattle.std.proofs.Common.{ap}
-use Rattle.std.specs.Option.{option_map}
+use Rattle.op_machine.proofs.Words.{ap, option_map, state_of}
 use Rattle.bw_model.specs.declared.step.Answer.TheVariants.{Content}
 use Rattle.rounds.specs.ReadRounds.{ended_read}
 use Rattle.op_machine.specs.machine.Outcomes.{Read, read_out}
-use Rattle.op_machine.specs.machine.Places.{state_of}
 use Rattle.op_machine.proofs.Going.{faced, follows, goes_on, told_alone}
 use Rattle.op_machine.proofs.InPlaces.{comes_to, reads_into, reads_state, reads_step, stands_reading}
 use Rattle.op_machine.proofs.operation.Operation.read_record.Goals as goal

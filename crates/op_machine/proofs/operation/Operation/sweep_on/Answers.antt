@@ -1,7 +1,4 @@
-use Rattle.std.proofs.Common.{ap, sym, ◌∙◌}
-use Rattle.bw_model.specs.Answers.{answer_of}
-use Rattle.op_machine.specs.machine.Ops.{Op}
-use Rattle.op_machine.specs.machine.Places.{state_of}
+use Rattle.op_machine.proofs.Words.{ap, sym, ◌∙◌, answer_of, Op, state_of}
 use Rattle.op_machine.proofs.SweepMoves.{begins_from, goes_on_from}
 use Rattle.op_machine.proofs.operation.Operation.sweep_on.Goals as goal
 use Rattle.op_machine.proofs.operation.Operation.sweep_on.Goals.{in-None, in-Some}

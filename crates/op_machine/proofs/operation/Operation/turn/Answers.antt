@@ -1,8 +1,4 @@
-use Rattle.std.proofs.Common.{◌≡◌, Some, refl, sym, ◌∙◌}
-use Rattle.bw_model.specs.Answers.{answer_of}
-use Rattle.op_machine.specs.machine.Outcomes.{Entered}
-use Rattle.op_machine.specs.machine.Places.{state_of}
-use Rattle.op_machine.specs.machine.Works.{TurnsInto}
+use Rattle.op_machine.proofs.Words.{◌≡◌, Some, refl, sym, ◌∙◌, answer_of, Entered, state_of, TurnsInto}
 use Rattle.op_machine.specs.declared.places.StateKind.TheVariants.{Enter}
 use Rattle.op_machine.proofs.Going.{follows, has_entered}
 use Rattle.op_machine.proofs.InPlaces.{comes_to}

@@ -1,5 +1,4 @@
-use Rattle.std.proofs.Common.{ap, refl}
-use Rattle.std.specs.Option.{option_map}
+use Rattle.op_machine.proofs.Words.{ap, refl, option_map}
 use Rattle.bw_model.specs.declared.step.Answer.TheVariants.{Content}
 use Rattle.rounds.specs.WriteRounds.{ended_write}
 use Rattle.op_machine.specs.machine.Outcomes.{Written, written_out}

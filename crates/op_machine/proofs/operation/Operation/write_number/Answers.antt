@@ -1,9 +1,8 @@
-use Rattle.std.proofs.Common.{ap}
+use Rattle.op_machine.proofs.Words.{ap, state_of}
 use Rattle.bw_model.specs.declared.step.Answer.TheVariants.{Number}
 use Rattle.round_model.specs.WriteEnds.{Again}
 use Rattle.rounds.specs.WriteRounds.{write_again_if}
 use Rattle.op_machine.specs.machine.Outcomes.{Written, written_out}
-use Rattle.op_machine.specs.machine.Places.{state_of}
 use Rattle.op_machine.proofs.Going.{follows, goes_on}
 use Rattle.op_machine.proofs.InPlaces.{comes_to, stands_writing, writer_is, writes_into, writes_state, writes_step}
 use Rattle.op_machine.proofs.operation.Operation.write_number.Goals as goal

@@ -1,5 +1,4 @@
-use Rattle.std.proofs.Common.{◌∙◌}
-use Rattle.op_machine.specs.machine.Bounded.{one_round}
+use Rattle.op_machine.proofs.Words.{◌∙◌, one_round}
 use Rattle.op_machine.proofs.Changing.{begins_apart}
 use Rattle.op_machine.proofs.Plans.{one_more}
 use Rattle.op_machine.proofs.places.Places.begin_change.Goals as goal

@@ -1,18 +1,11 @@
-use Rattle.std.proofs.Common.{◌≡◌, ◌<◌, Some, length, refl, sym, ap, subst, ◌∙◌}
-use Rattle.deltas.specs.declared.record.Unterm.{Unterm}
+use Rattle.op_machine.proofs.Words.{◌≡◌, ◌<◌, Some, length, refl, sym, ap, subst, ◌∙◌, Unterm, IsChainFrom-unique, DueChange, IsPlanned, IsDueBy, Plan, Brings, IsReadPlan, IsUsefulPlan}
+use Rattle.op_machine.proofs.Words.{MayBegin, AreHalves}
 use Rattle.traces.specs.discipline.Recalled.{WasHead}
-use Rattle.traces.proofs.ChainLaws.{IsChainFrom-unique}
 use Rattle.round_model.specs.WriteEnds as due
-use Rattle.round_model.specs.WriteEnds.{DueChange, IsPlanned}
-use Rattle.round_model.specs.WriteRounds.{IsDueBy}
 use Rattle.change_machine.specs.Changes.{KeepsSpare, MayLinkAs}
 use Rattle.structure_changes.specs.Plans.{head_of, slot_of}
 use Rattle.structure_changes.specs.declared.after.After.{After}
-use Rattle.structure_changes.specs.declared.plan.Plan.{Plan}
 use Rattle.op_machine.specs.declared.then.Then.TheVariants as then
-use Rattle.op_machine.specs.machine.Brings.{Brings, IsReadPlan, IsUsefulPlan}
-use Rattle.op_machine.specs.machine.Shows.{MayBegin}
-use Rattle.op_machine.specs.theorem.Halves.{AreHalves}
 use Rattle.op_machine.proofs.Dues.{dues_there}
 use Rattle.op_machine.proofs.Halves.{halves}
 use Rattle.op_machine.proofs.Plans.{long_chain}

@@ -1,15 +1,8 @@
-use Rattle.std.proofs.Common.{◌≡◌, ◌≤◌, inl, inr, refl, ap, subst, arith, rules}
-use Rattle.tree_limits.specs.declared.limits.Limits.{Limits}
+use Rattle.op_machine.proofs.Words.{◌≡◌, ◌≤◌, inl, inr, refl, ap, subst, arith, rules, Limits, Knowledge, Errand, Kind, left_at, one_round, state_of, Task}
 use Rattle.traces.specs.discipline.Discipline.{LacksRoom}
-use Rattle.traces.specs.discipline.Knowledge.{Knowledge}
 use Rattle.change_machine.specs.Taking.{AllFull}
-use Rattle.structure_changes.specs.declared.after.After.TheVariants.{Errand}
 use Rattle.op_machine.specs.declared.then.Then.TheVariants.{After}
-use Rattle.change_machine.specs.declared.taking.Kind.{Kind}
 use Rattle.change_machine.specs.declared.taking.Kind.TheVariants.{Pid, Row}
-use Rattle.op_machine.specs.machine.Bounded.{left_at, one_round}
-use Rattle.op_machine.specs.machine.Places.{state_of}
-use Rattle.op_machine.specs.machine.Tasks.{Task}
 use Rattle.op_machine.proofs.Plans.{errand_more, errands_same}
 use Rattle.op_machine.proofs.task.Task.end_changing.Goals as goal
 

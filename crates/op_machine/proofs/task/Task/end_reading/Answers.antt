@@ -1,6 +1,5 @@
-use Rattle.std.proofs.Common.{ap, refl, arith}
+use Rattle.op_machine.proofs.Words.{ap, refl, arith, seen_is_read}
 use Rattle.op_machine.specs.machine.States.{Read}
-use Rattle.round_model.proofs.SeenPages.{seen_is_read}
 use Rattle.op_machine.proofs.task.Task.end_reading.Goals as goal
 
 pub leave_over-requires : goal.leave_over-requires

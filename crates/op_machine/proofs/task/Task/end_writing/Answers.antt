@@ -1,8 +1,6 @@
-use Rattle.std.proofs.Common.{ap, refl}
-use Rattle.op_machine.specs.machine.Places.{left_round_of}
+use Rattle.op_machine.proofs.Words.{ap, refl, left_round_of, seen_is_read}
 use Rattle.op_machine.specs.machine.States.{Write}
 use Rattle.op_machine.proofs.Plans.{at_sought_leaf, errands_same, left_is_of}
-use Rattle.round_model.proofs.SeenPages.{seen_is_read}
 use Rattle.op_machine.proofs.task.Task.end_writing.Goals as goal
 
 pub returns-in-Again-clause-stands : goal.returns-in-Again-clause-stands

@@ -1,15 +1,9 @@
-use Rattle.std.proofs.Common.{◌≡◌, ◌<◌, ◌∙◌, Some, true, false, length, refl, sym, ap, is_some, arith}
-use Rattle.bw_model.specs.Replies.{command_key, reply_of, update_of}
-use Rattle.traces.specs.chain.Chains.{content_in}
-use Rattle.traces.specs.discipline.Discipline.{chain_value}
-use Rattle.rounds.specs.WriteRounds.{PlacedWrite}
+use Rattle.op_machine.proofs.Words.{◌≡◌, ◌<◌, ◌∙◌, Some, true, false, length, refl, sym, ap, is_some, arith, command_key, reply_of, update_of, content_in, chain_value, PlacedWrite, of_made}
+use Rattle.op_machine.proofs.Words.{update_over, seen_is_read}
 use Rattle.structure_changes.specs.Reads.{chain_of}
-use Rattle.structure_changes.proofs.Places.{of_made}
-use Rattle.op_machine.specs.machine.Brings.{update_over}
 use Rattle.op_machine.proofs.Commands.{change_is, over_fits, over_kept, over_links, over_next, over_spells, over_useful, update_due, value_same}
 use Rattle.op_machine.proofs.Executing.{answers_there, within}
 use Rattle.op_machine.proofs.Plans.{over_page}
-use Rattle.round_model.proofs.SeenPages.{seen_is_read}
 use Rattle.op_machine.proofs.Tidying.{may_call}
 use Rattle.op_machine.proofs.task.Task.execute_at_leaf.Goals as goal
 

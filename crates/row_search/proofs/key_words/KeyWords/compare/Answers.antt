@@ -1,7 +1,5 @@
 use Rattle.std.proofs.Common.{List, ℕ, take, ◌∙◌}
-use Rattle.std.specs.Ordering.{ordering_then}
-use Rattle.bw_model.specs.Bytes.{key_cmp}
-use Rattle.record_slots.specs.Texts.{bytes_of}
+use Rattle.row_search.proofs.Words.{ordering_then, key_cmp, bytes_of}
 use Rattle.row_search.proofs.WordsCmp.{by_words}
 use Rattle.row_search.proofs.key_words.KeyWords.compare.Goals as goal
 

@@ -1,8 +1,5 @@
 use Rattle.std.proofs.Common.{ℕ, List, get_or, ap, sym, ◌∙◌, take, arith}
-use Rattle.std.specs.Ordering.{nat_cmp}
-use Rattle.bw_model.specs.Bytes.{key_cmp}
-use Rattle.record_slots.specs.Texts.{bytes_of}
-use Rattle.row_search.specs.Placed.{row_words_of}
+use Rattle.row_search.proofs.Words.{nat_cmp, key_cmp, bytes_of, row_words_of}
 use Rattle.row_search.proofs.WordByWord.{by_first_other, by_lengths}
 use Rattle.row_search.proofs.key_words.KeyWords.compare_at.Goals as goal
 

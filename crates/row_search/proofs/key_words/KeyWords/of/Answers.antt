@@ -1,9 +1,5 @@
 use Rattle.std.proofs.Common.{◌≡◌, List, ℕ, take, length, refl, sym, ap, subst, ◌∙◌, arith}
-use Rattle.bw_model.specs.Bytes.{IsShort}
-use Rattle.record_slots.specs.Layout.{text_size}
-use Rattle.record_slots.specs.Spelling.{text_words}
-use Rattle.record_slots.specs.Texts.{IsText, bytes_of}
-use Rattle.record_slots.proofs.TextLaws.{read_back}
+use Rattle.row_search.proofs.Words.{IsShort, text_size, text_words, IsText, bytes_of, read_back}
 use Rattle.row_search.proofs.key_words.KeyWords.of.Goals as goal
 
 spelled : (text : List ℕ) → IsShort text → take (length text) (bytes_of (text_words text_size text)) ≡ text

@@ -1,12 +1,6 @@
 use Rattle.std.proofs.Common.{◌≡◌, ℕ, [], None, Option, List, IsTrue, sym, ap, subst, ◌∙◌}
 use Rattle.std.specs.Prelude.{false}
-use Rattle.bw_model.specs.Bytes.{is_under}
-use Rattle.base_page.specs.Pages.{Page}
-use Rattle.deltas.specs.Records.{right_after}
-use Rattle.deltas.specs.Spellable.{IsSpellable}
-use Rattle.deltas.specs.declared.record.Record.{Record}
-use Rattle.deltas.specs.declared.record.Record.TheVariants.{Base}
-use Rattle.record_slots.specs.Parts.{row_of}
+use Rattle.row_search.proofs.Words.{is_under, Page, right_after, IsSpellable, Record, Base, row_of}
 use Rattle.row_search.proofs.ChangeLaws.{base_of}
 use Rattle.row_search.proofs.row_at.RowAt.base_in.Goals as goal
 

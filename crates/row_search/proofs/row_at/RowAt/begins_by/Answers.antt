@@ -1,7 +1,5 @@
 use Rattle.std.proofs.Common.{sym, ap, ◌∙◌}
-use Rattle.std.specs.Prelude.{not}
-use Rattle.std.specs.Ordering.{is_gt}
-use Rattle.record_slots.specs.Parts.{row_of}
+use Rattle.row_search.proofs.Words.{not, is_gt, row_of}
 use Rattle.row_search.proofs.RowTexts.{below_turned}
 use Rattle.row_search.proofs.row_at.RowAt.begins_by.Goals as goal
 

@@ -1,8 +1,5 @@
 use Rattle.std.proofs.Common.{ℕ, take, drop, suc, sym, subst}
-use Rattle.record_slots.specs.Layout.{first_at, text_size}
-use Rattle.record_slots.specs.Parts.{row_of}
-use Rattle.record_slots.specs.Spelling.{words_of}
-use Rattle.record_slots.specs.Texts.{IsText}
+use Rattle.row_search.proofs.Words.{first_at, text_size, row_of, words_of, IsText}
 use Rattle.row_search.proofs.RowTexts.{first_text}
 use Rattle.row_search.proofs.row_at.RowAt.compare_first.Goals as goal
 

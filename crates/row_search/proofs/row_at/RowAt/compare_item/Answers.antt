@@ -1,12 +1,6 @@
 use Rattle.std.proofs.Common.{◌+◌, ◌%◌, ℕ, List, [], get_or, take, drop, sym, ap, subst, ◌∙◌, arith}
 use Rattle.std.specs.Prelude.{false}
-use Rattle.bw_model.specs.Bytes.{key_cmp}
-use Rattle.base_page.specs.declared.item.Content.TheVariants.{Child}
-use Rattle.base_page.specs.declared.item.Item.{Item}
-use Rattle.record_slots.specs.Layout.{held_mark, items_at, text_size}
-use Rattle.record_slots.specs.Parts.{items_of}
-use Rattle.record_slots.specs.Spelling.{words_of}
-use Rattle.record_slots.specs.Texts.{IsText}
+use Rattle.row_search.proofs.Words.{key_cmp, Child, Item, held_mark, items_at, text_size, items_of, words_of, IsText}
 use Rattle.row_search.proofs.ItemReads.{key_text}
 use Rattle.row_search.proofs.RowTexts.{first_is}
 use Rattle.row_search.proofs.row_at.RowAt.compare_item.Goals as goal

@@ -1,8 +1,5 @@
 use Rattle.std.proofs.Common.{◌+◌, ◌%◌, ℕ, List, get_or, take, drop, sym, subst}
-use Rattle.record_slots.specs.Layout.{held_mark, text_size}
-use Rattle.record_slots.specs.Spelling.{words_of}
-use Rattle.record_slots.specs.Texts.{IsText}
-use Rattle.row_search.specs.Items.{items_said}
+use Rattle.row_search.proofs.Words.{held_mark, text_size, words_of, IsText, items_said}
 use Rattle.row_search.proofs.row_at.RowAt.compare_said.Goals as goal
 
 pub returns-clause-compared : goal.returns-clause-compared

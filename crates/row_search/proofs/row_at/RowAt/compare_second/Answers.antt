@@ -1,11 +1,5 @@
 use Rattle.std.proofs.Common.{ℕ, take, drop, suc, sym, ap, subst, ◌∙◌}
-use Rattle.std.specs.Prelude.{option_map}
-use Rattle.bw_model.specs.Bytes.{key_cmp}
-use Rattle.record_slots.specs.Layout.{second_at, text_size}
-use Rattle.record_slots.specs.Parts.{row_of}
-use Rattle.record_slots.specs.Spelling.{words_of}
-use Rattle.record_slots.specs.Texts.{IsText}
-use Rattle.record_slots.proofs.SpellingLaws.{row_spelled}
+use Rattle.row_search.proofs.Words.{option_map, key_cmp, second_at, text_size, row_of, words_of, IsText, row_spelled}
 use Rattle.row_search.proofs.RowTexts.{second_by}
 use Rattle.row_search.proofs.Bounds.{unbounded}
 use Rattle.row_search.proofs.row_at.RowAt.compare_second.Goals as goal

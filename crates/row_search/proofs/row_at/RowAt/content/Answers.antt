@@ -1,11 +1,6 @@
 use Rattle.std.proofs.Common.{◌≡◌, ◌<◌, ◌+◌, ◌*◌, List, ℕ, [], suc, get_or, take, drop, sym, subst, ◌∙◌, arith}
 use Rattle.std.specs.Prelude.{false, nat_le}
-use Rattle.base_page.specs.declared.item.Content.TheVariants.{Child}
-use Rattle.base_page.specs.declared.item.Item.{Item}
-use Rattle.record_slots.specs.Layout.{field_size, held_mark, item_size, items_at, text_size}
-use Rattle.record_slots.specs.Parts.{row_of}
-use Rattle.record_slots.specs.Spelling.{words_of}
-use Rattle.record_slots.specs.Texts.{IsText}
+use Rattle.row_search.proofs.Words.{Child, Item, field_size, held_mark, item_size, items_at, text_size, row_of, words_of, IsText}
 use Rattle.row_search.proofs.Found.{found_one, unwrapped}
 use Rattle.row_search.proofs.ItemReads.{child_there, marked, page_fits, value_is, value_there}
 use Rattle.row_search.proofs.row_at.RowAt.content.Goals as goal

@@ -1,7 +1,6 @@
 use Rattle.std.proofs.Common.{[], Some, sym, ap, ◌∙◌}
 use Rattle.std.specs.Prelude.{false}
-use Rattle.base_page.specs.declared.item.Content.TheVariants.{Child}
-use Rattle.base_page.specs.declared.item.Item.{Item}
+use Rattle.row_search.proofs.Words.{Child, Item}
 use Rattle.row_search.proofs.SaidLaws.{said_put}
 use Rattle.row_search.proofs.row_at.RowAt.content_said.Goals as goal
 

@@ -1,7 +1,5 @@
 use Rattle.std.proofs.Common.{◌≡◌, true, false, sym, ap, ◌∙◌}
-use Rattle.std.specs.Ordering.{is_gt}
-use Rattle.bw_model.specs.Bytes.{key_cmp}
-use Rattle.record_slots.specs.Parts.{row_of}
+use Rattle.row_search.proofs.Words.{is_gt, key_cmp, row_of}
 use Rattle.row_search.proofs.RowTexts.{names_merge, names_merge_under}
 use Rattle.row_search.proofs.row_at.RowAt.covers.Goals as goal
 

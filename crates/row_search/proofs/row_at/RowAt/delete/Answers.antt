@@ -1,7 +1,5 @@
 use Rattle.std.proofs.Common.{Some, sym, ap, ◌∙◌}
-use Rattle.deltas.specs.declared.record.Record.{Record}
-use Rattle.record_slots.specs.Parts.{row_of}
-use Rattle.row_search.specs.Changes.{delete_of}
+use Rattle.row_search.proofs.Words.{Record, row_of, delete_of}
 use Rattle.row_search.proofs.ChangeLaws.{delete_is, no_delete}
 use Rattle.row_search.proofs.row_at.RowAt.delete.Goals as goal
 

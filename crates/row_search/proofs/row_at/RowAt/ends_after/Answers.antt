@@ -1,7 +1,5 @@
 use Rattle.std.proofs.Common.{None, sym, ap, ◌∙◌}
-use Rattle.std.specs.Ordering.{is_gt}
-use Rattle.bw_model.specs.Bytes.{is_under}
-use Rattle.record_slots.specs.Parts.{row_of}
+use Rattle.row_search.proofs.Words.{is_gt, is_under, row_of}
 use Rattle.row_search.proofs.RowTexts.{below_turned}
 use Rattle.row_search.proofs.SaidLaws.{high_base, high_ends_not, high_merge, high_split}
 use Rattle.row_search.proofs.row_at.RowAt.ends_after.Goals as goal

@@ -1,12 +1,8 @@
 use Rattle.std.proofs.Common.{◌≡◌, ◌<◌, ◌+◌, ◌++◌, ◌∷◌, [], ℕ, List, take, get_or, length, ap, sym, subst, ◌∙◌, arith}
 use Rattle.std.proofs.lemmas.List.{take_all, take_more}
-use Rattle.base_page.specs.declared.item.Item.{Item}
+use Rattle.row_search.proofs.Words.{Item, IsSpellable, Record, Base, items_of}
 use Rattle.base_page.specs.Pages.{Page, IsPage}
 use Rattle.base_page.proofs.CutLaws.{IsPage-take}
-use Rattle.deltas.specs.Spellable.{IsSpellable}
-use Rattle.deltas.specs.declared.record.Record.{Record}
-use Rattle.deltas.specs.declared.record.Record.TheVariants.{Base}
-use Rattle.record_slots.specs.Parts.{items_of}
 use Rattle.row_search.proofs.ChangeLaws.{base_of}
 use Rattle.row_search.proofs.row_at.RowAt.fill.Goals as goal
 

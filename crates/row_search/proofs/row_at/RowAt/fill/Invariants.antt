@@ -1,6 +1,4 @@
-use Rattle.std.proofs.Common.{◌≡◌, take}
-use Rattle.base_page.specs.Pages.{Page}
-use Rattle.deltas.specs.declared.record.Record.TheVariants.{Base}
+use Rattle.row_search.proofs.Words.{◌≡◌, take, Page, Base}
 use Rattle.row_search.proofs.row_at.RowAt.fill.Given as goal
 
 abbrev pub invariant-loop-place : goal.invariant-loop-place

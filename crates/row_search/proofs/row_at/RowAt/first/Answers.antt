@@ -1,7 +1,5 @@
 use Rattle.std.proofs.Common.{List, ℕ}
-use Rattle.record_slots.specs.Parts.{row_of}
-use Rattle.record_slots.specs.Spelling.{words_of}
-use Rattle.record_slots.specs.Texts.{IsText}
+use Rattle.row_search.proofs.Words.{row_of, words_of, IsText}
 use Rattle.row_search.proofs.Found.{found_one, unwrapped}
 use Rattle.row_search.proofs.ItemReads.{text_same}
 use Rattle.row_search.proofs.RowTexts.{first_text}

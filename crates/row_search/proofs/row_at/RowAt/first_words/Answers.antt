@@ -1,9 +1,5 @@
 use Rattle.std.proofs.Common.{ℕ, suc, take, drop, get_or, sym, ap, subst, ◌∙◌}
-use Rattle.record_slots.specs.Layout.{first_at, text_size}
-use Rattle.record_slots.specs.Parts.{row_of}
-use Rattle.record_slots.specs.Spelling.{words_of}
-use Rattle.record_slots.specs.Texts.{IsText}
-use Rattle.row_search.specs.Reading.{text_in}
+use Rattle.row_search.proofs.Words.{first_at, text_size, row_of, words_of, IsText, text_in}
 use Rattle.row_search.proofs.ItemReads.{text_is, text_stands}
 use Rattle.row_search.proofs.RowTexts.{first_text}
 use Rattle.row_search.proofs.row_at.RowAt.first_words.Goals as goal

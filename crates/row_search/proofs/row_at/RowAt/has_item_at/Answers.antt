@@ -1,9 +1,6 @@
 use Rattle.std.proofs.Common.{[], sym, ap}
 use Rattle.std.specs.Prelude.{false, is_some}
-use Rattle.base_page.specs.declared.item.Content.TheVariants.{Child}
-use Rattle.base_page.specs.declared.item.Item.{Item}
-use Rattle.base_page.proofs.PlaceLaws.{content_at_place, content_at_gap}
-use Rattle.record_slots.specs.Parts.{items_of}
+use Rattle.row_search.proofs.Words.{Child, Item, content_at_place, content_at_gap, items_of}
 use Rattle.row_search.proofs.row_at.RowAt.has_item_at.Goals as goal
 
 none : Item

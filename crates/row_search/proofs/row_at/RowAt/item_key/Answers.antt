@@ -1,11 +1,6 @@
 use Rattle.std.proofs.Common.{◌≡◌, ◌+◌, ◌%◌, ℕ, List, [], get_or, take, drop, sym, subst}
 use Rattle.std.specs.Prelude.{false}
-use Rattle.base_page.specs.declared.item.Content.TheVariants.{Child}
-use Rattle.base_page.specs.declared.item.Item.{Item}
-use Rattle.record_slots.specs.Layout.{held_mark, text_size}
-use Rattle.record_slots.specs.Parts.{items_of}
-use Rattle.record_slots.specs.Spelling.{words_of}
-use Rattle.record_slots.specs.Texts.{IsText}
+use Rattle.row_search.proofs.Words.{Child, Item, held_mark, text_size, items_of, words_of, IsText}
 use Rattle.row_search.proofs.Found.{found_one, unwrapped}
 use Rattle.row_search.proofs.ItemReads.{key_text, text_same}
 use Rattle.row_search.proofs.row_at.RowAt.item_key.Goals as goal

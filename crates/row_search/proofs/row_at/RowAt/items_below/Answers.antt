@@ -1,8 +1,7 @@
 use Rattle.std.proofs.Common.{[]}
 use Rattle.std.specs.Prelude.{false}
-use Rattle.base_page.specs.declared.item.Content.TheVariants.{Child}
+use Rattle.row_search.proofs.Words.{Child, items_of}
 use Rattle.base_page.proofs.PlaceLaws.{IsCut-at, IsCut-gap}
-use Rattle.record_slots.specs.Parts.{items_of}
 use Rattle.row_search.proofs.row_at.RowAt.items_below.Goals as goal
 
 pub returns-in-Ok-clause-cut : goal.returns-in-Ok-clause-cut

@@ -1,12 +1,6 @@
 use Rattle.std.proofs.Common.{◌+◌, ◌%◌, ℕ, [], get_or, take, drop, sym, ap, subst, ◌∙◌}
 use Rattle.std.specs.Prelude.{false}
-use Rattle.base_page.specs.declared.item.Content.TheVariants.{Child}
-use Rattle.base_page.specs.declared.item.Item.{Item}
-use Rattle.record_slots.specs.Layout.{held_mark, text_size}
-use Rattle.record_slots.specs.Parts.{items_of}
-use Rattle.record_slots.specs.Spelling.{words_of}
-use Rattle.record_slots.specs.Texts.{IsText}
-use Rattle.row_search.specs.Reading.{text_in}
+use Rattle.row_search.proofs.Words.{Child, Item, held_mark, text_size, items_of, words_of, IsText, text_in}
 use Rattle.row_search.proofs.ItemReads.{key_text, text_is, text_stands}
 use Rattle.row_search.proofs.row_at.RowAt.key_at.Goals as goal
 

@@ -1,6 +1,5 @@
 use Rattle.std.proofs.Common.{sym, ap, ◌∙◌}
-use Rattle.std.specs.Prelude.{not}
-use Rattle.std.specs.Ordering.{is_eq, is_gt}
+use Rattle.row_search.proofs.Words.{not, is_eq, is_gt}
 use Rattle.row_search.proofs.RowTexts.{names_put, names_single, names_split}
 use Rattle.row_search.proofs.row_at.RowAt.names.Goals as goal
 

@@ -1,7 +1,6 @@
 use Rattle.std.proofs.Common.{sym, ap, ◌∙◌, arith}
 use Rattle.std.specs.Prelude.{Some}
-use Rattle.record_slots.specs.Spelling.{words_of}
-use Rattle.record_slots.proofs.SpellingLaws.{row_spelled}
+use Rattle.row_search.proofs.Words.{words_of, row_spelled}
 use Rattle.row_search.proofs.RowTexts.{next_there, next_word}
 use Rattle.row_search.proofs.row_at.RowAt.next.Goals as goal
 

@@ -1,7 +1,6 @@
 use Rattle.std.proofs.Common.{List, ℕ, [], Some, true, sym, ap, ◌∙◌}
 use Rattle.std.specs.Prelude.{false}
-use Rattle.base_page.specs.declared.item.Content.TheVariants.{Child}
-use Rattle.base_page.specs.declared.item.Item.{Item}
+use Rattle.row_search.proofs.Words.{Child, Item}
 use Rattle.row_search.proofs.SaidLaws.{one_put}
 use Rattle.row_search.proofs.row_at.RowAt.one_key.Goals as goal
 

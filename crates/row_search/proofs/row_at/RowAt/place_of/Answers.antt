@@ -1,15 +1,5 @@
 use Rattle.std.proofs.Common.{◌≡◌, ◌<◌, ◌+◌, ◌*◌, ◌/◌, ◌%◌, ℕ, List, length, get_or, take, drop, sym, subst, ◌∙◌, arith}
-use Rattle.std.specs.List.{AllWithin}
-use Rattle.std.specs.declared.cmp.Ordering.{Ordering}
-use Rattle.std.specs.declared.cmp.Ordering.TheVariants.{Less, Equal, Greater}
-use Rattle.bw_model.specs.Bytes.{key_cmp}
-use Rattle.base_page.specs.declared.item.Item.{Item}
-use Rattle.record_slots.specs.Layout.{held_mark, item_size, items_at, text_size}
-use Rattle.record_slots.specs.Parts.{items_of}
-use Rattle.record_slots.specs.Spelling.{words_of}
-use Rattle.record_slots.specs.Spells.{IsSpelling}
-use Rattle.record_slots.specs.Texts.{IsText}
-use Rattle.deltas.specs.declared.record.Record.{Record}
+use Rattle.row_search.proofs.Words.{AllWithin, Ordering, Less, Equal, Greater, key_cmp, Item, held_mark, item_size, items_at, text_size, items_of, words_of, IsSpelling, IsText, Record}
 use Rattle.row_search.proofs.Bisect.{lower, upper, found_at, gap_at}
 use Rattle.row_search.proofs.ItemTexts.{decided}
 use Rattle.row_search.proofs.RowTexts.{stands}

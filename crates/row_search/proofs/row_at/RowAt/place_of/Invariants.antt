@@ -1,8 +1,5 @@
 use Rattle.std.proofs.Common.{◌≡◌, ◌≤◌, ◌-◌, length}
-use Rattle.std.specs.List.{AllWithin}
-use Rattle.std.specs.declared.cmp.Ordering.TheVariants.{Less, Greater}
-use Rattle.bw_model.specs.Bytes.{key_cmp}
-use Rattle.record_slots.specs.Parts.{items_of}
+use Rattle.row_search.proofs.Words.{AllWithin, Less, Greater, key_cmp, items_of}
 use Rattle.row_search.proofs.row_at.RowAt.place_of.Given as goal
 
 abbrev pub invariant-loop-low : goal.invariant-loop-low

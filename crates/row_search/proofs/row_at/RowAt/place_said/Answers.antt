@@ -1,9 +1,6 @@
 use Rattle.std.proofs.Common.{◌≡◌, true, false, List, sym, subst, ◌∙◌}
 use Rattle.std.specs.Prelude.{IfOk, IfErr}
-use Rattle.base_page.specs.declared.item.Item.{Item}
-use Rattle.base_page.specs.Pages.{AreItems}
-use Rattle.base_page.specs.Places.{IsAt, IsGap}
-use Rattle.row_search.specs.Items.{is_term}
+use Rattle.row_search.proofs.Words.{Item, AreItems, IsAt, IsGap, is_term}
 use Rattle.row_search.proofs.SaidItems.{are_one, at_it, before_it, behind_it, standing}
 use Rattle.row_search.proofs.row_at.RowAt.place_said.Goals as goal
 

@@ -1,11 +1,6 @@
 use Rattle.std.proofs.Common.{◌≡◌, [], false, Some, length, get_or, sym, ap, ◌∙◌, arith}
-use Rattle.std.specs.Prelude.{option_map}
-use Rattle.base_page.specs.declared.item.Content.TheVariants.{Child}
-use Rattle.base_page.specs.declared.item.Item.{Item}
+use Rattle.row_search.proofs.Words.{option_map, Child, Item, Record, items_of, row_of, put_of}
 use Rattle.base_page.specs.Pages.{value_in}
-use Rattle.deltas.specs.declared.record.Record.{Record}
-use Rattle.record_slots.specs.Parts.{items_of, row_of}
-use Rattle.row_search.specs.Changes.{put_of}
 use Rattle.row_search.proofs.ChangeLaws.{no_put, put_is}
 use Rattle.row_search.proofs.row_at.RowAt.put.Goals as goal
 

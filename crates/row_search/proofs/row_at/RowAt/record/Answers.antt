@@ -1,6 +1,5 @@
 use Rattle.std.proofs.Common.{List, ℕ, sym, subst}
-use Rattle.deltas.specs.declared.record.Record.{Record}
-use Rattle.record_slots.specs.Spells.{IsSpelling}
+use Rattle.row_search.proofs.Words.{Record, IsSpelling}
 use Rattle.record_slots.proofs.SpellingLaws.{spelling_one}
 use Rattle.row_search.proofs.Found.{unwrapped}
 use Rattle.row_search.proofs.row_at.RowAt.record.Goals as goal

@@ -1,9 +1,5 @@
 use Rattle.std.proofs.Common.{◌≡◌, ◌<◌, ◌+◌, ◌%◌, true, false, List, length, get_or, take, drop, sym, subst, ◌∙◌}
-use Rattle.base_page.specs.declared.item.Item.{Item}
-use Rattle.record_slots.specs.Layout.{held_mark, text_size}
-use Rattle.record_slots.specs.Spelling.{words_of}
-use Rattle.record_slots.specs.Texts.{IsText}
-use Rattle.row_search.specs.Items.{is_term}
+use Rattle.row_search.proofs.Words.{Item, held_mark, text_size, words_of, IsText, is_term}
 use Rattle.row_search.proofs.ItemReads.{key_text}
 use Rattle.row_search.proofs.SaidItems.{one_text, standing}
 use Rattle.row_search.proofs.row_at.RowAt.said_at.Goals as goal

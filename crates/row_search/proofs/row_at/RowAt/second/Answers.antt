@@ -1,8 +1,5 @@
 use Rattle.std.proofs.Common.{List, ℕ, sym, ◌∙◌}
-use Rattle.record_slots.specs.Parts.{row_of}
-use Rattle.record_slots.specs.Spelling.{words_of}
-use Rattle.record_slots.specs.Texts.{IsText}
-use Rattle.record_slots.proofs.SpellingLaws.{row_spelled}
+use Rattle.row_search.proofs.Words.{row_of, words_of, IsText, row_spelled}
 use Rattle.row_search.proofs.Found.{found_one, unwrapped}
 use Rattle.row_search.proofs.ItemReads.{second_text, second_there}
 use Rattle.row_search.proofs.Bounds.{unbounded}

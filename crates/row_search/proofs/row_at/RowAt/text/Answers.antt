@@ -1,7 +1,6 @@
 use Rattle.std.proofs.Common.{◌≡◌, ◌<◌, ◌-◌, ℕ, List, drop, length, take, sym, ◌∙◌, arith, length-drop}
 use Rattle.std.proofs.lemmas.List.{get_or-drop, get_or-take, length-take-le}
-use Rattle.record_slots.specs.Layout.{row_size, text_size}
-use Rattle.record_slots.specs.Spelling.{words_of}
+use Rattle.row_search.proofs.Words.{row_size, text_size, words_of}
 use Rattle.row_search.proofs.WordByWord.{same_lists}
 use Rattle.row_search.proofs.row_at.RowAt.text.Goals as goal
 

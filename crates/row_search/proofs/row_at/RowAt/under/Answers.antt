@@ -1,6 +1,5 @@
 use Rattle.std.proofs.Common.{sym, ◌∙◌, arith}
-use Rattle.record_slots.specs.Spelling.{words_of}
-use Rattle.record_slots.proofs.SpellingLaws.{row_spelled}
+use Rattle.row_search.proofs.Words.{words_of, row_spelled}
 use Rattle.row_search.proofs.row_at.RowAt.under.Goals as goal
 
 pub overflow_cast-result : goal.overflow_cast-result

@@ -1,10 +1,6 @@
 use Rattle.std.proofs.Common.{◌≡◌, ◌≤◌, ◌+◌, ◌*◌, ℕ, length, refl, sym, ◌∙◌, ⊎_elim, arith}
-use Rattle.std.proofs.lemmas.Bool.{cases_lt}
+use Rattle.row_search.proofs.Words.{cases_lt, item_size, items_at, row_size, row_of, words_of, counts}
 use Rattle.std.proofs.lemmas.List.{length-replicate}
-use Rattle.record_slots.specs.Layout.{item_size, items_at, row_size}
-use Rattle.record_slots.specs.Parts.{row_of}
-use Rattle.record_slots.specs.Spelling.{words_of}
-use Rattle.record_slots.proofs.SpellingLaws.{counts}
 use Rattle.record_slots.proofs.Unused.{zero_behind, zeros_are}
 use Rattle.row_search.proofs.WordByWord.{same_lists}
 use Rattle.row_search.proofs.row_at.RowAt.words.Goals as goal

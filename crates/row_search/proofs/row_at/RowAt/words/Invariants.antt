@@ -1,6 +1,5 @@
 use Rattle.std.proofs.Common.{◌≡◌, ◌≤◌, ◌<◌, ◌-◌, ℕ, get_or, length}
-use Rattle.record_slots.specs.Layout.{row_size}
-use Rattle.record_slots.specs.Spelling.{words_of}
+use Rattle.row_search.proofs.Words.{row_size, words_of}
 use Rattle.row_search.proofs.row_at.RowAt.words.Given as goal
 
 abbrev pub invariant-loop-place : goal.invariant-loop-place

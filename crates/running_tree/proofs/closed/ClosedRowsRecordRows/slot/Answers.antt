@@ -1,7 +1,6 @@
-use Rattle.std.proofs.Common.{◌≡◌, ◌<◌, ℕ, subst, arith}
+use Rattle.running_tree.proofs.Words.{◌≡◌, ◌<◌, ℕ, subst, arith, slot_at}
 use lib.ListN.{get_elem?}
 use mathlib.Core.Option.{some}
-use Rattle.tree_words.specs.Layout.{slot_at}
 use Rattle.running_tree.proofs.Kept.{slot_is, slot_small}
 use Rattle.running_tree.proofs.closed.ClosedRowsRecordRows.slot.Goals as goal
 

@@ -1,5 +1,4 @@
-use Rattle.std.proofs.Common.{subst}
-use Rattle.running_tree.specs.Closed.{ClosedTree, CountsAll}
+use Rattle.running_tree.proofs.Words.{subst, ClosedTree, CountsAll}
 use Rattle.running_tree.proofs.Listing.{counts_all}
 use Rattle.running_tree.proofs.closed_tree.ClosedTree.count.Goals as goal
 

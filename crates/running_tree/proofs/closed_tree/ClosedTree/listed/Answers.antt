@@ -1,5 +1,4 @@
-use Rattle.std.proofs.Common.{subst}
-use Rattle.running_tree.specs.Closed.{ClosedTree, ListsAll}
+use Rattle.running_tree.proofs.Words.{subst, ClosedTree, ListsAll}
 use Rattle.running_tree.proofs.Listing.{lists_all}
 use Rattle.running_tree.proofs.closed_tree.ClosedTree.listed.Goals as goal
 

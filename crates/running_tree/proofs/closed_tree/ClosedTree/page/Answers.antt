@@ -1,5 +1,4 @@
-use Rattle.std.proofs.Common.{subst}
-use Rattle.running_tree.specs.Closed.{ClosedTree, ListsPage}
+use Rattle.running_tree.proofs.Words.{subst, ClosedTree, ListsPage}
 use Rattle.running_tree.proofs.Listing.{lists_page}
 use Rattle.running_tree.proofs.closed_tree.ClosedTree.page.Goals as goal
 

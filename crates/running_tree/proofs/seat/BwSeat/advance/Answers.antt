@@ -1,19 +1,10 @@
 use Rattle.std.proofs.Common.{◌≡◌, ◌≢◌, ℕ, Some, None, ap, sym, ◌∙◌, subst}
-use Rattle.bw_model.specs.Answers.{answer_of}
-use Rattle.bw_model.specs.Lent.{step_of_loan}
-use Rattle.bw_model.specs.declared.step.Answer.TheVariants.{Content, Done}
+use Rattle.running_tree.proofs.Words.{answer_of, step_of_loan, Content, Done, Record, wanted_by, IsLawfulStep, ReadsFirst, Took, IsOf, seen_of, Advances, IsLawfulRun, IsSame, IsSeat, Seat}
+use Rattle.running_tree.proofs.Words.{read_by}
 use Rattle.bw_model.specs.declared.step.Step.{Step}
 use Rattle.bw_model.specs.declared.step.Step.TheVariants.{Leave, Row}
-use Rattle.deltas.specs.declared.record.Record.{Record}
-use Rattle.op_machine.specs.machine.Actors.{wanted_by}
 use Rattle.row_search.specs.Placed.{PlacedRecord}
-use Rattle.table_rule.specs.Steps.{IsLawfulStep, ReadsFirst, Took}
-use Rattle.table_rule.specs.Views.{IsOf, seen_of}
-use Rattle.running_tree.specs.Calls.{Advances}
-use Rattle.running_tree.specs.Runs.{IsLawfulRun}
-use Rattle.running_tree.specs.Seats.{IsSame, IsSeat, Seat}
 use Rattle.running_tree.specs.declared.desk.Desk.{Desk}
-use Rattle.running_tree.specs.Stands.{read_by}
 use Rattle.running_tree.specs.Told.{HasTaken}
 use Rattle.running_tree.proofs.Advancing.{busy_of, seat_of, advances_of, known_may, may_go, within, told_on, told_there, seated_on, advances_on, leave_told, leave_may, leave_seated, leave_advances}
 use Rattle.running_tree.proofs.Owning.{is_own}

@@ -1,13 +1,6 @@
 use Rattle.std.proofs.Common.{Some, None, sym, ◌∙◌, subst}
 use Rattle.std.specs.Prelude.{Option}
-use Rattle.bw_model.specs.Answers.{answer_of}
-use Rattle.bw_model.specs.Lent.{step_of_loan}
-use Rattle.bw_model.specs.declared.command.Command.{Command}
-use Rattle.table_rule.specs.Steps.{IsLawfulStep, Took}
-use Rattle.table_rule.specs.Views.{seen_of}
-use Rattle.running_tree.specs.Calls.{HasBegun}
-use Rattle.running_tree.specs.Runs.{IsLawfulRun}
-use Rattle.running_tree.specs.Seats.{IsSeated, Seat}
+use Rattle.running_tree.proofs.Words.{answer_of, step_of_loan, Command, IsLawfulStep, Took, seen_of, HasBegun, IsLawfulRun, IsSeated, Seat}
 use Rattle.running_tree.proofs.Advancing.{seat_of}
 use Rattle.running_tree.proofs.Owning.{is_own}
 use Rattle.running_tree.proofs.Begun.{idle_of, may_begin, first_stays, first_word, told_first, seated_first}

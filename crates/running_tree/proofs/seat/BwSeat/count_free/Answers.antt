@@ -1,8 +1,4 @@
-use Rattle.std.proofs.Common.{◌≡◌, ℕ, ap, arith, subst, ◌∙◌}
-use Rattle.tree_limits.specs.declared.limits.Limits.{Limits}
-use Rattle.change_machine.specs.Taking.{count_of}
-use Rattle.running_tree.specs.Room.{HasCounted}
-use Rattle.running_tree.specs.Seats.{Seat}
+use Rattle.running_tree.proofs.Words.{◌≡◌, ℕ, ap, arith, subst, ◌∙◌, Limits, count_of, HasCounted, Seat}
 use Rattle.running_tree.proofs.Counting.{all_counted, counted_none, watched_more}
 use Rattle.running_tree.proofs.Going.{same_on, same_self}
 use Rattle.running_tree.proofs.seat.BwSeat.count_free.Goals as goal

@@ -1,6 +1,4 @@
-use Rattle.std.proofs.Common.{◌*◌, ◌≤◌}
-use Rattle.running_tree.specs.Room.{HasCounted}
-use Rattle.running_tree.specs.Seats.{IsSame}
+use Rattle.running_tree.proofs.Words.{◌*◌, ◌≤◌, HasCounted, IsSame}
 use Rattle.running_tree.proofs.seat.BwSeat.count_free.Given as goal
 
 abbrev pub invariant-loop-word : goal.invariant-loop-word

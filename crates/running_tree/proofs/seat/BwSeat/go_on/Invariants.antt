@@ -1,5 +1,4 @@
-use Rattle.running_tree.specs.Calls.{IsStill}
-use Rattle.running_tree.specs.Seats.{IsSame}
+use Rattle.running_tree.proofs.Words.{IsStill, IsSame}
 use Rattle.running_tree.proofs.seat.BwSeat.go_on.Given as goal
 
 abbrev pub invariant-loop : goal.invariant-loop

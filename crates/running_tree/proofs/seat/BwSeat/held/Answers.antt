@@ -1,14 +1,8 @@
-use Rattle.std.specs.Prelude.{if◌then◌else◌, is_some}
+use Rattle.running_tree.proofs.Words.{if◌then◌else◌, is_some, IsOwn, IsUnlinked, Spares, Hand, IsAtRestWith, seen_of, Seat}
 use Rattle.std.proofs.Common.{◌≡◌, ◌≢◌, length, ap, subst, sym, ◌∙◌}
-use Rattle.traces.specs.discipline.Discipline.{IsOwn}
 use Rattle.traces.specs.discipline.Knowledge.{Absent, Knowledge, knows}
 use Rattle.epochs.specs.Limbo.{IsLimboList, Limbo}
-use Rattle.change_machine.specs.Spares.{IsUnlinked, Spares}
-use Rattle.op_machine.specs.machine.Hands.{Hand}
-use Rattle.op_machine.specs.machine.Ops.{IsAtRestWith}
-use Rattle.table_rule.specs.Views.{seen_of}
 use Rattle.running_tree.specs.Held.{AreSoMany, HasHeld}
-use Rattle.running_tree.specs.Seats.{Seat}
 use Rattle.running_tree.proofs.Begun.{idle_of}
 use Rattle.running_tree.proofs.Holding.{at_rest, in_limbo, pids_spare, rows_spare}
 use Rattle.running_tree.proofs.seat.BwSeat.held.Goals as goal

@@ -1,7 +1,4 @@
-use Rattle.std.proofs.Common.{◌≡◌, ◌∷◌, [], subst}
-use Rattle.running_tree.specs.Seats.{Seat}
-use Rattle.table_rule.specs.declared.view.Reach.TheVariants.{Idle}
-use Rattle.table_rule.specs.Views.{part}
+use Rattle.running_tree.proofs.Words.{◌≡◌, ◌∷◌, [], subst, Seat, Idle, part}
 use Rattle.running_tree.proofs.seat.BwSeat.into_place.Goals as goal
 
 pub returns-clause-part : goal.returns-clause-part

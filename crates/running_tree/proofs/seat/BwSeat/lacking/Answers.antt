@@ -1,7 +1,4 @@
-use Rattle.std.proofs.Common.{subst, sym}
-use Rattle.running_tree.specs.Lacking.{IsLacking}
-use Rattle.running_tree.specs.Seats.{Seat}
-use Rattle.table_rule.specs.Views.{seen_of}
+use Rattle.running_tree.proofs.Words.{subst, sym, IsLacking, Seat, seen_of}
 use Rattle.running_tree.proofs.Advancing.{seat_of}
 use Rattle.running_tree.proofs.LackLaws.{lacking}
 use Rattle.running_tree.proofs.seat.BwSeat.lacking.Goals as goal

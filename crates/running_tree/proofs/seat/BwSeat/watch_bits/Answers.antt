@@ -1,12 +1,5 @@
-use Rattle.std.proofs.Common.{count_ones, refl, subst}
-use Rattle.bw_model.specs.declared.step.Answer.TheVariants.{Number}
+use Rattle.running_tree.proofs.Words.{count_ones, refl, subst, Number, Record, seen_of, IsAnswer, memory_of, HasWatched, Seat}
 use Rattle.bw_model.specs.declared.step.Step.{Step}
-use Rattle.deltas.specs.declared.record.Record.{Record}
-use Rattle.table_rule.specs.Views.{seen_of}
-use Rattle.traces.specs.trace.Steps.{IsAnswer}
-use Rattle.traces.specs.trace.Trace.{memory_of}
-use Rattle.running_tree.specs.Room.{HasWatched}
-use Rattle.running_tree.specs.Seats.{Seat}
 use Rattle.running_tree.proofs.Advancing.{seat_of}
 use Rattle.running_tree.proofs.Counting.{bits_counted}
 use Rattle.running_tree.proofs.Meeting.{seat_extends}

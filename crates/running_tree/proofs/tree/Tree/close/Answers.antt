@@ -1,5 +1,4 @@
-use Rattle.std.proofs.Common.{◌≡◌, ◌<◌, ◌≤◌, ◌∙◌, ℕ, ap, arith, sym, subst}
-use Rattle.running_tree.specs.Trees.{HasBusy, Tree}
+use Rattle.running_tree.proofs.Words.{◌≡◌, ◌<◌, ◌≤◌, ◌∙◌, ℕ, ap, arith, sym, subst, HasBusy, Tree}
 use Rattle.running_tree.proofs.Leaving.{are_closed}
 use Rattle.running_tree.proofs.tree.Tree.close.Goals as goal
 

@@ -1,12 +1,5 @@
-use Rattle.std.proofs.Common.{◌≡◌, refl, sym, ap, subst, ◌∙◌}
-use Rattle.tree_limits.specs.declared.limits.Limits.{Limits}
-use Rattle.traces.specs.discipline.Disciplined.{Extends}
-use Rattle.table_rule.specs.declared.view.Reach.TheVariants.{Idle, Noted}
-use Rattle.table_rule.specs.Views.{SitsAt, seen_of}
+use Rattle.running_tree.proofs.Words.{◌≡◌, refl, sym, ap, subst, ◌∙◌, Limits, Extends, Idle, Noted, SitsAt, seen_of, IsSeenRun, StartsWith, IsSeat, Seat, Tree}
 use Rattle.running_tree.specs.Notes.{Note}
-use Rattle.running_tree.specs.Runs.{IsSeenRun, StartsWith}
-use Rattle.running_tree.specs.Seats.{IsSeat, Seat}
-use Rattle.running_tree.specs.Trees.{Tree}
 use Rattle.running_tree.proofs.Meeting.{has_part, left_extends, left_run, left_seat, left_starts}
 use Rattle.running_tree.proofs.Owning.{is_of, still_of}
 use Rattle.running_tree.proofs.tree.Tree.heed.Goals as goal

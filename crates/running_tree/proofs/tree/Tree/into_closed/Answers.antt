@@ -1,5 +1,4 @@
-use Rattle.std.proofs.Common.{◌<◌, ◌≤◌, ℕ, arith, sym, subst}
-use Rattle.running_tree.specs.Trees.{HasBusy}
+use Rattle.running_tree.proofs.Words.{◌<◌, ◌≤◌, ℕ, arith, sym, subst, HasBusy}
 use Rattle.running_tree.proofs.tree.Tree.into_closed.Goals as goal
 
 not_less : (m n : ℕ) → n ≤ m → m < n → ⊥

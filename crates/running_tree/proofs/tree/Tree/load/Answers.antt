@@ -1,6 +1,4 @@
-use Rattle.std.proofs.Common.{◌≡◌, List, ℕ, ap, ◌∙◌}
-use Rattle.bw_model.specs.declared.command.Command.TheVariants.{Upsert}
-use Rattle.running_tree.specs.Loaded.{upsert_of}
+use Rattle.running_tree.proofs.Words.{◌≡◌, List, ℕ, ap, ◌∙◌, Upsert, upsert_of}
 use Rattle.running_tree.proofs.Going.{same_on}
 use Rattle.running_tree.proofs.Resting.{at_index}
 use Rattle.running_tree.proofs.Upserting.{loaded_then, stops}

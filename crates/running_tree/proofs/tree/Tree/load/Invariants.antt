@@ -1,6 +1,4 @@
-use Rattle.std.proofs.Common.{take}
-use Rattle.running_tree.specs.Loaded.{HasLoaded}
-use Rattle.running_tree.specs.Seats.{IsSame}
+use Rattle.running_tree.proofs.Words.{take, HasLoaded, IsSame}
 use Rattle.running_tree.proofs.tree.Tree.load.Given as goal
 
 abbrev pub invariant-loop-place : goal.invariant-loop-place

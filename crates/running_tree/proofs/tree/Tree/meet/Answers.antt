@@ -1,12 +1,5 @@
-use Rattle.std.proofs.Common.{◌≡◌, List, refl, sym, ap, subst, ◌∙◌}
-use Rattle.tree_limits.specs.declared.limits.Limits.{Limits}
+use Rattle.running_tree.proofs.Words.{◌≡◌, List, refl, sym, ap, subst, ◌∙◌, Limits, Extends, Idle, SitsAt, Mine, seen_of, IsSeenRun, IsSeat, Seat, Tree}
 use Rattle.traces.specs.declared.trace.Entry.{Entry}
-use Rattle.traces.specs.discipline.Disciplined.{Extends}
-use Rattle.table_rule.specs.declared.view.Reach.TheVariants.{Idle}
-use Rattle.table_rule.specs.Views.{SitsAt, Mine, seen_of}
-use Rattle.running_tree.specs.Runs.{IsSeenRun}
-use Rattle.running_tree.specs.Seats.{IsSeat, Seat}
-use Rattle.running_tree.specs.Trees.{Tree}
 use Rattle.running_tree.proofs.Meeting.{has_part, left_extends, left_run, left_seat, right_extends, right_run, right_seat, saw_one}
 use Rattle.running_tree.proofs.Owning.{is_of, still_of}
 use Rattle.running_tree.proofs.tree.Tree.meet.Goals as goal

@@ -1,6 +1,5 @@
-use Rattle.std.proofs.Common.{◌≡◌, [], List, sym, ap, subst, ◌∙◌}
+use Rattle.running_tree.proofs.Words.{◌≡◌, [], List, sym, ap, subst, ◌∙◌, Noted}
 use Rattle.traces.specs.declared.trace.Entry.{Entry}
-use Rattle.table_rule.specs.declared.view.Reach.TheVariants.{Noted}
 use Rattle.table_rule.specs.Views.{Mine, alone, part_note, seen_of}
 use Rattle.running_tree.specs.Notes.{note_of}
 use Rattle.running_tree.proofs.Owning.{is_of}

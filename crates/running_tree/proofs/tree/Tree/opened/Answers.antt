@@ -1,7 +1,4 @@
-use Rattle.std.proofs.Common.{[], sym, ap, ◌∙◌}
-use Rattle.tree_limits.specs.declared.limits.Limits.{Limits}
-use Rattle.running_tree.specs.Seats.{Seat}
-use Rattle.table_rule.specs.Views.{dealt, other_parts}
+use Rattle.running_tree.proofs.Words.{[], sym, ap, ◌∙◌, Limits, Seat, dealt, other_parts}
 use Rattle.running_tree.proofs.Opened.{at_fresh, fresh_extend, fresh_left}
 use Rattle.running_tree.proofs.tree.Tree.opened.Goals as goal
 

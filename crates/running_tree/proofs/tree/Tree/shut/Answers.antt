@@ -1,6 +1,4 @@
-use Rattle.std.proofs.Common.{◌≤◌, ◌∙◌, length, sym, subst}
-use Rattle.running_tree.specs.Closed.{ClosedTree, IsClosedWith}
-use Rattle.running_tree.specs.Trees.{Tree}
+use Rattle.running_tree.proofs.Words.{◌≤◌, ◌∙◌, length, sym, subst, ClosedTree, IsClosedWith, Tree}
 use Rattle.running_tree.proofs.Leaving.{by_run, closes}
 use Rattle.running_tree.proofs.Listing.{first_near}
 use Rattle.running_tree.proofs.tree.Tree.shut.Goals as goal

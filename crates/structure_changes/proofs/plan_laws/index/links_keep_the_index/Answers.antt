@@ -1,13 +1,6 @@
-use Rattle.std.proofs.Common.{◌⊎◌, ◌∷◌, [], sym, ap, subst}
-use Rattle.deltas.specs.declared.record.Record.{Record}
+use Rattle.structure_changes.proofs.Words.{◌⊎◌, ◌∷◌, [], sym, ap, subst, Record, Hold, Merge, Term, Unterm, content_in, split_to}
 use Rattle.deltas.specs.declared.record.Record.TheVariants as kind
-use Rattle.deltas.specs.declared.record.Hold.{Hold}
-use Rattle.deltas.specs.declared.record.Merge.{Merge}
-use Rattle.deltas.specs.declared.record.Term.{Term}
-use Rattle.deltas.specs.declared.record.Unterm.{Unterm}
-use Rattle.traces.specs.chain.Chains.{content_in}
 use Rattle.structure_changes.specs.Linking.{Decides}
-use Rattle.structure_changes.specs.Splits.{split_to}
 use Rattle.structure_changes.proofs.MapKept.{from_left, from_removed, halves}
 use Rattle.structure_changes.proofs.plan_laws.index.links_keep_the_index.Goals as goal
 
