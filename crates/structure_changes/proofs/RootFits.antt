@@ -1,6 +1,7 @@
 -- A new root keeps the rules of a page.
+use Rattle.std.specs.List.Sorted.{IsStrictlySortedBy}
 use Rattle.structure_changes.proofs.Words.{◌≡◌, ◌<◌, ◌≤◌, ℕ, suc, List, [], ◌∷◌, Bool, true, false, Some, None, refl, sym, ap, ◌∙◌, subst, arith, if◌then◌else◌, IsTrue, is_eq, Less}
-use Rattle.structure_changes.proofs.Words.{IsStrictlySortedBy, All-from_recursion, key_cmp, is_below, is_in_range, is_under, Content, Child, Item, Page, IsAscending, IsOfLevel, content_at}
+use Rattle.structure_changes.proofs.Words.{All-from_recursion, key_cmp, is_below, is_in_range, is_under, Content, Child, Item, Page, IsAscending, IsOfLevel, content_at}
 use Rattle.structure_changes.proofs.Words.{below_from, same, HasPid, IsPid, IsSpellablePage, low_in, level_in, IsFitted, items_unique, ruled, Version, IsNextTo}
 use Rattle.deltas.specs.declared.record.Record.TheVariants as kind
 use Rattle.traces.specs.discipline.Discipline.{root_over}

@@ -1,5 +1,6 @@
 -- An unterm fits its page: a held term that goes breaks no rule.
-use Rattle.structure_changes.proofs.Words.{◌≡◌, ◌≤◌, ℕ, List, [], ◌∷◌, Bool, true, false, Some, None, refl, sym, ap, ◌∙◌, subst, arith, if◌then◌else◌, IsTrue, IsStrictlySortedBy, is_eq}
+use Rattle.std.specs.List.Sorted.{IsStrictlySortedBy}
+use Rattle.structure_changes.proofs.Words.{◌≡◌, ◌≤◌, ℕ, List, [], ◌∷◌, Bool, true, false, Some, None, refl, sym, ap, ◌∙◌, subst, arith, if◌then◌else◌, IsTrue, is_eq}
 use Rattle.structure_changes.proofs.Words.{Less, All-from_recursion, recursion_from_All, same_Some, key_cmp, is_in_range, Child, Item, Page, content_at, IsAscending, IsOfLevel, AreApart}
 use Rattle.structure_changes.proofs.Words.{IsFirstAt, IsRuled, held_count, is_held, Record, Unterm, IsSpellable, is_removed, low_in, FitsOver, IsFitted, Makes, ascends_after, by_order}
 use Rattle.structure_changes.proofs.Words.{fits_over, lacks_first, ruled, Version}

@@ -1,7 +1,8 @@
 -- An actor looks a key up in the opening tree, and finds none: a run with its point, answered, quiet and faithful.
+use Rattle.traces.specs.discipline.Recalled.{cause_worth}
 use Rattle.op_machine.proofs.Words.{codes, Command, Get, StepOf, Answer, Record, Memory, opening, Entry, IsRun, map, turn_of, Happens, memory_at, TakesStep, IsStep, IsRun-from_steps}
 use Rattle.op_machine.proofs.Words.{EndAtLeaves, Finishes, IsOperation, IsOwnStep, Operation, RepliesAtLeave, Update, logged_value, reply_of, log_at, HasPoints, IsPoint, has_point}
-use Rattle.op_machine.proofs.Words.{IsAnswered, IsQuiet, HasMapOf, cause_worth, IsChainOf, level_in, IsChainOf-unique, slice_get_below, HasFewChanges, IsFaithful, KnowsRow, Phase, MovesAt}
+use Rattle.op_machine.proofs.Words.{IsAnswered, IsQuiet, HasMapOf, IsChainOf, level_in, IsChainOf-unique, slice_get_below, HasFewChanges, IsFaithful, KnowsRow, Phase, MovesAt}
 use Rattle.op_machine.proofs.Words.{MovesPhase, KeepsPhases, indexed, takes, splits, becomes_root, terms, under_root, holds, removes, merges, unterms, reuses, IsFreedByRule, UpdatesAtLinks}
 use Rattle.std.proofs.Common.{◌≡◌, ◌<◌, ◌≤◌, ℕ, suc, List, [], ◌∷◌, ◌++◌, length, Bool, true, false, Some, None, refl, sym, subst, ap, arith, inl, inr, lit<, lit≤, ◌+◌, ◌*◌, ◌∙◌}
 use Rattle.std.specs.Prelude.{drop, min, slice_get, slice_range, take, ◌-◌}
