@@ -1,4 +1,4 @@
-use Rattle.std.proofs.Common.{◌≡◌, List, ap, subst, ◌∙◌}
+use Rattle.std.proofs.Common.{◌≡◌, List, false, ap, subst, ◌∙◌, arith}
 use Rattle.std.proofs.lemmas.Bool.{leb-true, le-leb}
 use Rattle.std.specs.Bool.{Decides}
 use Rattle.std.proofs.Math.Dec.{leb}
@@ -20,11 +20,11 @@ returns-clause-wide g c =
     ) in
     subst (λ (chain : List Record). Decides (leb 16 count) (HasManyItems chain)) is decides
 
-pub returns-then-most_items-lt16-clause-wide : goal.returns-then-most_items-lt16-clause-wide
-returns-then-most_items-lt16-clause-wide g c =
+pub returns-then-most_items-lt-MANY_ITEMS-clause-wide : goal.returns-then-most_items-lt-MANY_ITEMS-clause-wide
+returns-then-most_items-lt-MANY_ITEMS-clause-wide g c =
     let chain : List Record = c.chain-chain.result.now.records in
     let is : chain ≡ c.args.self.now.page.chain = ap (λ (p : PlacedChain). p.records) c.chain-chain.ensures ∙ ap (λ (v : Version). v.chain) c.page.ensures in
     subst (λ (chain : List Record). Decides false (HasManyItems chain)) is (
       λ no. cc,
-      λ many. let most = c.most_items.ensures many.0 many.1 in let long = many.2 in absurd (omega arith),
+      λ many. let most = c.most_items.ensures many.0 many.1 in let long = many.2 in let less = c.if-most_items-lt-MANY_ITEMS.true in absurd (omega arith),
     )
