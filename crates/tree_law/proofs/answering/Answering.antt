@@ -1,6 +1,6 @@
 -- A reply that an actor may give is its command's by a log of its operation.
 use Rattle.tree_law.proofs.Words.{false, ◌⊎◌, ap, Option, None, List, inl, inr, ℕ, ◌≡◌, ◌∙◌, Some, ⊎_elim, IsFalse, Update, logged_value, update_of, command_key, Command, Reply, content_in}
-use Rattle.tree_law.proofs.Words.{is_removed, found, value_of, MayAnswer, WasStanding, Knowledge, Owners, InOrder, SpellsLog, leaf_map, IsRepliedAt, Shared, IsTree}
+use Rattle.tree_law.proofs.Words.{is_removed, chain_value, value_of, MayAnswer, WasStanding, Knowledge, Owners, InOrder, SpellsLog, leaf_map, IsRepliedAt, Shared, IsTree}
 use Rattle.tree_law.specs.Owners.{Among}
 use Rattle.tree_law.proofs.shape.{covers_from, chain_stands, chain_decides}
 use Rattle.tree_law.proofs.links.Updating.{value_of_map}
@@ -8,9 +8,9 @@ use Rattle.tree_law.proofs.links.Updating.{value_of_map}
 module _ {m : Shared} {log : List Update} {o : Owners} {knows : ℕ → Knowledge} {point : ℕ → Option (List Update)} {logs : ℕ → List (List Update)} (g : IsTree m log o knows point logs) (a : ℕ) where
   -- a chain that decides its key as the log does gives the log's reply
   replied : (command : Command) (reply : Reply) → (h : MayAnswer a (knows a) command reply) → (l : List Update) → content_in h.chain (command_key command) ≡ leaf_map l (command_key command)
-      → (point a ≡ Some l) ⊎ ((point a ≡ None) × (update_of a command (found h.chain (command_key command)) ≡ None) × Among l (logs a)) → IsRepliedAt a command reply (point a) (logs a)
+      → (point a ≡ Some l) ⊎ ((point a ≡ None) × (update_of a command (chain_value h.chain (command_key command)) ≡ None) × Among l (logs a)) → IsRepliedAt a command reply (point a) (logs a)
   replied command reply h l decides own =
-      let value : found h.chain (command_key command) ≡ logged_value l (command_key command) = ap value_of decides ∙ value_of_map (logged_value l (command_key command)) in
+      let value : chain_value h.chain (command_key command) ≡ logged_value l (command_key command) = ap value_of decides ∙ value_of_map (logged_value l (command_key command)) in
       record {
         at = l;
         same = rw value at h.is;
@@ -24,7 +24,7 @@ module _ {m : Shared} {log : List Update} {o : Owners} {knows : ℕ → Knowledg
       decides alive l s = chain_decides o m (knows a).read.seen (g.sound a).seen_fits h.row h.chain h.read l s h.leaf alive (command_key command) (covers_from h.chain (command_key command) h.covers)
 
       Changeless : Type 0
-      Changeless = update_of a command (found h.chain (command_key command)) ≡ None
+      Changeless = update_of a command (chain_value h.chain (command_key command)) ≡ None
 
       none : (knows a).asked.linked ≡ None → point a ≡ None
       none e = rw e at (g.sound a).linked_fits

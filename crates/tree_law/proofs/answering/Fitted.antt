@@ -3,7 +3,7 @@ use Rattle.tree_law.proofs.Words.{false, ◌⊎◌, ap, refl, Option, suc, None,
 use Rattle.tree_law.proofs.Words.{same_Some, bit_at, IfSome, if◌then◌else◌, Limits, Answer, Whether, Number, StepOf, TakePid, Row, TakeRow, Slot, Epoch, PidBits, Exchange, RowBits, Announce, Memory}
 use Rattle.tree_law.proofs.Words.{next_row, IsSpellable, Record, low_in, level_in, May, MayExchange, Fits, knows, Knowledge, Foreign, Empty, OwnPage, Taken, Other, Gone, Written, OwnRow, LimboMark}
 use Rattle.tree_law.proofs.Words.{Absent, IsAnswer, IsWordOf, memory_of, Entry, Key, Free, Linked, Reached, OwnFits, PageFits, Nobody, Placed, Indexed, PageOwner, Keeps}
-use Rattle.tree_law.proofs.Words.{Fresh, shared, slot_in, row_in, IsState, phase_of, IsInTree, LimboFits, Outing, []}
+use Rattle.tree_law.proofs.Words.{Fresh, shared_part, slot_in, row_in, IsState, phase_of, IsInTree, LimboFits, Outing, []}
 use Rattle.tree_law.proofs.links.Merging.{frozen_as}
 use Rattle.traces.specs.discipline.Fitting.{FitsWord, ReadsRemoved}
 use Rattle.traces.specs.discipline.Fitting.{FitsRow, FitsTaken, FitsTakenPid, AreOutOfLimbo, FitsExchange}
@@ -64,7 +64,7 @@ module _ (limits : Limits) (entries : List Entry) (state : IsState limits entrie
   fits_row q w learnt e = record {
     same = λ before seen. same_Some w before (sym e ∙ stands q before seen);
     spellable = is_spellable q w ((state.is_tree.sound a).learnt_fits q learnt) e;
-    next = next_some w (next_linked state.owners (shared m) state.is_tree.closed q w ((state.is_tree.sound a).learnt_fits q learnt) e);
+    next = next_some w (next_linked state.owners (shared_part m) state.is_tree.closed q w ((state.is_tree.sound a).learnt_fits q learnt) e);
     short = λ page head front at part. short_front state.is_tree state.fitted a q w e page head front at part;
     whole = λ page head front at part last. whole_chain state.is_tree state.fitted a q w e page head front at part limits placed_below last;
   }

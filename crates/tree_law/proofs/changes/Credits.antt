@@ -1,7 +1,7 @@
 -- What the operations that are under way may pay still.
 use Rattle.tree_law.proofs.Words.{ap, refl, Option, None, ◌≢◌, ◌≤◌}
 use Rattle.tree_law.proofs.Words.{ℕ, ◌≡◌, ◌<◌, arith, Some, ◌+◌, IsSome, Command, Reply, Answer, StepOf, Record}
-use Rattle.tree_law.proofs.Words.{Knowledge, learn, finished, begun, put}
+use Rattle.tree_law.proofs.Words.{Knowledge, learn, after_reply, after_begin, put}
 use Rattle.traces.specs.discipline.Knowledge.{going_on}
 use Rattle.tree_law.specs.Changes.{credit, credit_of, total}
 use Rattle.tree_law.proofs.shape.Puts.{put_other, put_same}
@@ -34,7 +34,7 @@ credit_less command (Some reply) before after kept = let none : credit_of None a
 credit_less (Some command) None None after kept = credit_most (Some command) after
 credit_less (Some command) None (Some over) after kept = let none : credit_of (Some command) after ≡ 0 = linked_pays_none (Some command) after (kept refl) in omega arith
 
-pub credit_kept : (k : Knowledge) (s : StepOf Record) (x : Answer Record) (reply : Option Reply) → credit (finished (learn k s x) reply).asked ≤ credit k.asked
+pub credit_kept : (k : Knowledge) (s : StepOf Record) (x : Answer Record) (reply : Option Reply) → credit (after_reply (learn k s x) reply).asked ≤ credit k.asked
 credit_kept k s x reply = rw (command_kept k s x) (credit_less k.asked.command reply k.asked.linked (learn k s x).asked.linked (linked_kept k s x))
 
 module _ (knows : ℕ → Knowledge) (a n : ℕ) (within : a < n) where
@@ -51,26 +51,26 @@ module _ (knows : ℕ → Knowledge) (a n : ℕ) (within : a < n) where
       let here : credits (put knows a k) a ≡ credit k.asked = ap (λ (k : Knowledge). credit k.asked) (put_same knows a k) in
       omega arith
 
-  pub step_credits : (s : StepOf Record) (x : Answer Record) (reply : Option Reply) → total (credits (put knows a (finished (learn (knows a) s x) reply))) n ≤ total (credits knows) n
+  pub step_credits : (s : StepOf Record) (x : Answer Record) (reply : Option Reply) → total (credits (put knows a (after_reply (learn (knows a) s x) reply))) n ≤ total (credits knows) n
   step_credits s x reply =
-      let moved : total (credits (put knows a (finished (learn (knows a) s x) reply))) n + credit (knows a).asked ≤ total (credits knows) n + credit
-      (finished (learn (knows a) s x) reply).asked = credits_move (finished (learn (knows a) s x) reply) in
-      let less : credit (finished (learn (knows a) s x) reply).asked ≤ credit (knows a).asked = credit_kept (knows a) s x reply in
+      let moved : total (credits (put knows a (after_reply (learn (knows a) s x) reply))) n + credit (knows a).asked ≤ total (credits knows) n + credit
+      (after_reply (learn (knows a) s x) reply).asked = credits_move (after_reply (learn (knows a) s x) reply) in
+      let less : credit (after_reply (learn (knows a) s x) reply).asked ≤ credit (knows a).asked = credit_kept (knows a) s x reply in
       omega arith
 
   -- an operation that links its update pays for it
   pub update_credits : (s : StepOf Record) (x : Answer Record) (reply : Option Reply) (command : Command) → (knows a).asked.command ≡ Some command → (knows a).asked.linked ≡ None
       → IsSome (learn (knows a) s x).asked.linked
-      → total (credits (put knows a (finished (learn (knows a) s x) reply))) n + 8 ≤ total (credits knows) n
+      → total (credits (put knows a (after_reply (learn (knows a) s x) reply))) n + 8 ≤ total (credits knows) n
   update_credits s x reply command going unlinked now =
-      let moved : total (credits (put knows a (finished (learn (knows a) s x) reply))) n + credit (knows a).asked ≤ total (credits knows) n + credit
-      (finished (learn (knows a) s x) reply).asked = credits_move (finished (learn (knows a) s x) reply) in
+      let moved : total (credits (put knows a (after_reply (learn (knows a) s x) reply))) n + credit (knows a).asked ≤ total (credits knows) n + credit
+      (after_reply (learn (knows a) s x) reply).asked = credits_move (after_reply (learn (knows a) s x) reply) in
       let before : credit (knows a).asked ≡ 8 = rw (going, unlinked) refl in
-      let after : credit (finished (learn (knows a) s x) reply).asked ≡ 0 = linked_pays_none (going_on reply (learn (knows a) s x).asked.command) (learn (knows a) s x).asked.linked now in
+      let after : credit (after_reply (learn (knows a) s x) reply).asked ≡ 0 = linked_pays_none (going_on reply (learn (knows a) s x).asked.command) (learn (knows a) s x).asked.linked now in
       omega arith
 
   -- one that begins brings 8
-  pub begin_credits : (command : Command) → total (credits (put knows a (begun (knows a) command))) n ≤ total (credits knows) n + 8
+  pub begin_credits : (command : Command) → total (credits (put knows a (after_begin (knows a) command))) n ≤ total (credits knows) n + 8
   begin_credits command =
-      let moved : total (credits (put knows a (begun (knows a) command))) n + credit (knows a).asked ≤ total (credits knows) n + 8 = credits_move (begun (knows a) command) in
+      let moved : total (credits (put knows a (after_begin (knows a) command))) n + credit (knows a).asked ≤ total (credits knows) n + 8 = credits_move (after_begin (knows a) command) in
       omega arith

@@ -4,7 +4,7 @@ use Rattle.tree_law.proofs.Words.{ℕ, ◌≡◌, ◌∙◌, ◌<◌, arith, Som
 use Rattle.tree_law.proofs.Words.{Record, Base, Split, Put, Delete, Term, Hold, Remove, Merge, Unterm, record_link}
 use Rattle.tree_law.proofs.Words.{low_in, HasRead, FitsOn, IsFitted, Memory, Command, Whether, Exchange}
 use Rattle.tree_law.proofs.Words.{Knowledge, Written, learn, MayLink, MayUpdate, MayConsolidate, MaySplit}
-use Rattle.tree_law.proofs.Words.{MayAdd, update_record, base_from, AreFitted, Owners, Shared, IsTree, shared, slot_in}
+use Rattle.tree_law.proofs.Words.{MayAdd, update_record, base_from, AreFitted, Owners, Shared, IsTree, shared_part, slot_in}
 use Rattle.tree_law.proofs.Words.{LinkMoves, put, phase_of, free, IsUpdateLink, IsUseful}
 use Rattle.bw_model.specs.declared.step.Link.TheVariants as link
 use Rattle.op_machine.specs.theorem.Halves.{IsHalved}
@@ -35,11 +35,11 @@ record_next (set b k v) x = refl
 record_next (unset b k) x = refl
 
 module _ (m : Memory) {log : List Update} {o : Owners} {knows : ℕ → Knowledge} {point : ℕ → Option (List Update)} {logs : ℕ → List (List Update)}
-    (g : IsTree (shared m) log o knows point logs) (fitted : AreFitted o m.rows) (a n : ℕ)
+    (g : IsTree (shared_part m) log o knows point logs) (fitted : AreFitted o m.rows) (a n : ℕ)
     (below : (page : ℕ) → (phase_of (o.page page) ≡ free) ⊎ ((0 < page) × (page < n))) (o' : Owners) (p x y : ℕ) (held : m.slots (suc p) ≡ suc x)
     (at : slot_in m.slots (suc p) ≡ Some (suc x)) (may : MayAdd a (knows a) (suc p) (suc x) (suc y))
-    (worths worths' : ℕ → ℕ) (each : (page : ℕ) → IsWorth o (shared m) page (worths page))
-    (each' : (page : ℕ) → IsWorth o' (record (shared m) { slots = put (slot_in m.slots) (suc p) (Some (suc y)) }) page (worths' page)) where
+    (worths worths' : ℕ → ℕ) (each : (page : ℕ) → IsWorth o (shared_part m) page (worths page))
+    (each' : (page : ℕ) → IsWorth o' (record (shared_part m) { slots = put (slot_in m.slots) (suc p) (Some (suc y)) }) page (worths' page)) where
   abbrev k : Knowledge
   k = knows a
 
@@ -50,10 +50,10 @@ module _ (m : Memory) {log : List Update} {o : Owners} {knows : ℕ → Knowledg
   chain = may.basis.chain
 
   abbrev later : Shared
-  later = record (shared m) { slots = put (slot_in m.slots) (suc p) (Some (suc y)) }
+  later = record (shared_part m) { slots = put (slot_in m.slots) (suc p) (Some (suc y)) }
 
   abbrev before : ℕ
-  before = stored n o (shared m) worths
+  before = stored n o (shared_part m) worths
 
   abbrev after : ℕ
   after = stored n o' later worths'
@@ -77,14 +77,14 @@ module _ (m : Memory) {log : List Update} {o : Owners} {knows : ℕ → Knowledg
       → Updates k (learn k (Exchange (suc p) (suc x) (suc y)) (Whether true))
   updates content written update h = record { command = h.command; going = h.going; unlinked = h.unlinked; linked = learns content written update }
 
-  by_base : (content : Record) → k.own.rows (suc y) ≡ Written content → IsFitted (content ∷ []) → MayConsolidate chain content → LinkMoves (shared m) a content (suc p) o.page o'.page
+  by_base : (content : Record) → k.own.rows (suc y) ≡ Written content → IsFitted (content ∷ []) → MayConsolidate chain content → LinkMoves (shared_part m) a content (suc p) o.page o'.page
       → o'.page ≡ o.page → IsUseful k (Exchange (suc p) (suc x) (suc y)) → Outcome
   by_base content written fits h moves same useful =
       let written' : k.own.rows (suc y) ≡ Written (base_from chain (low_in chain) h.items) = written ∙ ap Written h.is in
       let ruled : IsFitted (base_from chain (low_in chain) h.items ∷ []) = rw h.is at fits in
       less (base_store g a n below o' (suc p) (suc x) (suc y) at basis worths worths' each each' same chain_fitted h.items h.alike written' ruled (useful basis _ written'))
 
-  by_split : (content : Record) → k.own.rows (suc y) ≡ Written content → FitsOn chain content → MaySplit k (suc x) chain content → LinkMoves (shared m) a content (suc p) o.page o'.page
+  by_split : (content : Record) → k.own.rows (suc y) ≡ Written content → FitsOn chain content → MaySplit k (suc x) chain content → LinkMoves (shared_part m) a content (suc p) o.page o'.page
       → IsHalved k (Exchange (suc p) (suc x) (suc y)) → Outcome
   by_split content written fits h moves halved =
       let moves' = rw h.is at moves in
@@ -93,7 +93,7 @@ module _ (m : Memory) {log : List Update} {o : Owners} {knows : ℕ → Knowledg
       (halved basis _ h.row _ (written ∙ ap Written h.is) h.ready h.base) moves'.4 moves'.5)
 
   pub linked : (content : Record) → k.own.rows (suc y) ≡ Written content → FitsOn chain content → MayLink a k (suc p) (suc x) chain content
-      → LinkMoves (shared m) a content (suc p) o.page o'.page → IsUseful k (Exchange (suc p) (suc x) (suc y)) → IsHalved k (Exchange (suc p) (suc x) (suc y)) → Outcome
+      → LinkMoves (shared_part m) a content (suc p) o.page o'.page → IsUseful k (Exchange (suc p) (suc x) (suc y)) → IsHalved k (Exchange (suc p) (suc x) (suc y)) → Outcome
   linked (Base base) written fits h moves useful halved = by_base (Base base) written fits h moves moves useful
   linked (Split split) written fits h moves useful halved = by_split (Split split) written fits h moves halved
   linked (Put w) written fits h moves useful halved =

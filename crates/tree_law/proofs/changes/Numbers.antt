@@ -2,9 +2,9 @@
 use Rattle.tree_law.proofs.Words.{◌⊎◌, [], ap, refl, cond, Option, List, inl, ◌≢◌, length, ◌++◌, ◌≤◌, inr, suc, zero}
 use Rattle.tree_law.proofs.Words.{◌∷◌, ℕ, ◌≡◌, ◌∙◌, ◌<◌, arith, ◌+◌, true, cases_lt, All, All-weaker, count_by, eqb_tells, ◌==◌}
 use Rattle.tree_law.proofs.Words.{Limits, Command, Reply, Answer, Whether, StepOf, TakePid, TakeRow, Place, Exchange, Slot, Row, Epoch, Announce, PidBits}
-use Rattle.tree_law.proofs.Words.{RowBits, Enter, Leave, ReusePids, ReuseRows, Number, Content, Record, memory_of, knows, Knowledge, learn, finished, begun}
+use Rattle.tree_law.proofs.Words.{RowBits, Enter, Leave, ReusePids, ReuseRows, Number, Content, Record, memory_of, knows, Knowledge, learn, after_reply, after_begin}
 use Rattle.tree_law.proofs.Words.{IsAnswer, May, Entry, Begin, Step}
-use Rattle.tree_law.proofs.Words.{exchanged, emptied, OwnPage, Other, Empty, Ready, Gone, OwnRow, Written, put, shared, IsState, PageOwner, Keeps}
+use Rattle.tree_law.proofs.Words.{after_exchange, after_emptying, OwnPage, Other, Empty, Ready, Gone, OwnRow, Written, put, shared_part, IsState, PageOwner, Keeps}
 use Rattle.bw_model.specs.declared.step.Link.TheVariants as link
 use Rattle.traces.specs.discipline.Discipline.{MayExchange}
 use Rattle.traces.specs.discipline.Knowledge.{Belongings, Foreign, Taken}
@@ -82,7 +82,7 @@ module _ (limits : Limits) where
     page_kept less = no_less page_mark page_small pages page v limits.pids less
 
   -- an exchange that wins takes three at most from its actor
-  at_most_three : (p x y : ℕ) (k : Knowledge) → had k ≤ had (exchanged p x y k) + 3
+  at_most_three : (p x y : ℕ) (k : Knowledge) → had k ≤ had (after_exchange p x y k) + 3
   at_most_three p x y k = elim (exchanging p x y k) as (λ p x y k' v. had k ≤ had k' + 3) [
     | roots x y base e ↦ let one = row_lost k.own.rows base in let two = page_lost k.own.pages y Other in omega (arith, one, two)
     | empties p x base e ↦ let one = page_lost k.own.pages (suc p) Empty in omega (arith, one)
@@ -101,7 +101,7 @@ module _ (limits : Limits) where
   ]
 
   -- the emptying of a slot takes none
-  emptied_keeps : (page : OwnPage) (p x : ℕ) (k : Knowledge) → k.own.pages p ≡ page → had k ≤ had (emptied page p x k)
+  emptied_keeps : (page : OwnPage) (p x : ℕ) (k : Knowledge) → k.own.pages p ≡ page → had k ≤ had (after_emptying page p x k)
   emptied_keeps Other p x k e = omega arith
   emptied_keeps Empty p x k e = omega arith
   emptied_keeps (Ready base) p x k e = let kept = page_kept k.own.pages p Empty (page_small (k.own.pages p)) in omega (arith, kept)
@@ -116,8 +116,8 @@ module _ (limits : Limits) where
 
     -- what the actor has pays for what it takes, but for a change of the tree
     abbrev pub UsesFew : StepOf Record → Answer Record → Type 0
-    UsesFew s x = (had k + took (Step a s x r) ≤ had (finished (learn k s x) r))
-        ⊎ (ChangesTree (memory_of limits entries) (Step a s x r) × (had k + took (Step a s x r) ≤ had (finished (learn k s x) r) + 3))
+    UsesFew s x = (had k + took (Step a s x r) ≤ had (after_reply (learn k s x) r))
+        ⊎ (ChangesTree (memory_of limits entries) (Step a s x r) × (had k + took (Step a s x r) ≤ had (after_reply (learn k s x) r) + 3))
 
     exchange_uses : (slot old new : ℕ) → MayExchange a k slot old new → (memory_of limits entries).slots slot ≡ old → UsesFew (Exchange slot old new) (Whether true)
     exchange_uses zero old new may at = inr ((a, zero, old, new, link.Root, ((r, refl), refl), (λ e. cc e), (λ e. cc e)), (let few = at_most_three zero old new k in omega (arith, few)))
@@ -148,7 +148,7 @@ module _ (limits : Limits) where
     unowned_page : (page : ℕ) → (memory_of limits entries).free_pids page ≡ true → page_mark (k.own.pages page) ≡ 0
     unowned_page page free = by_page (k.own.pages page) (state.is_tree.owns_pages a page)
       where
-        by_page : (own : OwnPage) → PageFits a (state.owners.page page) ((shared (memory_of limits entries)).slots page) own → page_mark own ≡ 0
+        by_page : (own : OwnPage) → PageFits a (state.owners.page page) ((shared_part (memory_of limits entries)).slots page) own → page_mark own ≡ 0
         by_page Other fits = refl
         by_page Empty fits = absurd (cc (fits.0, (state.is_tree.frees.page page free).0))
         by_page (Ready row) fits = absurd (cc (fits.0, (state.is_tree.frees.page page free).0))
@@ -189,7 +189,7 @@ module _ (limits : Limits) where
 
     others : (s : StepOf Record) (x : Answer Record) → IsOther s → UsesFew s x
     others s x other =
-        let same : had (finished (learn k s x) r) ≡ had k = ap
+        let same : had (after_reply (learn k s x) r) ≡ had k = ap
         (λ (own : Belongings). total (λ row. row_mark (own.rows row)) limits.rows + total (λ page. page_mark (own.pages page)) limits.pids)
         (same_own s x other) in
         let none = took_none s x other in
@@ -358,8 +358,8 @@ module _ (limits : Limits) (entries : List Entry) (a : ℕ) (within : a < limits
       → AreUsed limits (entries ++ Step a s x r ∷ [])
   used_step s x r state used may is =
       let last : Entry = Step a s x r in
-      let moved = had_moves (finished (learn (knows entries a) s x) r) in
-      let then : numbers_had limits (knows (entries ++ Step a s x r ∷ [])) ≡ numbers_had limits (put (knows entries) a (finished (learn (knows entries a) s x) r)) = ap
+      let moved = had_moves (after_reply (learn (knows entries a) s x) r) in
+      let then : numbers_had limits (knows (entries ++ Step a s x r ∷ [])) ≡ numbers_had limits (put (knows entries) a (after_reply (learn (knows entries a) s x) r)) = ap
       (numbers_had limits) (knows-push entries (Step a s x r)) in
       elim (uses_few limits entries a state r s x may is) [
         | inl paid ↦ used_still limits entries (Step a s x r) used (omega (arith, moved, then, paid))
@@ -368,7 +368,7 @@ module _ (limits : Limits) (entries : List Entry) (a : ℕ) (within : a < limits
 
   pub used_begin : (c : Command) → AreUsed limits entries → AreUsed limits (entries ++ Begin a c ∷ [])
   used_begin c used =
-      let moved = had_moves (begun (knows entries a) c) in
-      let then : numbers_had limits (knows (entries ++ Begin a c ∷ [])) ≡ numbers_had limits (put (knows entries) a (begun (knows entries a) c)) = ap
+      let moved = had_moves (after_begin (knows entries a) c) in
+      let then : numbers_had limits (knows (entries ++ Begin a c ∷ [])) ≡ numbers_had limits (put (knows entries) a (after_begin (knows entries a) c)) = ap
       (numbers_had limits) (knows-push entries (Begin a c)) in
       used_still limits entries (Begin a c) used (omega (arith, moved, then))

@@ -2,7 +2,7 @@
 use Rattle.tree_law.proofs.Words.{false, ◌⊎◌, [], ap, refl, Option, suc, None, List, true, inl, ◌≢◌, ◌≤◌, inr}
 use Rattle.tree_law.proofs.Words.{subst, sym, ℕ, ◌≡◌, zero, ◌∙◌, ◌<◌, arith, Some, ◌+◌, Update, Reply, same_Some, option_map}
 use Rattle.tree_law.proofs.Words.{Record, Memory, Answer, Whether, StepOf, Exchange, TakePid, ReusePids, Link, Step, is_among}
-use Rattle.tree_law.proofs.Words.{Knowledge, learn, May, AreFitted, Owners, Linked, Shared, IsTree, shared, slot_in, row_in}
+use Rattle.tree_law.proofs.Words.{Knowledge, learn, May, AreFitted, Owners, Linked, Shared, IsTree, shared_part, slot_in, row_in}
 use Rattle.tree_law.proofs.Words.{Placed, PageOwner, Fresh, Keeps, Cleared, Phased, put, phase_of}
 use Rattle.tree_law.proofs.Words.{free, eqb, IsAnswer, memory_after, IsUseful, IsInTree, IsReadyPage, link_of, link_without}
 use Rattle.bw_model.specs.declared.step.Link.TheVariants as link
@@ -19,23 +19,23 @@ use Rattle.tree_law.proofs.changes.Linked.{Costs, linked, stored}
 use Rattle.tree_law.proofs.changes.Steady.{clear_store, root_store, steady}
 
 -- the memory after an exchange of a page's slot that won
-exchanged : (m : Memory) (a p x y : ℕ) → eqb (m.slots (suc p)) x ≡ true → shared (memory_after a (Exchange (suc p) x y) m) ≡ record (shared m) { slots = put (slot_in m.slots) (suc p) (row_in y) }
+exchanged : (m : Memory) (a p x y : ℕ) → eqb (m.slots (suc p)) x ≡ true → shared_part (memory_after a (Exchange (suc p) x y) m) ≡ record (shared_part m) { slots = put (slot_in m.slots) (suc p) (row_in y) }
 exchanged m a p x y t = rw t (rw (put_other m.slots (suc p) y 0 (λ i. absurd (cc))) (rw (slot_put m.slots p y) refl))
 
 -- and after one of slot 0
-rooted_slots : (m : Memory) (a x y : ℕ) → eqb (m.slots 0) x ≡ true → (shared (memory_after a (Exchange 0 x y) m)).slots ≡ slot_in m.slots
+rooted_slots : (m : Memory) (a x y : ℕ) → eqb (m.slots 0) x ≡ true → (shared_part (memory_after a (Exchange 0 x y) m)).slots ≡ slot_in m.slots
 rooted_slots m a x y t = rw t (root_apart m.slots y)
 
 module _ (m : Memory) {log : List Update} {o : Owners} {knows : ℕ → Knowledge} {point : ℕ → Option (List Update)} {logs : ℕ → List (List Update)}
-    (g : IsTree (shared m) log o knows point logs) (fitted : AreFitted o m.rows)
+    (g : IsTree (shared_part m) log o knows point logs) (fitted : AreFitted o m.rows)
     (in_slots : (p q : ℕ) → slot_in m.slots p ≡ Some q → IsInTree (o.page p) ⊎ IsReadyPage o m knows p q) (a n : ℕ)
     (below : (page : ℕ) → (phase_of (o.page page) ≡ free) ⊎ ((0 < page) × (page < n))) (o' : Owners)
-    (worths worths' : ℕ → ℕ) (each : (page : ℕ) → IsWorth o (shared m) page (worths page)) where
+    (worths worths' : ℕ → ℕ) (each : (page : ℕ) → IsWorth o (shared_part m) page (worths page)) where
   abbrev k : Knowledge
   k = knows a
 
   abbrev before : ℕ
-  before = stored n o (shared m) worths
+  before = stored n o (shared_part m) worths
 
   -- The step costs something, or it is no change and puts nothing into store.
   abbrev pub Result : Shared → StepOf Record → Answer Record → Option Reply → Type 0
@@ -52,7 +52,7 @@ module _ (m : Memory) {log : List Update} {o : Owners} {knows : ℕ → Knowledg
   quiet : (m' : Shared) (s : StepOf Record) (x : Answer Record) (r : Option Reply) → ((row : ℕ) → o.row row ≡ Linked → m'.rows row ≡ m.rows row) → AreWorth m'
       → ((page : ℕ) → Rests m' page) → (ChangesTree m (Step a s x r) → ⊥) → Result m' s x r
   quiet m' s x r same each' rests never =
-      let sinks : stored n o' m' worths' + 0 ≤ before = steady o o' (shared m) m' n g.closed same worths worths' each each' rests in
+      let sinks : stored n o' m' worths' + 0 ≤ before = steady o o' (shared_part m) m' n g.closed same worths worths' each each' rests in
       inr ((omega arith), never)
 
   -- whose the pages are is as it was
@@ -60,7 +60,7 @@ module _ (m : Memory) {log : List Update} {o : Owners} {knows : ℕ → Knowledg
   owned moves page = ap (λ (f : ℕ → PageOwner). f page) moves
 
   -- the slot of an own page is set, or emptied
-  own_slot : (p : ℕ) (slot : Option ℕ) (page : ℕ) → o'.page ≡ o.page → o.page (suc p) ≡ Keeps a → Rests (record (shared m) { slots = put (slot_in m.slots) (suc p) slot }) page
+  own_slot : (p : ℕ) (slot : Option ℕ) (page : ℕ) → o'.page ≡ o.page → o.page (suc p) ≡ Keeps a → Rests (record (shared_part m) { slots = put (slot_in m.slots) (suc p) slot }) page
   own_slot p slot page moves own = by_equal page (suc p)
       (λ e t. let is : o'.page page ≡ Keeps a = owned moves page ∙ ap o.page e ∙ own in inr (ap is_alive is, ap (λ w. life w (put (slot_in m.slots) (suc p) slot page)) is))
       (λ ne t. inl (owned moves page, put_other (slot_in m.slots) (suc p) slot page ne))
@@ -76,8 +76,8 @@ module _ (m : Memory) {log : List Update} {o : Owners} {knows : ℕ → Knowledg
       let same : kind ≡ kind' = same_Some kind kind' (sym is ∙ (rw (s, f, t) won.1)) in
       elim which [ inl ready ↦ not_ready (sym same ∙ ready) | inr undo ↦ not_undo (sym same ∙ undo) ]
 
-  emptied : (p x : ℕ) (r : Option Reply) → m.slots (suc p) ≡ suc x → Phased a (shared m) (Exchange (suc p) (suc x) zero) (Whether true) o.page o'.page
-      → AreWorth (record (shared m) { slots = put (slot_in m.slots) (suc p) None }) → Result (record (shared m) { slots = put (slot_in m.slots) (suc p) None })
+  emptied : (p x : ℕ) (r : Option Reply) → m.slots (suc p) ≡ suc x → Phased a (shared_part m) (Exchange (suc p) (suc x) zero) (Whether true) o.page o'.page
+      → AreWorth (record (shared_part m) { slots = put (slot_in m.slots) (suc p) None }) → Result (record (shared_part m) { slots = put (slot_in m.slots) (suc p) None })
       (Exchange (suc p) (suc x) zero) (Whether true) r
   emptied p x r at (moves, inl own) each' = quiet _ _ _ r (λ row l. refl) each' (λ page. own_slot p None page moves own) (of_link (suc p) (suc x) 0 (Whether true) r link.Undo undone (inr refl))
     where
@@ -87,26 +87,26 @@ module _ (m : Memory) {log : List Update} {o : Owners} {knows : ℕ → Knowledg
         | inr ready ↦ link_empty m p x ∙ ap (option_map link_without) ready.stands
       ]
   emptied p x r at (moves, inr (l, s, gone)) each' =
-      let m' : Shared = record (shared m) { slots = put (slot_in m.slots) (suc p) None } in
+      let m' : Shared = record (shared_part m) { slots = put (slot_in m.slots) (suc p) None } in
       let rests : (page : ℕ) → Rests m' page = (λ page. by_equal page (suc p)
       (λ e t. let is : o'.page page ≡ Cleared a l s = owned moves page ∙ ap o.page e ∙ gone in inr (ap is_alive is, rw (is, t) refl))
       (λ ne t. inl (owned moves page, put_other (slot_in m.slots) (suc p) None page ne))) in
       let over : life (o'.page (suc p)) (m'.slots (suc p)) ≡ 0 = rw (owned moves (suc p) ∙ gone, put_same (slot_in m.slots) (suc p) None) refl in
-      inl (inl (clear_store o o' (shared m) m' n g.closed (λ row l. refl) worths worths' each each' (suc p) a l s (suc x)
+      inl (inl (clear_store o o' (shared_part m) m' n g.closed (λ row l. refl) worths worths' each each' (suc p) a l s (suc x)
       (within_limit n (suc p) (o.page (suc p)) (Cleared a l s) (below (suc p)) gone (λ e. cc)) gone (ap row_in at) rests over))
 
-  rooted : (x y : ℕ) (r : Option Reply) (m' : Shared) → m'.slots ≡ slot_in m.slots → m'.rows ≡ m.rows → Phased a (shared m) (Exchange zero x y) (Whether true) o.page o'.page
+  rooted : (x y : ℕ) (r : Option Reply) (m' : Shared) → m'.slots ≡ slot_in m.slots → m'.rows ≡ m.rows → Phased a (shared_part m) (Exchange zero x y) (Whether true) o.page o'.page
       → AreWorth m' → Result m' (Exchange zero x y) (Whether true) r
   rooted x y r m' slots rows (b, l, s, top, right, own, moves, (row, level, ready, stands), above) each' =
       let some : s ≢ [] = (λ empty. not_self [] (rw empty at above)) in
       let same : (row : ℕ) → o.row row ≡ Linked → m'.rows row ≡ m.rows row = (λ row l. ap (λ (f : ℕ → Option Record). f row) rows) in
-      inl (inl (root_store o o' (shared m) m' n g.closed same worths worths' each each' a y b l row level s
+      inl (inl (root_store o o' (shared_part m) m' n g.closed same worths worths' each each' a y b l row level s
       (within_limit n b (o.page b) (Placed Fresh l s) (below b) right (λ e. cc)) right own moves slots some
       (ap (λ (f : ℕ → Option ℕ). f y) slots ∙ ready) x (ap (λ (f : ℕ → Option Record). f row) rows ∙ stands)))
 
-  pub outcome : (s : StepOf Record) (x : Answer Record) (r : Option Reply) → May a k s → IsUseful k s → IsHalved k s → IsAnswer m s x → Phased a (shared m) s x o.page o'.page
+  pub outcome : (s : StepOf Record) (x : Answer Record) (r : Option Reply) → May a k s → IsUseful k s → IsHalved k s → IsAnswer m s x → Phased a (shared_part m) s x o.page o'.page
       → ((row : ℕ) → o.row row ≡ Linked → (memory_after a s m).rows row ≡ m.rows row)
-      → AreWorth (shared (memory_after a s m)) → Result (shared (memory_after a s m)) s x r
+      → AreWorth (shared_part (memory_after a s m)) → Result (shared_part (memory_after a s m)) s x r
   outcome (TakePid q) (Whether true) r may useful halved is ph same each' = quiet _ _ _ r same each' (λ page. by_equal page q
       (λ e t. let now : o'.page page ≡ Keeps a = owned_at page q (Keeps a) ph e in inr (ap is_alive now, ap (λ w. life w (slot_in m.slots page)) now))
       (λ ne t. inl (ap (λ (f : ℕ → PageOwner). f page) ph ∙ put_other o.page q (Keeps a) page ne, refl))) (λ c. let e = c.5.0.1 in cc)
@@ -119,7 +119,7 @@ module _ (m : Memory) {log : List Update} {o : Owners} {knows : ℕ → Knowledg
   ]) (λ c. let e = c.5.0.1 in cc)
   outcome (Exchange zero old new) (Whether true) r may useful halved is ph same each' =
       let t : eqb (m.slots 0) old ≡ true = (let e : Whether true ≡ Whether (eqb (m.slots 0) old) = is in cc) in
-      rooted old new r (shared (memory_after a (Exchange zero old new) m)) (rooted_slots m a old new t) refl ph each'
+      rooted old new r (shared_part (memory_after a (Exchange zero old new) m)) (rooted_slots m a old new t) refl ph each'
   outcome (Exchange (suc p) zero zero) (Whether true) r may useful halved is ph same each' = absurd may.1
   outcome (Exchange (suc p) zero (suc new)) (Whether true) r may useful halved is ph same each' =
       let t : eqb (m.slots (suc p)) zero ≡ true = (let e : Whether true ≡ Whether (eqb (m.slots (suc p)) zero) = is in cc) in

@@ -2,8 +2,8 @@
 use Rattle.tree_law.proofs.Words.{◌⊎◌, [], cond, refl, take, All-weaker, Option, suc, None, List, inl, length, ◌++◌, ◌≤◌, inr}
 use Rattle.tree_law.proofs.Words.{◌∷◌, ℕ, ◌≡◌, zero, ◌<◌, arith, Some, drop, cases_lt, ◌+◌, ◌*◌, append_assoc, append-nil, IsSome}
 use Rattle.tree_law.proofs.Words.{All, count_by, IsStrictlyIncreasing, Limits, Entry, Begin, Step, Command, Reply, Answer, StepOf, Record, Base}
-use Rattle.tree_law.proofs.Words.{empty_leaf, memory_of, memory_after, memory_of-push, command_of, knows, Knowledge, begun, finished, learn, IsAllowed, IsAnswer, IsUseful, IsDisciplinedFrom}
-use Rattle.tree_law.proofs.Words.{shared, put, IsState, Opens}
+use Rattle.tree_law.proofs.Words.{empty_leaf, memory_of, memory_after, memory_of-push, command_of, knows, Knowledge, after_begin, after_reply, learn, IsAllowed, IsAnswer, IsUseful, IsDisciplinedFrom}
+use Rattle.tree_law.proofs.Words.{shared_part, put, IsState, Opens}
 use Rattle.std.specs.List.Sorted.{IsStrictlySortedBy}
 use Rattle.traces.specs.trace.Trace.{Happens}
 use Rattle.traces.proofs.TraceLaws.{Happens-below}
@@ -27,12 +27,12 @@ use Rattle.tree_law.proofs.changes.Outcome.{outcome}
 use Rattle.tree_law.proofs.changes.Totals.{bounded}
 
 -- so much is in store at most
-store_bound : (limits : Limits) (entries : List Entry) (state : IsState limits entries) (worths : ℕ → ℕ) → ((page : ℕ) → IsWorth state.owners (shared (memory_of limits entries)) page (worths page))
+store_bound : (limits : Limits) (entries : List Entry) (state : IsState limits entries) (worths : ℕ → ℕ) → ((page : ℕ) → IsWorth state.owners (shared_part (memory_of limits entries)) page (worths page))
     → store limits entries state worths ≤ 154 * limits.pids + 8 * limits.actors
 store_bound limits entries state worths each =
-    let lives = bounded (λ page. life (state.owners.page page) ((shared (memory_of limits entries)).slots page)) 40 limits.pids
-    (λ page. life_most (state.owners.page page) ((shared (memory_of limits entries)).slots page)) in
-    let chains = bounded worths 114 limits.pids (λ page. worth_bound state.owners (shared (memory_of limits entries)) state.fitted page (worths page) (each page)) in
+    let lives = bounded (λ page. life (state.owners.page page) ((shared_part (memory_of limits entries)).slots page)) 40 limits.pids
+    (λ page. life_most (state.owners.page page) ((shared_part (memory_of limits entries)).slots page)) in
+    let chains = bounded worths 114 limits.pids (λ page. worth_bound state.owners (shared_part (memory_of limits entries)) state.fitted page (worths page) (each page)) in
     let credits = bounded (λ actor. credit (knows entries actor).asked) 8 limits.actors (λ actor. credit_most (knows entries actor).asked.command (knows entries actor).asked.linked) in
     omega (arith, lives, chains, credits)
 
@@ -91,7 +91,7 @@ module _ (limits : Limits) (entries : List Entry) (a : ℕ) (s : StepOf Record) 
   worths' : ℕ → ℕ
   worths' page = (worth_of on.after.is_tree on.after.fitted page).0
 
-  each' : (page : ℕ) → IsWorth on.after.owners (shared (memory_of limits longer)) page (worths' page)
+  each' : (page : ℕ) → IsWorth on.after.owners (shared_part (memory_of limits longer)) page (worths' page)
   unfolding worths'
   each' page = (worth_of on.after.is_tree on.after.fitted page).1
 
@@ -102,11 +102,11 @@ module _ (limits : Limits) (entries : List Entry) (a : ℕ) (s : StepOf Record) 
   credits ks = total (λ actor. credit (ks actor).asked) limits.actors
 
   -- what is in store, by its parts
-  store_before : store limits entries paid.state paid.worths ≡ stored limits.pids paid.state.owners (shared (memory_of limits entries)) paid.worths + credits (knows entries)
+  store_before : store limits entries paid.state paid.worths ≡ stored limits.pids paid.state.owners (shared_part (memory_of limits entries)) paid.worths + credits (knows entries)
   store_before = omega arith
 
-  store_after : store limits longer on.after worths' ≡ stored limits.pids on.after.owners (shared (memory_after a s (memory_of limits entries))) worths' + credits
-      (put (knows entries) a (finished (learn (knows entries a) s x) r))
+  store_after : store limits longer on.after worths' ≡ stored limits.pids on.after.owners (shared_part (memory_after a s (memory_of limits entries))) worths' + credits
+      (put (knows entries) a (after_reply (learn (knows entries a) s x) r))
   store_after = rw (memory_of-push limits entries last, knows-push entries last) (omega arith)
 
   pays : (suc (store limits longer on.after worths') ≤ store limits entries paid.state paid.worths) ⊎
@@ -115,11 +115,11 @@ module _ (limits : Limits) (entries : List Entry) (a : ℕ) (s : StepOf Record) 
       let result = outcome (memory_of limits entries) paid.state.is_tree paid.state.fitted paid.state.named.in_slots a limits.pids paid.state.named.pid_below
       on.after.owners paid.worths worths' paid.each s x r allowed.may useful halved is on.phased on.same
       (λ page. rw (memory_of-push limits entries last) at (each' page)) in
-      let less : credits (put (knows entries) a (finished (learn (knows entries a) s x) r)) ≤ credits (knows entries) = step_credits (knows entries) a limits.actors within s x r in
+      let less : credits (put (knows entries) a (after_reply (learn (knows entries a) s x) r)) ≤ credits (knows entries) = step_credits (knows entries) a limits.actors within s x r in
       elim result [
         | inl (inl cost) ↦ inl (omega (arith, store_before, store_after, less, cost))
         | inl (inr (grown, updates)) ↦
-            let paid_for : credits (put (knows entries) a (finished (learn (knows entries a) s x) r)) + 8 ≤ credits (knows entries) =
+            let paid_for : credits (put (knows entries) a (after_reply (learn (knows entries a) s x) r)) + 8 ≤ credits (knows entries) =
             update_credits (knows entries) a limits.actors within s x r updates.command updates.going updates.unlinked updates.linked in
             inl (omega (arith, store_before, store_after, paid_for, grown))
         | inr (kept, never) ↦ inr (omega (arith, store_before, store_after, less, kept), never)
@@ -181,7 +181,7 @@ module _ (limits : Limits) (entries : List Entry) (a : ℕ) (c : Command) (paid 
 
   begun_store : store limits begun_trace begun_state paid.worths ≤ store limits entries paid.state paid.worths + 8
   begun_store =
-      let more : total (λ actor. credit (put (knows entries) a (begun (knows entries a) c) actor).asked) limits.actors ≤ total
+      let more : total (λ actor. credit (put (knows entries) a (after_begin (knows entries a) c) actor).asked) limits.actors ≤ total
       (λ actor. credit (knows entries actor).asked) limits.actors + 8 = begin_credits (knows entries) a limits.actors within c in
       rw (same_owners, memory_of-push limits entries begin, knows-push entries begin) (omega (arith, more))
 
@@ -189,7 +189,7 @@ module _ (limits : Limits) (entries : List Entry) (a : ℕ) (c : Command) (paid 
       → length changes + store limits entries paid.state paid.worths ≤ most_in_store limits m + 8 * count_by is_begin (drop m entries)
   paid_begun m changes within up all = paid.paid m changes up (all_before limits entries begin m no_change changes all)
 
-  begun_each : (page : ℕ) → IsWorth begun_state.owners (shared (memory_of limits begun_trace)) page (paid.worths page)
+  begun_each : (page : ℕ) → IsWorth begun_state.owners (shared_part (memory_of limits begun_trace)) page (paid.worths page)
   begun_each page = rw (same_owners, memory_of-push limits entries begin) (paid.each page)
 
   used_begun : AreUsed limits begun_trace
@@ -226,18 +226,18 @@ module _ (limits : Limits) where
   unfolding first_state
   first_owners = opens_owners limits
 
-  first_each : (page : ℕ) → IsWorth first_state.owners (shared (memory_of limits [])) page 0
+  first_each : (page : ℕ) → IsWorth first_state.owners (shared_part (memory_of limits [])) page 0
   unfolding IsStrictlySortedBy
   first_each page = rw first_owners (by_equal page 1
       (λ e t. rw e (record { row = 1; head = refl; linked = refl; chain = Base empty_leaf ∷ []; is_chain = (refl, refl); items = []; are = record { ascending = tt; contents = λ key. refl } }, refl))
       (λ ne t. rw t refl))
 
-  first_lives : (page : ℕ) → life (first_state.owners.page page) ((shared (memory_of limits [])).slots page) ≡ 0
+  first_lives : (page : ℕ) → life (first_state.owners.page page) ((shared_part (memory_of limits [])).slots page) ≡ 0
   first_lives page = rw first_owners (by_equal page 1 (λ e t. rw t refl) (λ ne t. rw t refl))
 
   first_store : store limits [] first_state (λ page. 0) ≡ 0
   first_store =
-      let lives = nothing_in (λ page. life (first_state.owners.page page) ((shared (memory_of limits [])).slots page)) limits.pids first_lives in
+      let lives = nothing_in (λ page. life (first_state.owners.page page) ((shared_part (memory_of limits [])).slots page)) limits.pids first_lives in
       let chains = nothing_in (λ page. 0) limits.pids (λ page. refl) in
       let credits = nothing_in (λ actor. credit (knows [] actor).asked) limits.actors (λ actor. refl) in
       omega (arith, lives, chains, credits)

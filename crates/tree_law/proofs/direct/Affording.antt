@@ -1,6 +1,6 @@
 -- A begin keeps a trace direct, and so does a step that its operation can afford.
 use Rattle.tree_law.proofs.Words.{false, ap, refl, Option, List, true, inl, ◌≢◌, length, ◌++◌, ◌≤◌, inr, ◌∷◌, subst, sym, ℕ, ◌≡◌, ◌∙◌, ◌<◌, ◌*◌, arith, Some, ◌==◌, eqb_tells, same_Some}
-use Rattle.tree_law.proofs.Words.{IsSome, Command, Reply, Limits, Answer, Whether, Content, Link, StepOf, Row, Exchange, replaced_at, Record, May, begun, knows, Knowledge, finished, Ready}
+use Rattle.tree_law.proofs.Words.{IsSome, Command, Reply, Limits, Answer, Whether, Content, Link, StepOf, Row, Exchange, replaced_at, Record, May, after_begin, knows, Knowledge, after_reply, Ready}
 use Rattle.tree_law.proofs.Words.{learn, recall, Recalled, blank, recalls, IsAnswer, memory_of, IsUseful, IsOfUse, IsReading, IsInPhase, cleared, Slot, Number}
 use Rattle.tree_law.proofs.Words.{None, zero, suc, slice_get, Placed, Indexed, phase_of, slot_in, row_in, Entry, Begin, Step, is_step_of, Links, Operation}
 use Rattle.tree_law.proofs.Words.{IsUpdateLink, Accounts}
@@ -78,7 +78,7 @@ module _ (limits : Limits) (entries : List Entry) (a : ℕ) (c : Command) (kept 
     | inl old ↦
         let below : n < length entries = takes_below entries last op n _ _ old.3 in
         let start : op.start < n = old.3.1.begun in
-        at_place (λ (k : Knowledge). IsSome k.asked.linked) a (begun (knows entries a) c) (knows entries) op.actor
+        at_place (λ (k : Knowledge). IsSome k.asked.linked) a (after_begin (knows entries a) c) (knows entries) op.actor
         (λ same. absurd (let at : op.start ≡ length entries = last_begun entries last op c (ap (λ b. Begin b c) (sym same)) latest in omega arith))
         (λ ne. elim (last_cases entries last op latest) [ inl before ↦ kept.linked op n kind before old is | inr at ↦ let e : op.start ≡ length entries = at.0 in absurd (omega arith) ])
     | inr at ↦ let e = at.1.is in absurd (cc)
@@ -269,7 +269,7 @@ module _ (limits : Limits) (entries : List Entry) (a : ℕ) (s : StepOf Record) 
     | inl before ↦ rw (knows-push entries next) (elim (links_cases limits entries next op n kind links) [
       | inl old ↦
           let some : IsSome (knows entries op.actor).asked.linked = kept.linked op n kind before old is in
-          at_place (λ (k : Knowledge). IsSome k.asked.linked) a (finished (learn (knows entries a) s x) reply) (knows entries) op.actor
+          at_place (λ (k : Knowledge). IsSome k.asked.linked) a (after_reply (learn (knows entries a) s x) reply) (knows entries) op.actor
           (λ same. linked_kept (knows entries a) s x (rw same at some))
           (λ ne. some)
       | inr at ↦ now op kind at.1 is
@@ -277,11 +277,11 @@ module _ (limits : Limits) (entries : List Entry) (a : ℕ) (s : StepOf Record) 
   ]
     where
       now : (op : Operation) (kind : Link) → LinksLast limits entries next op kind → IsUpdateLink kind
-          → IsSome (replaced_at a (finished (learn (knows entries a) s x) reply) (knows entries) op.actor).asked.linked
+          → IsSome (replaced_at a (after_reply (learn (knows entries a) s x) reply) (knows entries) op.actor).asked.linked
       now op kind at is =
           let made = (changes op.actor at.slot at.old at.new at.reply at.is).0 in
           let same : made.kind ≡ kind = same_Some _ _ (sym made.is ∙ at.link) in
-          at_place (λ (k : Knowledge). IsSome k.asked.linked) a (finished (learn (knows entries a) s x) reply) (knows entries) op.actor
+          at_place (λ (k : Knowledge). IsSome k.asked.linked) a (after_reply (learn (knows entries a) s x) reply) (knows entries) op.actor
           (λ e. subst Learns (sym at.is) (made.known (rw same is)))
           (λ ne. absurd (ne (let f = at.is in let e : op.actor ≡ a = cc in e)))
         where

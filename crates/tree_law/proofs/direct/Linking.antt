@@ -1,7 +1,7 @@
 -- What an exchange that won has linked, by what its actor knew: an update, once in an operation; a base over a chain that was read.
 use Rattle.tree_law.proofs.Words.{◌⊎◌, [], ap, refl, Option, suc, None, List, true, inl, ◌≢◌, length, inr, ◌∷◌, subst, sym, ℕ, ◌≡◌, zero, ◌∙◌, ◌<◌, arith, Some, same_Some, option_map, IsSome}
 use Rattle.tree_law.proofs.Words.{Limits, Answer, Whether, Link, StepOf, Exchange, Page, record_link, Memory, Record, Remove, Base, Hold, Split, Put, Delete, Merge, Term, Unterm, IsChainFrom-unique}
-use Rattle.tree_law.proofs.Words.{IsChainOf, IsChainFrom, is_removed, MayExchange, IsFitted, knows, Knowledge, Ready, learn, Gone, Written, exchanged, forgotten, memory_of, IsUseful, Entry}
+use Rattle.tree_law.proofs.Words.{IsChainOf, IsChainFrom, is_removed, MayExchange, IsFitted, knows, Knowledge, Ready, learn, Gone, Written, after_exchange, forgotten, memory_of, IsUseful, Entry}
 use Rattle.tree_law.proofs.Words.{link_without, link_of, IsUpdateLink, row_in, IsState}
 use Rattle.bw_model.specs.declared.step.Link.TheVariants as link
 use Rattle.tree_law.proofs.trace.Phasing.{link_empty, link_front, link_ready}
@@ -42,7 +42,7 @@ base_is (Base page) e = (page, refl)
 base_is w e = absurd (cc)
 
 -- What its actor has linked it goes on knowing.
-exchanged_kept : (p x y : ℕ) (k : Knowledge) → IsSome k.asked.linked → IsSome (exchanged p x y k).asked.linked
+exchanged_kept : (p x y : ℕ) (k : Knowledge) → IsSome k.asked.linked → IsSome (after_exchange p x y k).asked.linked
 exchanged_kept p x y k h = (elim (exchanging p x y k) as (λ p x y k' v. IsSome k.asked.linked → IsSome k'.asked.linked) [ updates p x y w o e u ↦ λ h. refl | v ↦ λ h. h ]) h
 
 forgotten_some : (l : Option (Option ℕ)) → IsSome l → IsSome (forgotten l)

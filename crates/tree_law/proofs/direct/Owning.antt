@@ -1,6 +1,6 @@
 -- A slot that an actor recalls to have read is not that of a page that it has made ready itself.
 use Rattle.tree_law.proofs.Words.{ap, suc, List, inl, ◌≢◌, inr, sym, ℕ, ◌≡◌, zero, ◌∙◌, ◌<◌, arith, Limits, Answer, StepOf, Slot, Record, May, knows, Knowledge, Ready, learn, Empty}
-use Rattle.tree_law.proofs.Words.{OwnPage, Other, Gone, exchanged, Entry, IsExchangeOf, Key, Reached, PageOwner, Keeps, put, IsState, phase_of}
+use Rattle.tree_law.proofs.Words.{OwnPage, Other, Gone, after_exchange, Entry, IsExchangeOf, Key, Reached, PageOwner, Keeps, put, IsState, phase_of}
 use Rattle.op_machine.specs.theorem.Phases as phase
 use Rattle.tree_law.proofs.links.Keeping.{met_placed}
 use Rattle.tree_law.proofs.shape.Puts.{by_equal}
@@ -16,7 +16,7 @@ module _ (page base : ℕ) where
   at_other : (pages : ℕ → OwnPage) (n : ℕ) (v : OwnPage) → (v ≡ Ready base → ⊥) → put pages n v page ≡ Ready base → pages page ≡ Ready base
   at_other pages n v never e = by_equal page n (λ i t. let f = rw t at e in absurd (never f)) (λ ne t. rw t at e)
 
-  by_exchange : (p x y : ℕ) (k : Knowledge) → p ≢ page → Was k (exchanged p x y k)
+  by_exchange : (p x y : ℕ) (k : Knowledge) → p ≢ page → Was k (after_exchange p x y k)
   by_exchange p x y k ne = (elim (exchanging p x y k) as (λ p x y k' v. p ≢ page → Was k k') [
     | roots x y b e ↦ λ ne. at_other k.own.pages y Other (λ f. cc)
     | empties p x b e ↦ λ ne. at_other k.own.pages (suc p) Empty (λ f. cc)

@@ -1,6 +1,6 @@
 -- Each allowed step, a reuse among them, keeps the invariant, and what actors hold.
 use Rattle.tree_law.proofs.Words.{Option, List, ℕ, ◌<◌, Update, Reply, Limits, Answer, StepOf, ReuseRows, ReusePids, Memory, Record, IsAllowed, Knowledge, IsAnswer, IsReuse, After, Next, Owners}
-use Rattle.tree_law.proofs.Words.{shared, Shared, Times, Timed, times_after, IsTree}
+use Rattle.tree_law.proofs.Words.{shared_part, Shared, Times, Timed, times_after, IsTree}
 use Rattle.tree_law.specs.TreeLaws.{Stepped, StepLaw}
 use Rattle.tree_law.proofs.epochs.Freeing.{t1, t2, rows_after, rows_timed, pages_after, pages_timed}
 use Rattle.tree_law.proofs.links.Stepping.{step as one_step}
@@ -13,7 +13,7 @@ abbrev pub after_of : {a : ℕ} {m m' : Shared} {log : List Update} {o : Owners}
 after_of n = record { update = n.update; due = n.due; last = n.last; owners = n.owners; phased = n.phased; added = n.added; same = λ q l. (n.kept q l).1; is_tree = n.is_tree }
 
 module _ {limits : Limits} {m : Memory} {log : List Update} {o : Owners} {knows : ℕ → Knowledge} {point : ℕ → Option (List Update)}
-    {logs : ℕ → List (List Update)} {now : ℕ} {t : Times} (g : IsTree (shared m) log o knows point logs) (T : Timed limits m o knows now t) (a : ℕ)
+    {logs : ℕ → List (List Update)} {now : ℕ} {t : Times} (g : IsTree (shared_part m) log o knows point logs) (T : Timed limits m o knows now t) (a : ℕ)
     (actor : a < limits.actors) where
   calmly : (s : StepOf Record) → (IsReuse s → ⊥) → (x : Answer Record) (r : Option Reply) → IsAllowed limits a (knows a) s r → IsAnswer m s x → Stepped limits m log o knows point logs now a s x r
   calmly s calm x r allowed is =

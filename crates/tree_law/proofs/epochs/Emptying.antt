@@ -1,7 +1,7 @@
 -- An exchange of a page's slot to 0, and one of slot 0: what they take out of the tree, and what actors hold afterwards.
 use Rattle.tree_law.proofs.Words.{false, ◌⊎◌, ap, refl, cond, Option, suc, None, List, true, inl, inr, subst, sym, ℕ, ◌≡◌, Bool, ◌∙◌, arith, Some, eqb, and-false, same_Some, ◌&&◌}
-use Rattle.tree_law.proofs.Words.{Update, Reply, Limits, Exchange, Memory, replaced_at, next_row, Record, Base, IsOwn, Knowledge, finished, Ready, Foreign, Empty, Other, Gone}
-use Rattle.tree_law.proofs.Words.{Unstamped, handed_page, is_on_walk, set_page, Key, IsHomed, Linked, Owners, Reached, Spare, PageFits, PageOwner, Cleared, Keeps, put, shared, slot_in, Times}
+use Rattle.tree_law.proofs.Words.{Update, Reply, Limits, Exchange, Memory, replaced_at, next_row, Record, Base, IsOwn, Knowledge, after_reply, Ready, Foreign, Empty, Other, Gone}
+use Rattle.tree_law.proofs.Words.{Unstamped, handed_page, is_on_walk, set_page, Key, IsHomed, Linked, Owners, Reached, Spare, PageFits, PageOwner, Cleared, Keeps, put, shared_part, slot_in, Times}
 use Rattle.tree_law.proofs.Words.{Timed, times_after, LimboFits, Outing, is_linked, is_cleared, IsTree}
 use Rattle.bw_model.specs.declared.step.Answer.TheVariants as answer
 use Rattle.traces.specs.discipline.Knowledge.{after_clear}
@@ -13,7 +13,7 @@ use Rattle.tree_law.proofs.epochs.Exchanging.{tested_linked, tested_cleared, out
 use Rattle.std.proofs.lemmas.Bool.{and_parts}
 
 module _ {limits : Limits} {m : Memory} {log : List Update} {o : Owners} {knows : ℕ → Knowledge} {point : ℕ → Option (List Update)}
-    {logs : ℕ → List (List Update)} {now : ℕ} {t : Times} (g : IsTree (shared m) log o knows point logs) (T : Timed limits m o knows now t) (a : ℕ) where
+    {logs : ℕ → List (List Update)} {now : ℕ} {t : Times} (g : IsTree (shared_part m) log o knows point logs) (T : Timed limits m o knows now t) (a : ℕ) where
   module _ (p x : ℕ) where
     abbrev pub m2 : Memory
     m2 = record m { slots = replaced_at (suc p) 0 m.slots }
@@ -58,7 +58,7 @@ module _ {limits : Limits} {m : Memory} {log : List Update} {o : Owners} {knows 
       together_after r n w l e i =
           let was = f.back r l in
           let c = T.together r n w was e i in
-          (c.0, rw ((rw i at (next_linked o (shared m) g.closed r w was e)), was, c.0, c.1) refl)
+          (c.0, rw ((rw i at (next_linked o (shared_part m) g.closed r w was e)), was, c.0, c.1) refl)
 
       pub emptying_turn : Turn T (linked g T a) a m2 o' k' t2
       emptying_turn = record {
@@ -107,9 +107,9 @@ module _ {limits : Limits} {m : Memory} {log : List Update} {o : Owners} {knows 
 
     -- an own page that was ready is empty again
     pub undone_timed : (o' : Owners) (f : Emptying o') → (l : o.page (suc p) ≡ Keeps a) (r : Option Reply)
-        → Timed limits m2 o' (put knows a (finished (set_page (suc p) Empty (knows a)) r)) (suc now) t2
+        → Timed limits m2 o' (put knows a (after_reply (set_page (suc p) Empty (knows a)) r)) (suc now) t2
     undone_timed o' f own r =
-        let k' : Knowledge = finished (set_page (suc p) Empty (knows a)) r in
+        let k' : Knowledge = after_reply (set_page (suc p) Empty (knows a)) r in
         emptied_timed o' f k' refl refl refl refl refl
         (λ q. by_equal q (suc p) (λ e t. rw t λ i. absurd (cc)) (λ ne t. rw t λ i. rw (T.gone_pages a q i)))
         (λ n. limbo_row n a)
@@ -118,7 +118,7 @@ module _ {limits : Limits} {m : Memory} {log : List Update} {o : Owners} {knows 
 
     -- a page whose term the actor took out is out of the tree, with its chain
     pub cleared_timed : (o' : Owners) (f : Emptying o') → (own : (knows a).own.pages (suc p) ≡ Gone) (r : Option Reply)
-        → Timed limits m2 o' (put knows a (finished (after_clear (suc p) x (knows a)) r)) (suc now) t2
+        → Timed limits m2 o' (put knows a (after_reply (after_clear (suc p) x (knows a)) r)) (suc now) t2
     cleared_timed o' f own r = emptied_timed o' f k' refl refl refl refl refl
         (λ q. by_equal q (suc p) (λ e t. rw t λ i. absurd (cc)) (λ ne t. rw t λ i. rw (T.gone_pages a q i)))
         (λ n j. rows n j (is_on_walk 13 (knows a).read.seen (Some x) j) refl)
@@ -126,7 +126,7 @@ module _ {limits : Limits} {m : Memory} {log : List Update} {o : Owners} {knows 
         (λ q j. put_was (knows a).own.pages (suc p) Other q (λ e. cc))
       where
         k' : Knowledge
-        k' = finished (after_clear (suc p) x (knows a)) r
+        k' = after_reply (after_clear (suc p) x (knows a)) r
 
         was : PageFits a (o.page (suc p)) (slot_in m.slots (suc p)) Gone
         was = rw own at (g.owns_pages a (suc p))
@@ -159,7 +159,7 @@ module _ {limits : Limits} {m : Memory} {log : List Update} {o : Owners} {knows 
       pub base : ℕ
       pub ready : (knows a).own.pages y ≡ Ready base
       pub reached : (q l : ℕ) (s : Key) → Reached 0 l s (o'.page q) → Reached 0 l s (o.page q) ⊎ (q ≡ y)
-      pub homed : (r : ℕ) → o'.row r ≡ Linked → (o.row r ≡ Linked) ⊎ IsHomed (shared m) (Exchange 0 x y) (answer.Whether true) r
+      pub homed : (r : ℕ) → o'.row r ≡ Linked → (o.row r ≡ Linked) ⊎ IsHomed (shared_part m) (Exchange 0 x y) (answer.Whether true) r
       pub stay : (r : ℕ) → o.row r ≡ Linked → o'.row r ≡ Linked
       pub spare : (r b : ℕ) → o.row r ≡ Spare b → (o'.row r ≡ Spare b) ⊎ (o'.row r ≡ Linked)
       pub cleared : (q b l : ℕ) (s : Key) → o.page q ≡ Cleared b l s → o'.page q ≡ Cleared b l s
@@ -172,7 +172,7 @@ module _ {limits : Limits} {m : Memory} {log : List Update} {o : Owners} {knows 
       held = (rw f.ready at (g.owns_pages a y)).1
 
       k3 : Knowledge
-      k3 = finished (handed_page y Other f.base (knows a)) r
+      k3 = after_reply (handed_page y Other f.base (knows a)) r
 
       slots_rooted : (q z l : ℕ) (s : Key) → Reached 0 l s (o'.page q) → slot_in m.slots q ≡ Some z → (t3.home z ≡ q) × (t3.row_out z ≡ None)
       slots_rooted q z l s h e = elim (f.reached q l s h) [
@@ -183,7 +183,7 @@ module _ {limits : Limits} {m : Memory} {log : List Update} {o : Owners} {knows 
 
       together_rooted : (j n : ℕ) (w : Record) → o'.row j ≡ Linked → m.rows j ≡ Some w → next_row w ≡ Some n → (t3.home n ≡ t3.home j) × (t3.row_out n ≡ t3.row_out j)
       together_rooted j n w l e i = elim (f.homed j l) [
-        | inl was ↦ let ln : o.row n ≡ Linked = rw i at (next_linked o (shared m) g.closed j w was e) in let c = T.together j n w was e i in (rw (ln, was) c.0, c.1)
+        | inl was ↦ let ln : o.row n ≡ Linked = rw i at (next_linked o (shared_part m) g.closed j w was e) in let c = T.together j n w was e i in (rw (ln, was) c.0, c.1)
         | inr h ↦ absurd (let v = same_Some (Base h.0) w (sym h.2 ∙ e) in let z : next_row (Base h.0) ≡ Some n = ap next_row v ∙ i in cc)
       ]
 
@@ -205,7 +205,7 @@ module _ {limits : Limits} {m : Memory} {log : List Update} {o : Owners} {knows 
         gone_pages = λ b q ne. T.gone_pages b q;
       }
 
-      pub rooted_timed : Timed limits m3 o' (put knows a (finished (handed_page y Other f.base (knows a)) r)) (suc now) t3
+      pub rooted_timed : Timed limits m3 o' (put knows a (after_reply (handed_page y Other f.base (knows a)) r)) (suc now) t3
       unfolding k3
       rooted_timed = put_timed turn3 (record {
         within = T.within a;

@@ -1,7 +1,7 @@
 -- An exchange of a page's slot to a row: what it takes out of the tree, and what actors hold afterwards.
 use Rattle.tree_law.proofs.Words.{false, ◌⊎◌, ap, refl, Option, suc, None, List, true, inl, ◌≢◌, inr, subst, sym, ℕ, ◌≡◌, Bool, ◌∙◌, arith, Some, eqb, ⊎_elim, and-false, same_Some, IfSome}
 use Rattle.tree_law.proofs.Words.{◌&&◌, Update, Limits, Exchange, Memory, replaced_at, next_row, Record, Base, IsOwn, Knowledge, is_on_walk, taken_out, next_seen, Key, IsHomed, Linked, Owners}
-use Rattle.tree_law.proofs.Words.{Reached, Spare, Owner, SeenFits, PageOwner, Cleared, put, shared, slot_in, Times, Timed, times_after, LimboFits, Outing, out_after, is_linked, is_cleared, is_base}
+use Rattle.tree_law.proofs.Words.{Reached, Spare, Owner, SeenFits, PageOwner, Cleared, put, shared_part, slot_in, Times, Timed, times_after, LimboFits, Outing, out_after, is_linked, is_cleared, is_base}
 use Rattle.tree_law.proofs.Words.{split_page, IsTree}
 use Rattle.bw_model.specs.declared.step.Answer.TheVariants as answer
 use Rattle.tree_law.proofs.links.Keeping.{slot_of}
@@ -25,7 +25,7 @@ over_no_base (Base page) n e = absurd (cc)
 over_no_base w n e = refl
 
 module _ {limits : Limits} {m : Memory} {log : List Update} {o : Owners} {knows : ℕ → Knowledge} {point : ℕ → Option (List Update)}
-    {logs : ℕ → List (List Update)} {now : ℕ} {t : Times} (g : IsTree (shared m) log o knows point logs) (T : Timed limits m o knows now t) (a : ℕ) where
+    {logs : ℕ → List (List Update)} {now : ℕ} {t : Times} (g : IsTree (shared_part m) log o knows point logs) (T : Timed limits m o knows now t) (a : ℕ) where
   abbrev pub out_now : Outing
   out_now = record { at = now; epoch = m.epoch; who = a }
 
@@ -62,7 +62,7 @@ module _ {limits : Limits} {m : Memory} {log : List Update} {o : Owners} {knows 
 
       under : (v : Option Record) → SeenFits (o.row s) (m.rows s) v → IfSome (next_seen v) (λ j. (o.row j ≡ Linked) × (t.home j ≡ h) × (t.row_out j ≡ None))
       under None i = tt
-      under (Some w) i = at w i.1 (next_row w) refl (next_linked o (shared m) g.closed s w i.0 i.1)
+      under (Some w) i = at w i.1 (next_row w) refl (next_linked o (shared_part m) g.closed s w i.0 i.1)
   on_walk h n start r f e = absurd (cc)
 
   -- The slot of page p + 1 goes from x to y + 1.
@@ -80,7 +80,7 @@ module _ {limits : Limits} {m : Memory} {log : List Update} {o : Owners} {knows 
       pub under : (n : ℕ) (w : Record) → m.rows (suc y) ≡ Some w → next_row w ≡ Some n → (t.home n ≡ suc p) × (t.row_out n ≡ None) × (o.row n ≡ Linked)
       pub reached : (q l : ℕ) (s : Key) → Reached 0 l s (o'.page q)
           → Reached 0 l s (o.page q) ⊎ ((z : ℕ) → slot_in m.slots q ≡ Some z → IsOwn ((knows a).own.rows z) × (z ≢ suc y) × (q ≡ split_page (m.rows (suc y))))
-      pub homed : (r : ℕ) → o'.row r ≡ Linked → (o.row r ≡ Linked) ⊎ IsHomed (shared m) (Exchange (suc p) x (suc y)) (answer.Whether true) r
+      pub homed : (r : ℕ) → o'.row r ≡ Linked → (o.row r ≡ Linked) ⊎ IsHomed (shared_part m) (Exchange (suc p) x (suc y)) (answer.Whether true) r
       pub stay : (r : ℕ) → o.row r ≡ Linked → o'.row r ≡ Linked
       pub spare : (r b : ℕ) → o.row r ≡ Spare b → (o'.row r ≡ Spare b) ⊎ (o'.row r ≡ Linked)
       pub cleared : (q b l : ℕ) (s : Key) → o.page q ≡ Cleared b l s → o'.page q ≡ Cleared b l s
@@ -113,10 +113,10 @@ module _ {limits : Limits} {m : Memory} {log : List Update} {o : Owners} {knows 
       together_after r n w l e i =
           let old : o.row r ≡ Linked → (t1.home n ≡ t1.home r) × (t1.row_out n ≡ t1.row_out r) = λ was.
           let c = T.together r n w was e i in
-          rw ((rw i at (next_linked o (shared m) g.closed r w was e)), was, c.0, c.1) (refl, refl) in
+          rw ((rw i at (next_linked o (shared_part m) g.closed r w was e)), was, c.0, c.1) (refl, refl) in
           ⊎_elim old new (f.homed r l)
         where
-          new : IsHomed (shared m) (Exchange (suc p) x (suc y)) (answer.Whether true) r → (t1.home n ≡ t1.home r) × (t1.row_out n ≡ t1.row_out r)
+          new : IsHomed (shared_part m) (Exchange (suc p) x (suc y)) (answer.Whether true) r → (t1.home n ≡ t1.home r) × (t1.row_out n ≡ t1.row_out r)
           new (inl h) =
               let at : m.rows (suc y) ≡ Some w = ap m.rows (sym h.1) ∙ e in
               let u = f.under n w at i in

@@ -1,14 +1,14 @@
 -- After its exchange of a page's slot to a row won: what the actor itself holds.
 use Rattle.tree_law.proofs.Words.{ap, refl, Option, suc, None, List, true, subst, sym, ℕ, ◌≡◌, ◌∙◌, Some, same_Some, Update, Reply, Limits, Memory, Record, Base, Split, Put, Delete, Unterm}
-use Rattle.tree_law.proofs.Words.{SplitOf, UntermOf, IsOwn, IsOwnBase, IsUnset, Knowledge, finished, Ready, Foreign, Empty, Other, Gone, Written, OwnRow, linked_over, handed_page, LimboMark}
-use Rattle.tree_law.proofs.Words.{handed_over, set_page, rebuilt, Linked, Owners, put, shared, Times, Timed, LimboFits, is_base, IsTree}
+use Rattle.tree_law.proofs.Words.{SplitOf, UntermOf, IsOwn, IsOwnBase, IsUnset, Knowledge, after_reply, Ready, Foreign, Empty, Other, Gone, Written, OwnRow, linked_over, handed_page, LimboMark}
+use Rattle.tree_law.proofs.Words.{handed_over, set_page, rebuilt, Linked, Owners, put, shared_part, Times, Timed, LimboFits, is_base, IsTree}
 use Rattle.tree_law.proofs.shape.Puts.{by_equal, put_other, put_was}
 use Rattle.tree_law.proofs.epochs.Timing.{Turn, limbo_row, limbo_pid, held_later, announced_still, put_timed}
 use Rattle.tree_law.proofs.epochs.Timely.{linked}
 use Rattle.tree_law.proofs.epochs.Exchanging.{m1, t1, Filling, in_own, filling_turn, base_limbo}
 
 module _ {limits : Limits} {m : Memory} {log : List Update} {o : Owners} {knows : ℕ → Knowledge} {point : ℕ → Option (List Update)}
-    {logs : ℕ → List (List Update)} {now : ℕ} {t : Times} (g : IsTree (shared m) log o knows point logs) (T : Timed limits m o knows now t) (a : ℕ) (p x y : ℕ)
+    {logs : ℕ → List (List Update)} {now : ℕ} {t : Times} (g : IsTree (shared_part m) log o knows point logs) (T : Timed limits m o knows now t) (a : ℕ) (p x y : ℕ)
     (o' : Owners) (f : Filling g T a p x y o') where
   -- the exchange leaves the actor this knowledge
   pub filled_timed : (k' : Knowledge) → k'.inside ≡ (knows a).inside → k'.read ≡ (knows a).read → k'.limbo.epoch ≡ (knows a).limbo.epoch → k'.limbo.pids ≡ (knows a).limbo.pids
@@ -48,12 +48,12 @@ module _ {limits : Limits} {m : Memory} {log : List Update} {o : Owners} {knows 
     -- the row is handed over, and nothing else
     handed : (l : Option (Option ℕ)) → ((q : ℕ) → l ≡ Some (Some q) → (knows a).read.learnt q ≡ true)
         → Timed limits (m1 g T a p x y) o'
-        (put knows a (finished (record (knows a) { own = record (knows a).own { rows = put (knows a).own.rows (suc y) Foreign }; asked = record (knows a).asked { linked = l } }) r))
+        (put knows a (after_reply (record (knows a) { own = record (knows a).own { rows = put (knows a).own.rows (suc y) Foreign }; asked = record (knows a).asked { linked = l } }) r))
         (suc now) (t1 g T a p x y)
     handed l learnt =
-        filled_timed (finished (record (knows a) { own = record (knows a).own { rows = put (knows a).own.rows (suc y) Foreign }; asked = record (knows a).asked { linked = l } }) r) refl refl refl refl
+        filled_timed (after_reply (record (knows a) { own = record (knows a).own { rows = put (knows a).own.rows (suc y) Foreign }; asked = record (knows a).asked { linked = l } }) r) refl refl refl refl
         learnt (own_less (knows a).own.rows (suc y)) (T.gone_pages a)
-        (same_limbo (finished (record (knows a) { own = record (knows a).own { rows = put (knows a).own.rows (suc y) Foreign }; asked = record (knows a).asked { linked = l } }) r) refl)
+        (same_limbo (after_reply (record (knows a) { own = record (knows a).own { rows = put (knows a).own.rows (suc y) Foreign }; asked = record (knows a).asked { linked = l } }) r) refl)
         still_ready (T.apart a)
 
     linked_before : (q : ℕ) → (knows a).asked.linked ≡ Some (Some q) → (knows a).read.learnt q ≡ true
@@ -64,17 +64,17 @@ module _ {limits : Limits} {m : Memory} {log : List Update} {o : Owners} {knows 
 
     pub linked_timed : (w : Record) → m.rows (suc y) ≡ Some w → ((unterm : UntermOf) → w ≡ Unterm unterm → t.page_out unterm.child ≡ None)
         → ((split : SplitOf) → w ≡ Split split → (base : ℕ) × ((knows a).own.pages split.page ≡ Ready base))
-        → Timed limits (m1 g T a p x y) o' (put knows a (finished (linked_over (Written w) x (suc y) (knows a)) r)) (suc now) (t1 g T a p x y)
+        → Timed limits (m1 g T a p x y) o' (put knows a (after_reply (linked_over (Written w) x (suc y) (knows a)) r)) (suc now) (t1 g T a p x y)
     linked_timed (Put w) is child ready = handed (Some (Some x)) linked_old
     linked_timed (Delete w) is child ready = handed (Some (Some x)) linked_old
-    linked_timed (Base w) is child ready = filled_timed (finished (rebuilt x (suc y) (knows a)) r) refl refl refl refl
+    linked_timed (Base w) is child ready = filled_timed (after_reply (rebuilt x (suc y) (knows a)) r) refl refl refl refl
         linked_before (own_less (knows a).own.rows (suc y)) (T.gone_pages a)
-        (λ n. base_limbo g T a p x y o' (finished (rebuilt x (suc y) (knows a)) r) refl f (ap is_base is) old_in)
+        (λ n. base_limbo g T a p x y o' (after_reply (rebuilt x (suc y) (knows a)) r) refl f (ap is_base is) old_in)
         still_ready (T.apart a)
-    linked_timed (Unterm w) is child ready = filled_timed (finished (handed_page w.child Gone (suc y) (knows a)) r) refl refl refl refl
+    linked_timed (Unterm w) is child ready = filled_timed (after_reply (handed_page w.child Gone (suc y) (knows a)) r) refl refl refl refl
         linked_before (own_less (knows a).own.rows (suc y))
         (λ q. by_equal q w.child (λ e is. rw is λ i. ap t.page_out e ∙ child w refl) (λ ne is. rw is (T.gone_pages a q)))
-        (same_limbo (finished (handed_page w.child Gone (suc y) (knows a)) r) refl)
+        (same_limbo (after_reply (handed_page w.child Gone (suc y) (knows a)) r) refl)
         (λ q j e. still_ready q j (was q j e))
         (λ q s j e i. T.apart a q s j (was q j e) (was s j i))
       where
@@ -84,8 +84,8 @@ module _ {limits : Limits} {m : Memory} {log : List Update} {o : Owners} {knows 
         let was : (q j : ℕ) → put (knows a).own.pages w.page Other q ≡ Ready j → (knows a).own.pages q ≡ Ready j =
         λ q j. put_was (knows a).own.pages w.page Other q (λ e. cc) in
         let b : (base : ℕ) × ((knows a).own.pages w.page ≡ Ready base) = ready w refl in
-        let k' : Knowledge = finished (handed_page w.page Other (suc y) (handed_over b.0 (knows a))) r in
-        subst (λ (k : Knowledge). Timed limits (m1 g T a p x y) o' (put knows a (finished k r)) (suc now) (t1 g T a p x y)) (sym (rw b.1))
+        let k' : Knowledge = after_reply (handed_page w.page Other (suc y) (handed_over b.0 (knows a))) r in
+        subst (λ (k : Knowledge). Timed limits (m1 g T a p x y) o' (put knows a (after_reply k r)) (suc now) (t1 g T a p x y)) (sym (rw b.1))
         (filled_timed k' refl refl refl refl
         linked_before (λ j i. own_less (knows a).own.rows b.0 j (own_less (put (knows a).own.rows b.0 Foreign) (suc y) j i))
         (λ q i. T.gone_pages a q (put_was (knows a).own.pages w.page Other q (λ e. cc) i))
@@ -98,13 +98,13 @@ module _ {limits : Limits} {m : Memory} {log : List Update} {o : Owners} {knows 
 
   -- an own page is ready with an own base
   pub ready_timed : (knows a).own.pages (suc p) ≡ Empty → IsOwnBase ((knows a).own.rows (suc y)) → IsUnset (knows a) (suc y) → (r : Option Reply)
-      → Timed limits (m1 g T a p x y) o' (put knows a (finished (set_page (suc p) (Ready (suc y)) (knows a)) r)) (suc now) (t1 g T a p x y)
+      → Timed limits (m1 g T a p x y) o' (put knows a (after_reply (set_page (suc p) (Ready (suc y)) (knows a)) r)) (suc now) (t1 g T a p x y)
   ready_timed empty base unset r =
       let same_row : (i j : ℕ) → Ready i ≡ Ready j → i ≡ j = λ i j e. let f : i ≡ j = cc in f in
-      filled_timed (finished (set_page (suc p) (Ready (suc y)) (knows a)) r) refl refl refl refl
+      filled_timed (after_reply (set_page (suc p) (Ready (suc y)) (knows a)) r) refl refl refl refl
       (T.holds a).linked_learnt (λ j i. i)
       (λ q i. T.gone_pages a q (put_was (knows a).own.pages (suc p) (Ready (suc y)) q (λ e. cc) i))
-      (same_limbo (finished (set_page (suc p) (Ready (suc y)) (knows a)) r) refl)
+      (same_limbo (after_reply (set_page (suc p) (Ready (suc y)) (knows a)) r) refl)
       (λ q j. by_equal q (suc p) (λ e t. rw t λ i. rw (same_row (suc y) j i) at base) (λ ne t. rw t (T.ready a q j)))
       (λ q s j. by_equal q (suc p)
       (λ e t. rw t λ i. by_equal s (suc p) (λ d t. rw t λ v. e ∙ sym d) (λ ne t. rw t λ v. absurd (unset s (v ∙ ap Ready (sym (same_row (suc y) j i))))))

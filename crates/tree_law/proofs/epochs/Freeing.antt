@@ -1,8 +1,8 @@
 -- A reuse frees what nobody can hold: the invariant and what actors hold stay.
 use Rattle.tree_law.proofs.Words.{false, ◌⊎◌, ap, refl, cond, ltb, Option, suc, None, List, true, inl, ◌≢◌, ◌≤◌, inr, ◌∷◌, subst, sym, ℕ, ◌≡◌, Bool, zero, ◌∙◌, ◌<◌, arith, Some, ltb-true}
 use Rattle.tree_law.proofs.Words.{same_Some, Update, is_among, Reply, Limits, Answer, ReuseRows, ReusePids, ContentOf, Memory, next_row, Record, content_in, right_in, is_removed, level_in}
-use Rattle.tree_law.proofs.Words.{IsPassed, Knowledge, finished, learn, LimboMark, Absent, memory_after, Key, Covers, After, Free, Linked, Owners, Reached, Spare, Owner}
-use Rattle.tree_law.proofs.Words.{IsChain, IsCleared, Nobody, PageOwner, child_of, put, shared, slot_in, Times, Timed, LimboFits, Outing, IsSince, HeldHead, IsTree, HoldsBy}
+use Rattle.tree_law.proofs.Words.{IsPassed, Knowledge, after_reply, learn, LimboMark, Absent, memory_after, Key, Covers, After, Free, Linked, Owners, Reached, Spare, Owner}
+use Rattle.tree_law.proofs.Words.{IsChain, IsCleared, Nobody, PageOwner, child_of, put, shared_part, slot_in, Times, Timed, LimboFits, Outing, IsSince, HeldHead, IsTree, HoldsBy}
 use Rattle.std.proofs.lemmas.Bool.{ltb-false, le-ltb, or_cases}
 use Rattle.tree_law.proofs.shape.{chain_unique, by_equal, decided, false_if}
 use Rattle.tree_law.proofs.links.Keeping.{quiet, mine}
@@ -72,7 +72,7 @@ freed_none true out e = refl
 freed_none false out e = e
 
 module _ {limits : Limits} {m : Memory} {log : List Update} {o : Owners} {knows : ℕ → Knowledge} {point : ℕ → Option (List Update)}
-    {logs : ℕ → List (List Update)} {now : ℕ} {t : Times} (g : IsTree (shared m) log o knows point logs) (T : Timed limits m o knows now t) (a : ℕ)
+    {logs : ℕ → List (List Update)} {now : ℕ} {t : Times} (g : IsTree (shared_part m) log o knows point logs) (T : Timed limits m o knows now t) (a : ℕ)
     (outside : (knows a).inside ≡ false) where
   other_inside : (b : ℕ) → (knows b).inside ≡ true → b ≢ a
   other_inside b i e = absurd (cc (ap (λ n. (knows n).inside) e))
@@ -151,7 +151,7 @@ module _ {limits : Limits} {m : Memory} {log : List Update} {o : Owners} {knows 
       m1 = memory_after a (ReuseRows word bits) m
 
       abbrev pub k1 : Knowledge
-      k1 = finished (learn (knows a) (ReuseRows word bits) x) r0
+      k1 = after_reply (learn (knows a) (ReuseRows word bits) x) r0
 
       pub freed : (r : ℕ) → is_among word bits r ≡ true → Freed (t.row_out r)
       freed r e = freed_of (t.row_out r) ((knows a).limbo.rows r) (T.limbo_rows a r) (may r e)
@@ -185,7 +185,7 @@ module _ {limits : Limits} {m : Memory} {log : List Update} {o : Owners} {knows 
           let h = row_linked first.at (is_among word bits r) (o.row r) (t.row_out r) l in
           h.2 v (sym (T.together r n w h.1 e i).1 ∙ j)
 
-      loose : AreLoose o (shared m) knows row1 m1.free_rows
+      loose : AreLoose o (shared_part m) knows row1 m1.free_rows
       loose = record {
         linked = λ r l. (row_linked first.at (is_among word bits r) (o.row r) (t.row_out r) l).1;
         learnt = λ b r e. stays r (held b r e);
@@ -198,13 +198,13 @@ module _ {limits : Limits} {m : Memory} {log : List Update} {o : Owners} {knows 
         ];
       }
 
-      pub rows_tree : IsTree (shared m1) log o1 (put knows a k1) (put point a (point a)) (put logs a (log ∷ logs a))
+      pub rows_tree : IsTree (shared_part m1) log o1 (put knows a k1) (put point a (point a)) (put logs a (log ∷ logs a))
       rows_tree =
           let n = lets_rows g row1 m1.free_rows known loose in
           quiet n a k1 (point a) (log ∷ logs a) (n.owns a) (n.owns_pages a) (mine n a)
 
       -- what the reuse leaves
-      abbrev pub rows_after : After a (shared m) (shared m1) log o knows point logs (ReuseRows word bits) x r0
+      abbrev pub rows_after : After a (shared_part m) (shared_part m1) log o knows point logs (ReuseRows word bits) x r0
       rows_after = record {
         update = None;
         due = tt;
@@ -267,7 +267,7 @@ module _ {limits : Limits} {m : Memory} {log : List Update} {o : Owners} {knows 
       m2 = memory_after a (ReusePids word bits) m
 
       abbrev pub k2 : Knowledge
-      k2 = finished (learn (knows a) (ReusePids word bits) x) r0
+      k2 = after_reply (learn (knows a) (ReusePids word bits) x) r0
 
       pub freed_page : (p : ℕ) → is_among word bits p ≡ true → Freed (t.page_out p)
       freed_page p e = freed_of (t.page_out p) ((knows a).limbo.pids p) (T.limbo_pids a p) (may p e)
@@ -321,7 +321,7 @@ module _ {limits : Limits} {m : Memory} {log : List Update} {o : Owners} {knows 
             items = λ l s h z u fd. page_held b (child_of h) inside (n.items l s h z u fd);
           }
 
-      pub pages_tree : IsTree (shared m2) log o2 (put knows a k2) (put point a (point a)) (put logs a (log ∷ logs a))
+      pub pages_tree : IsTree (shared_part m2) log o2 (put knows a k2) (put point a (point a)) (put logs a (log ∷ logs a))
       pages_tree =
           let n = frees_pages g page2 m2.free_pids gone
           (λ b p e. page_held b p ((T.holds b).roots_inside p e) ((T.holds b).roots_since p e))
@@ -335,7 +335,7 @@ module _ {limits : Limits} {m : Memory} {log : List Update} {o : Owners} {knows 
           frees in
           quiet n a k2 (point a) (log ∷ logs a) (n.owns a) (n.owns_pages a) (mine n a)
 
-      abbrev pub pages_after : After a (shared m) (shared m2) log o knows point logs (ReusePids word bits) x r0
+      abbrev pub pages_after : After a (shared_part m) (shared_part m2) log o knows point logs (ReusePids word bits) x r0
       pages_after = record {
         update = None;
         due = tt;

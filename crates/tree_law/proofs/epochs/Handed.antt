@@ -2,9 +2,9 @@
 use Rattle.tree_law.proofs.Words.{false, ◌⊎◌, ap, refl, Option, suc, None, List, true, inl, length, ◌++◌, inr, ◌∷◌, subst, sym, ℕ, ◌≡◌, zero, ◌∙◌, ◌<◌, arith, Some, take, eqb, eqb-true, same_Some}
 use Rattle.tree_law.proofs.Words.{Contains, IfSome, MatchOption, unwrap_or, slice_index_or, Update, is_among, Reply, Limits, Answer, StepOf, ReuseRows, ReusePids, TakePid, TakeRow, Exchange, Memory}
 use Rattle.tree_law.proofs.Words.{next_row, Record, slice_get_below, slice_get-push, take-push_whole, TakesStep-push_cases, memory_of-push, IsChainOf, IsOnChain, chain_rows, IsChainFrom, low_in}
-use Rattle.tree_law.proofs.Words.{level_in, MayExchange, IsAllowed, IsPassed, MayFree, knows, Knowledge, finished, learn, Other, Unstamped, LimboMark, Absent, Stamped, passed_by}
-use Rattle.tree_law.proofs.Words.{stamped, IsAnswer, memory_after, memory_at, memory_of, IsStep, Entry, Step, UnlinksPid, UnlinksRow, HandsPid, HandsRow, Key, IsInLimbo, Free, Linked, Owners, Reached}
-use Rattle.tree_law.proofs.Words.{Nobody, PageOwner, put, shared, slot_in, IsReadyPage, IsState, IsInTree, Times, Timed, LimboFits, Outing, IsTree, []}
+use Rattle.tree_law.proofs.Words.{level_in, MayExchange, IsAllowed, IsPassed, MayFree, knows, Knowledge, after_reply, learn, Other, Unstamped, LimboMark, Absent, Stamped, passed_by}
+use Rattle.tree_law.proofs.Words.{with_stamp, IsAnswer, memory_after, memory_at, memory_of, IsStep, Entry, Step, UnlinksPid, UnlinksRow, HandsPid, HandsRow, Key, IsInLimbo, Free, Linked, Owners, Reached}
+use Rattle.tree_law.proofs.Words.{Nobody, PageOwner, put, shared_part, slot_in, IsReadyPage, IsState, IsInTree, Times, Timed, LimboFits, Outing, IsTree, []}
 use Rattle.base_page.specs.Pages as pages
 use Rattle.traces.specs.trace.Trace.{TakesStep}
 use Rattle.op_machine.specs.theorem.Reuse.{IsFreedByRule}
@@ -16,7 +16,7 @@ use Rattle.tree_law.proofs.trace.Names.{placed_at, slot_none, whether_same, base
 use Rattle.tree_law.proofs.trace.Owned.{pushed_length}
 
 -- what is in a limbo is there still when it was stamped, and when an actor was passed
-unstamped : (e : ℕ) (l : LimboMark) → stamped e l ≡ Absent → l ≡ Absent
+unstamped : (e : ℕ) (l : LimboMark) → with_stamp e l ≡ Absent → l ≡ Absent
 unstamped e Absent h = refl
 unstamped e l h = absurd (cc)
 
@@ -26,12 +26,12 @@ unpassed c value l h = absurd (cc)
 
 -- a row that is out is on no chain
 module _ {limits : Limits} {m : Memory} {log : List Update} {o : Owners} {knows : ℕ → Knowledge} {point : ℕ → Option (List Update)}
-    {logs : ℕ → List (List Update)} {now : ℕ} {t : Times} (g : IsTree (shared m) log o knows point logs) (T : Timed limits m o knows now t)
+    {logs : ℕ → List (List Update)} {now : ℕ} {t : Times} (g : IsTree (shared_part m) log o knows point logs) (T : Timed limits m o knows now t)
     (held : (p q : ℕ) → slot_in m.slots p ≡ Some q → IsInTree (o.page p) ⊎ IsReadyPage o m knows p q) where
   in_chain : (x : ℕ) (c : List Record) → o.row x ≡ Linked → t.row_out x ≡ None → IsChainFrom m.rows x c → (row : ℕ) → Contains (chain_rows x c) row → t.row_out row ≡ None
   in_chain x [] l e h row among = absurd h
   in_chain x (w ∷ c) l e h row (zero, lt, i) = ap t.row_out (sym i) ∙ e
-  in_chain x (w ∷ c) l e h row (suc k, lt, i) = under (next_row w) refl (next_linked o (shared m) g.closed x w l h.0) h.1 (omega arith) i (λ n. in_chain n c)
+  in_chain x (w ∷ c) l e h row (suc k, lt, i) = under (next_row w) refl (next_linked o (shared_part m) g.closed x w l h.0) h.1 (omega arith) i (λ n. in_chain n c)
     where
       under : (v : Option ℕ) → next_row w ≡ v → IfSome v (λ n. o.row n ≡ Linked) → MatchOption v (c ≡ []) (λ n. IsChainFrom m.rows n c)
           → k < length (chain_rows (unwrap_or v 0) c) → slice_index_or (chain_rows (unwrap_or v 0) c) k row ≡ row
@@ -166,10 +166,10 @@ module _ (limits : Limits) (entries : List Entry) (a : ℕ) (step : StepOf Recor
     in_limbo (is_freed is f) = rw is tt
 
   module _ {log' : List Update} {o' : Owners} {point' : ℕ → Option (List Update)} {logs' : ℕ → List (List Update)} {t' : Times}
-      (g' : IsTree (shared (memory_after a step m)) log' o' (put (knows entries) a (finished (learn k step answer) r)) point' logs')
-      (T' : Timed limits (memory_after a step m) o' (put (knows entries) a (finished (learn k step answer) r)) (suc (length entries)) t')
+      (g' : IsTree (shared_part (memory_after a step m)) log' o' (put (knows entries) a (after_reply (learn k step answer) r)) point' logs')
+      (T' : Timed limits (memory_after a step m) o' (put (knows entries) a (after_reply (learn k step answer) r)) (suc (length entries)) t')
       (held' : (p q : ℕ) → slot_in (memory_after a step m).slots p ≡ Some q → IsInTree (o'.page p) ⊎ IsReadyPage o' (memory_after a step m)
-      (put (knows entries) a (finished (learn k step answer) r)) p q) where
+      (put (knows entries) a (after_reply (learn k step answer) r)) p q) where
     -- an exchange that took a row out
     unlinks_row : (q : ℕ) → (learn k step answer).limbo.rows q ≡ Unstamped → RowOut k step answer q → UnlinksRow limits longer a q (length entries)
     unlinks_row q new h =
@@ -220,7 +220,7 @@ module _ (limits : Limits) (entries : List Entry) (a : ℕ) (step : StepOf Recor
             by_some (suc x) y other v = omega arith
 
         out : (w : Outing) × (t'.row_out q ≡ Some w) × (w.who ≡ a)
-        out = rw new at (rw (put_same (knows entries) a (finished (learn k step answer) r)) at (T'.limbo_rows a q))
+        out = rw new at (rw (put_same (knows entries) a (after_reply (learn k step answer) r)) at (T'.limbo_rows a q))
 
         after : memory_at limits longer (suc (length entries)) ≡ memory_after a step m
         after = ap (memory_of limits) (whole_take longer (suc (length entries)) (pushed_length entries last)) ∙ memory_of-push limits entries last
@@ -231,7 +231,7 @@ module _ (limits : Limits) (entries : List Entry) (a : ℕ) (step : StepOf Recor
             whole_take es n e = absurd (omega arith)
 
     -- what the rows in limbos show afterwards
-    pub rows_in_limbo : (b q : ℕ) → IsInLimbo longer b (UnlinksRow limits longer b q) (HandsRow q) ((put (knows entries) a (finished (learn k step answer) r) b).limbo.rows q)
+    pub rows_in_limbo : (b q : ℕ) → IsInLimbo longer b (UnlinksRow limits longer b q) (HandsRow q) ((put (knows entries) a (after_reply (learn k step answer) r) b).limbo.rows q)
     rows_in_limbo b q = by_equal b a
         (λ i t. rw (t, i) own)
         (λ ne t. rw t (limbo_push entries last (UnlinksRow limits entries b q) (UnlinksRow limits longer b q) (HandsRow q) (row_longer entries last limits b q)
@@ -253,7 +253,7 @@ module _ (limits : Limits) (entries : List Entry) (a : ℕ) (step : StepOf Recor
         by_zero zero v = absurd v
         by_zero (suc x) v = omega arith
 
-    pub pids_in_limbo : (b q : ℕ) → IsInLimbo longer b (UnlinksPid limits longer b q) (HandsPid q) ((put (knows entries) a (finished (learn k step answer) r) b).limbo.pids q)
+    pub pids_in_limbo : (b q : ℕ) → IsInLimbo longer b (UnlinksPid limits longer b q) (HandsPid q) ((put (knows entries) a (after_reply (learn k step answer) r) b).limbo.pids q)
     pids_in_limbo b q = by_equal b a
         (λ i t. rw (t, i) own)
         (λ ne t. rw t (limbo_push entries last (UnlinksPid limits entries b q) (UnlinksPid limits longer b q) (HandsPid q) (pid_longer entries last limits b q)

@@ -1,14 +1,14 @@
 -- What a step makes of its actor's limbos.
 use Rattle.tree_law.proofs.Words.{false, ◌⊎◌, ap, refl, cond, Option, suc, None, List, true, inl, inr, ◌∷◌, sym, ℕ, ◌≡◌, Bool, zero, ◌∙◌, arith, Some, same_Some, Contains, MatchOption, unwrap_or}
 use Rattle.tree_law.proofs.Words.{is_among, Answer, Whether, Content, Number, StepOf, ReuseRows, ReusePids, TakePid, Row, TakeRow, Slot, Epoch, PidBits, Exchange, RowBits, Announce, next_row, Record}
-use Rattle.tree_law.proofs.Words.{chain_rows, IsChainFrom, Knowledge, learn, Other, Gone, exchanged, Unstamped, is_on_walk, LimboMark, Absent, passed_by, stamped, taken_out, next_seen, Limbos, []}
+use Rattle.tree_law.proofs.Words.{chain_rows, IsChainFrom, Knowledge, learn, Other, Gone, after_exchange, Unstamped, is_on_walk, LimboMark, Absent, passed_by, with_stamp, taken_out, next_seen, Limbos, []}
 use Rattle.tree_law.proofs.shape.Puts.{by_equal, decided}
 use Rattle.tree_law.proofs.links.Exchanged.{exchanging, clears, rebuilds}
 
 -- What becomes of an item of a limbo; Out: why it is there now.
 pub data LimboCase (s : StepOf Record) (x : Answer Record) (old new : LimboMark) (Out Freed : Type 0) : Type 0 where
   as_it_was : new ≡ old → LimboCase s x old new Out Freed
-  is_stamped : (epoch : ℕ) → s ≡ Epoch → x ≡ Number epoch → new ≡ stamped epoch old → LimboCase s x old new Out Freed
+  is_stamped : (epoch : ℕ) → s ≡ Epoch → x ≡ Number epoch → new ≡ with_stamp epoch old → LimboCase s x old new Out Freed
   is_passed : (c value : ℕ) → s ≡ Announce c → x ≡ Number value → new ≡ passed_by c value old → LimboCase s x old new Out Freed
   is_out : new ≡ Unstamped → Out → LimboCase s x old new Out Freed
   is_freed : new ≡ Absent → Freed → LimboCase s x old new Out Freed
@@ -56,7 +56,7 @@ walked k s x row old f = elim (decided (is_on_walk 13 k.read.seen (Some old) row
 
 module _ (k : Knowledge) where
   won_rows : (p x y row : ℕ)
-      → LimboCase (Exchange p x y) (Whether true) (k.limbo.rows row) ((exchanged p x y k).limbo.rows row) (RowOut k (Exchange p x y) (Whether true) row) (FreesRows (Exchange p x y))
+      → LimboCase (Exchange p x y) (Whether true) (k.limbo.rows row) ((after_exchange p x y k).limbo.rows row) (RowOut k (Exchange p x y) (Whether true) row) (FreesRows (Exchange p x y))
   won_rows p x y row = elim (exchanging p x y k) as
       (λ p x y k' v. LimboCase (Exchange p x y) (Whether true) (k.limbo.rows row) (k'.limbo.rows row) (RowOut k (Exchange p x y) (Whether true) row) (FreesRows (Exchange p x y))) [
         | clears p x e ↦ walked k (Exchange (suc p) x 0) (Whether true) row x (λ i. record { page = p; old = x; new = 0; step = refl; won = refl; walk = i; whose = inl (e, refl) })
@@ -64,7 +64,7 @@ module _ (k : Knowledge) where
         | v ↦ as_it_was refl
       ]
 
-  won_pids : (p x y q : ℕ) → LimboCase (Exchange p x y) (Whether true) (k.limbo.pids q) ((exchanged p x y k).limbo.pids q) (PageOut k (Exchange p x y) (Whether true) q) (FreesPids (Exchange p x y))
+  won_pids : (p x y q : ℕ) → LimboCase (Exchange p x y) (Whether true) (k.limbo.pids q) ((after_exchange p x y k).limbo.pids q) (PageOut k (Exchange p x y) (Whether true) q) (FreesPids (Exchange p x y))
   won_pids p x y q = elim (exchanging p x y k) as
       (λ p x y k' v. LimboCase (Exchange p x y) (Whether true) (k.limbo.pids q) (k'.limbo.pids q) (PageOut k (Exchange p x y) (Whether true) q) (FreesPids (Exchange p x y))) [
         | clears p x e ↦ by_equal q (suc p)

@@ -1,7 +1,7 @@
 -- One more entry: what the limbos show, and what was freed by the rule.
 use Rattle.tree_law.proofs.Words.{false, ◌⊎◌, ap, refl, cond, ltb, Option, suc, List, true, inl, length, ◌++◌, inr, ◌∷◌, ℕ, ◌≡◌, Bool, ◌∙◌, ◌<◌, arith, Some, eqb, ltb-true, eqb-true}
 use Rattle.tree_law.proofs.Words.{◌||◌, Reply, Limits, Answer, Number, StepOf, Epoch, Announce, replaced_at, Record, slice_get_below, slice_get-push, TakesStep-push_cases, memory_at-push}
-use Rattle.tree_law.proofs.Words.{IsPassed, Unstamped, LimboMark, Absent, Stamped, passed_by, stamped, IsStep, Entry, Step, UnlinksPid, UnlinksRow, IsInLimbo, []}
+use Rattle.tree_law.proofs.Words.{IsPassed, Unstamped, LimboMark, Absent, Stamped, passed_by, with_stamp, IsStep, Entry, Step, UnlinksPid, UnlinksRow, IsInLimbo, []}
 use Rattle.traces.proofs.TraceLaws.{TakesStep-kept}
 use Rattle.op_machine.specs.theorem.Reuse.{IsFreed}
 use Rattle.tree_law.specs.Limbos.{WasTakenOut, IsPassedAt, IsStamped}
@@ -51,7 +51,7 @@ module _ (entries : List Entry) (last : Entry) where
 
     -- the actor reads the epoch
     pub stamped_now : (a epoch : ℕ) (r : Option Reply) → last ≡ Step a Epoch (Number epoch) r → (l : LimboMark)
-        → ((l ≡ Absent → ⊥) → (other : ℕ) (s : StepOf Record) (x : Answer Record) → IsStep last other s x → H s x → ⊥) → IsInLimbo entries a U H l → IsInLimbo longer a U' H (stamped epoch l)
+        → ((l ≡ Absent → ⊥) → (other : ℕ) (s : StepOf Record) (x : Answer Record) → IsStep last other s x → H s x → ⊥) → IsInLimbo entries a U H l → IsInLimbo longer a U' H (with_stamp epoch l)
     unfolding out_push
     stamped_now a epoch r is Absent calm h = tt
     stamped_now a epoch r is Unstamped calm h = record {

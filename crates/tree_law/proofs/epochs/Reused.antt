@@ -1,7 +1,7 @@
 -- After a reuse: what numbers there are, and which slots hold rows.
 use Rattle.tree_law.proofs.Words.{false, ◌⊎◌, Option, List, true, inl, inr, ℕ, ◌≡◌, ◌∙◌, ◌<◌, Some, ⊎_elim, Update, is_among, Reply, Limits, Answer, ReuseRows}
-use Rattle.tree_law.proofs.Words.{ReusePids, Memory, Record, IsOwn, IsOwnBase, IsPassed, Knowledge, finished, learn, Foreign, Taken, Written, OwnRow, IsAnswer, memory_after, Entry}
-use Rattle.tree_law.proofs.Words.{Owners, Spare, OwnFits, put, shared, slot_in, IsReadyPage, IsInTree, IsNamed, Times, Timed, IsTree}
+use Rattle.tree_law.proofs.Words.{ReusePids, Memory, Record, IsOwn, IsOwnBase, IsPassed, Knowledge, after_reply, learn, Foreign, Taken, Written, OwnRow, IsAnswer, memory_after, Entry}
+use Rattle.tree_law.proofs.Words.{Owners, Spare, OwnFits, put, shared_part, slot_in, IsReadyPage, IsInTree, IsNamed, Times, Timed, IsTree}
 use Rattle.op_machine.specs.theorem.Phases as phase
 use Rattle.tree_law.proofs.epochs.Freeing.{row_free_after, freed, freed_page, held, in_tree, not_among, stays, same_page, o1, page2, o2}
 use Rattle.tree_law.proofs.trace.Names.{Numbers}
@@ -10,7 +10,7 @@ use Rattle.std.proofs.lemmas.Bool.{or_cases}
 
 module _ {limits : Limits} {entries : List Entry} {o : Owners} {m : Memory} {knows : ℕ → Knowledge} {log : List Update} {point : ℕ → Option (List Update)}
     {logs : ℕ → List (List Update)} {now : ℕ} {t : Times}
-    (g : IsTree (shared m) log o knows point logs) (T : Timed limits m o knows now t) (old : IsNamed limits entries o m knows) (a : ℕ)
+    (g : IsTree (shared_part m) log o knows point logs) (T : Timed limits m o knows now t) (old : IsNamed limits entries o m knows) (a : ℕ)
     (outside : (knows a).inside ≡ false) (word bits : ℕ) (x : Answer Record) (r : Option Reply) where
   module _ (may : (q : ℕ) → is_among word bits q ≡ true → IsPassed limits a ((knows a).limbo.rows q)) (is : IsAnswer m (ReuseRows word bits) x) where
     abbrev pub rows_owners : Owners
@@ -45,7 +45,7 @@ module _ {limits : Limits} {entries : List Entry} {o : Owners} {m : Memory} {kno
 
     -- slots hold what they held
     pub rows_held : (p q : ℕ) → slot_in m.slots p ≡ Some q
-        → IsInTree (o.page p) ⊎ IsReadyPage rows_owners (memory_after a (ReuseRows word bits) m) (put knows a (finished (learn (knows a) (ReuseRows word bits) x) r)) p q
+        → IsInTree (o.page p) ⊎ IsReadyPage rows_owners (memory_after a (ReuseRows word bits) m) (put knows a (after_reply (learn (knows a) (ReuseRows word bits) x) r)) p q
     rows_held p q e = elim (old.in_slots p q e) [
       | inl h ↦ inl h
       | inr h ↦ inr (
@@ -79,7 +79,7 @@ module _ {limits : Limits} {entries : List Entry} {o : Owners} {m : Memory} {kno
 
     pub pages_held : (p q : ℕ) → slot_in m.slots p ≡ Some q
         → IsInTree (page2 g T a outside word bits may r x p) ⊎ IsReadyPage pages_owners (memory_after a (ReusePids word bits) m)
-        (put knows a (finished (learn (knows a) (ReusePids word bits) x) r)) p q
+        (put knows a (after_reply (learn (knows a) (ReusePids word bits) x) r)) p q
     pages_held p q e = elim (old.in_slots p q e) [
       | inl h ↦ inl (rw (same_page g T a outside word bits may r x p (λ i. let f = freed_page g T a outside word bits may r x p i in absurd (cc (T.pages p f.outing f.is).1))) h)
       | inr h ↦ inr (record {

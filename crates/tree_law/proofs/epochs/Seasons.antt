@@ -1,8 +1,8 @@
 -- An actor enters and leaves, reads the epoch and announced epochs, takes and places: what actors hold stays so.
 use Rattle.tree_law.proofs.Words.{false, ◌⊎◌, ap, refl, cond, ltb, Option, suc, None, List, true, inl, ◌≤◌, inr, ℕ, ◌≡◌, Bool, ◌∙◌, ◌<◌, arith, Some, eqb, ltb-true, cases_lt}
 use Rattle.tree_law.proofs.Words.{eqb-true, same_Some, ◌||◌, Update, Reply, Limits, Answer, Leave, TakePid, Place, TakeRow, Enter, Epoch, Announce, Memory, Record, IsOwn, IsUnset}
-use Rattle.tree_law.proofs.Words.{Knowledge, finished, Ready, learn, Empty, Taken, Written, forgotten, Unstamped, LimboMark, Absent, Stamped, passed_by, stamped, memory_after, Free}
-use Rattle.tree_law.proofs.Words.{Owners, put, shared, Times, Timed, LimboFits, Outing, Holds, IsTree, HoldsBy}
+use Rattle.tree_law.proofs.Words.{Knowledge, after_reply, Ready, learn, Empty, Taken, Written, forgotten, Unstamped, LimboMark, Absent, Stamped, passed_by, with_stamp, memory_after, Free}
+use Rattle.tree_law.proofs.Words.{Owners, put, shared_part, Times, Timed, LimboFits, Outing, Holds, IsTree, HoldsBy}
 use Rattle.bw_model.specs.declared.step.Answer.TheVariants as answer
 use Rattle.tree_law.proofs.shape.{by_equal, put_same, put_other, put_was, own_spare, own_base, none_if}
 use Rattle.tree_law.proofs.epochs.Timing.{Turn, limbo_row, limbo_pid, put_timed, held_later}
@@ -10,7 +10,7 @@ use Rattle.tree_law.proofs.epochs.Timely.{linked, Calm, calm_turn, idle_timed}
 
 -- what has no stamp gets the epoch that is read
 stamped_fits : (a epoch : ℕ) (inside : ℕ → Bool) (entered : ℕ → ℕ) (out : Option Outing) (l : LimboMark) → ((w : Outing) → out ≡ Some w → w.epoch ≤ epoch)
-    → LimboFits a inside entered out l → LimboFits a inside entered out (stamped epoch l)
+    → LimboFits a inside entered out l → LimboFits a inside entered out (with_stamp epoch l)
 stamped_fits a epoch inside entered out Absent old h = tt
 stamped_fits a epoch inside entered out Unstamped old h = (h.0, h.1, h.2, old h.0 h.1, λ b e. absurd (cc))
 stamped_fits a epoch inside entered out (Stamped e p) old h = h
@@ -40,7 +40,7 @@ passed_fits a b announced inside entered out (Stamped e p) f h = (h.0, h.1, h.2,
     pass false false i j = h.4
 
 module _ {limits : Limits} {m : Memory} {log : List Update} {o : Owners} {knows : ℕ → Knowledge} {point : ℕ → Option (List Update)}
-    {logs : ℕ → List (List Update)} {now : ℕ} {t : Times} (g : IsTree (shared m) log o knows point logs) (T : Timed limits m o knows now t) (a : ℕ) where
+    {logs : ℕ → List (List Update)} {now : ℕ} {t : Times} (g : IsTree (shared_part m) log o knows point logs) (T : Timed limits m o knows now t) (a : ℕ) where
   -- an actor that is outside has learnt nothing
   module _ (outside : (knows a).inside ≡ false) where
     blind : (knows a).inside ≡ true → ⊥
@@ -63,9 +63,9 @@ module _ {limits : Limits} {m : Memory} {log : List Update} {o : Owners} {knows 
 
   pub enter_timed : (e : ℕ) (x : Answer Record) (r : Option Reply) (o' : Owners) → Calm g T a (memory_after a (Enter e) m) o' → (knows a).inside ≡ false → 0 < e
       → (knows a).limbo.epoch ≡ Some e → a < limits.actors
-      → Timed limits (memory_after a (Enter e) m) o' (put knows a (finished (learn (knows a) (Enter e) x) r)) (suc now) (record t { entered = put t.entered a now })
+      → Timed limits (memory_after a (Enter e) m) o' (put knows a (after_reply (learn (knows a) (Enter e) x) r)) (suc now) (record t { entered = put t.entered a now })
   enter_timed e x r o' c outside some read actor =
-      let k' : Knowledge = finished (learn (knows a) (Enter e) x) r in
+      let k' : Knowledge = after_reply (learn (knows a) (Enter e) x) r in
       let t' : Times = record t { entered = put t.entered a now } in
       let turn : Turn T (linked g T a) a (memory_after a (Enter e) m) o' k' t' = record {
         rows_later = λ q. inl refl;
@@ -106,9 +106,9 @@ module _ {limits : Limits} {m : Memory} {log : List Update} {o : Owners} {knows 
   forgotten_none (Some v) x e = cc
 
   pub leave_timed : (r : Option Reply) (o' : Owners) → Calm g T a (memory_after a Leave m) o'
-      → Timed limits (memory_after a Leave m) o' (put knows a (finished (learn (knows a) Leave answer.Done) r)) (suc now) t
+      → Timed limits (memory_after a Leave m) o' (put knows a (after_reply (learn (knows a) Leave answer.Done) r)) (suc now) t
   leave_timed r o' c =
-      let k' : Knowledge = finished (learn (knows a) Leave answer.Done) r in
+      let k' : Knowledge = after_reply (learn (knows a) Leave answer.Done) r in
       let turn : Turn T (linked g T a) a (memory_after a Leave m) o' k' t = calm_turn k' c (λ i. absurd (cc)) in
       put_timed turn (record {
         within = λ i. absurd (cc);
@@ -136,9 +136,9 @@ module _ {limits : Limits} {m : Memory} {log : List Update} {o : Owners} {knows 
       })
 
   -- the epoch is read
-  pub epoch_timed : (r : Option Reply) (o' : Owners) → Calm g T a m o' → Timed limits m o' (put knows a (finished (learn (knows a) Epoch (answer.Number m.epoch)) r)) (suc now) t
+  pub epoch_timed : (r : Option Reply) (o' : Owners) → Calm g T a m o' → Timed limits m o' (put knows a (after_reply (learn (knows a) Epoch (answer.Number m.epoch)) r)) (suc now) t
   epoch_timed r o' c =
-      let k' : Knowledge = finished (learn (knows a) Epoch (answer.Number m.epoch)) r in
+      let k' : Knowledge = after_reply (learn (knows a) Epoch (answer.Number m.epoch)) r in
       idle_timed k' c refl refl (λ n. held_later n a)
       (λ e i. let f = same_Some m.epoch e i in omega arith)
       (T.own_rows a) (T.gone_pages a)
@@ -148,9 +148,9 @@ module _ {limits : Limits} {m : Memory} {log : List Update} {o : Owners} {knows 
 
   -- an announced epoch is read
   pub announce_timed : (b : ℕ) (r : Option Reply) (o' : Owners) → Calm g T a m o'
-      → Timed limits m o' (put knows a (finished (learn (knows a) (Announce b) (answer.Number (m.announced b))) r)) (suc now) t
+      → Timed limits m o' (put knows a (after_reply (learn (knows a) (Announce b) (answer.Number (m.announced b))) r)) (suc now) t
   announce_timed b r o' c =
-      let k' : Knowledge = finished (learn (knows a) (Announce b) (answer.Number (m.announced b))) r in
+      let k' : Knowledge = after_reply (learn (knows a) (Announce b) (answer.Number (m.announced b))) r in
       let was_inside : (put knows a k' b).inside ≡ true → (knows b).inside ≡ true =
       by_equal b a (λ e t. rw (t, e) λ i. i) (λ ne t. rw t λ i. i) in
       idle_timed k' c refl refl (λ n. held_later n a)
@@ -164,10 +164,10 @@ module _ {limits : Limits} {m : Memory} {log : List Update} {o : Owners} {knows 
 
   -- a record is placed in an own row that stands in no slot
   pub place_timed : (q : ℕ) (w : Record) (r : Option Reply) (o' : Owners) → Calm g T a (memory_after a (Place q w) m) o' → IsOwn ((knows a).own.rows q) → IsUnset (knows a) q
-      → Timed limits (memory_after a (Place q w) m) o' (put knows a (finished (learn (knows a) (Place q w) answer.Done) r)) (suc now) t
+      → Timed limits (memory_after a (Place q w) m) o' (put knows a (after_reply (learn (knows a) (Place q w) answer.Done) r)) (suc now) t
   place_timed q w r o' c own unset =
       let m' : Memory = memory_after a (Place q w) m in
-      let k' : Knowledge = finished (learn (knows a) (Place q w) answer.Done) r in
+      let k' : Knowledge = after_reply (learn (knows a) (Place q w) answer.Done) r in
       idle_timed k' c refl refl (λ n. held_later n a)
       (T.epochs a)
       (λ j. by_equal j q (λ e is. rw is λ i. ap t.row_out e ∙ T.own_rows a q own) (λ ne is. rw is (T.own_rows a j)))
@@ -179,11 +179,11 @@ module _ {limits : Limits} {m : Memory} {log : List Update} {o : Owners} {knows 
 
   -- a row that was free is taken
   pub take_row_timed : (q : ℕ) (r : Option Reply) → m.free_rows q ≡ true → (o' : Owners) → Calm g T a (memory_after a (TakeRow q) m) o'
-      → Timed limits (memory_after a (TakeRow q) m) o' (put knows a (finished (learn (knows a) (TakeRow q) (answer.Whether true)) r)) (suc now) t
+      → Timed limits (memory_after a (TakeRow q) m) o' (put knows a (after_reply (learn (knows a) (TakeRow q) (answer.Whether true)) r)) (suc now) t
   take_row_timed q r f o' c =
       let was : o.row q ≡ Free = g.frees.row q f in
       let m' : Memory = memory_after a (TakeRow q) m in
-      let k' : Knowledge = finished (learn (knows a) (TakeRow q) (answer.Whether true)) r in
+      let k' : Knowledge = after_reply (learn (knows a) (TakeRow q) (answer.Whether true)) r in
       idle_timed k' c refl refl (λ n. held_later n a)
       (T.epochs a)
       (λ j. by_equal j q
@@ -199,12 +199,12 @@ module _ {limits : Limits} {m : Memory} {log : List Update} {o : Owners} {knows 
 
   -- a PID that was free is taken
   pub take_pid_timed : (q : ℕ) (r : Option Reply) (o' : Owners) → Calm g T a (memory_after a (TakePid q) m) o'
-      → Timed limits (memory_after a (TakePid q) m) o' (put knows a (finished (learn (knows a) (TakePid q) (answer.Whether true)) r)) (suc now) t
+      → Timed limits (memory_after a (TakePid q) m) o' (put knows a (after_reply (learn (knows a) (TakePid q) (answer.Whether true)) r)) (suc now) t
   take_pid_timed q r o' c =
       let was : (p j : ℕ) → put (knows a).own.pages q Empty p ≡ Ready j → (knows a).own.pages p ≡ Ready j =
       λ p j. put_was (knows a).own.pages q Empty p (λ e. cc) in
       let m' : Memory = memory_after a (TakePid q) m in
-      let k' : Knowledge = finished (learn (knows a) (TakePid q) (answer.Whether true)) r in
+      let k' : Knowledge = after_reply (learn (knows a) (TakePid q) (answer.Whether true)) r in
       idle_timed k' c refl refl (λ n. held_later n a)
       (T.epochs a) (T.own_rows a)
       (λ p i. T.gone_pages a p (put_was (knows a).own.pages q Empty p (λ e. cc) i))

@@ -1,14 +1,14 @@
 -- Steps that take nothing out of the tree and free nothing keep what actors hold.
 use Rattle.tree_law.proofs.Words.{ap, refl, Option, suc, None, List, true, inl, ◌≢◌, ◌≤◌, inr, subst, sym, ℕ, ◌≡◌, ◌∙◌, arith, Some, same_Some, Update, Limits, Memory, next_row, Record}
 use Rattle.tree_law.proofs.Words.{low_in, level_in, IsOwn, IsOwnBase, Knowledge, Ready, learnt_next, Gone, Limbos, Key, Linked, Owners, Reached, Spare, SpellsLog, Placed, Indexed, Cleared, Stage}
-use Rattle.tree_law.proofs.Words.{child_of, put, shared, slot_in, Times, Timed, LimboFits, Holds, NamesSince, IsSince, HeldHead, IsTree, spec, SidePage, InPlace, HoldsBy, []}
+use Rattle.tree_law.proofs.Words.{child_of, put, shared_part, slot_in, Times, Timed, LimboFits, Holds, NamesSince, IsSince, HeldHead, IsTree, spec, SidePage, InPlace, HoldsBy, []}
 use Rattle.tree_law.specs.Times.{HeldBeside}
 use Rattle.tree_law.proofs.links.Keeping.{alive_place, beyond_place}
 use Rattle.tree_law.proofs.shape.{by_equal, put_same, put_true, rows_kept, right_page, none_if}
 use Rattle.tree_law.proofs.epochs.Timing.{none_since, head_more, Turn, limbo_row, limbo_pid, held_later, announced_still, put_timed}
 
 module _ {limits : Limits} {m : Memory} {log : List Update} {o : Owners} {knows : ℕ → Knowledge} {point : ℕ → Option (List Update)}
-    {logs : ℕ → List (List Update)} {now : ℕ} {t : Times} (g : IsTree (shared m) log o knows point logs) (T : Timed limits m o knows now t) (a : ℕ) where
+    {logs : ℕ → List (List Update)} {now : ℕ} {t : Times} (g : IsTree (shared_part m) log o knows point logs) (T : Timed limits m o knows now t) (a : ℕ) where
   abbrev pub linked : (b r : ℕ) → (knows b).read.learnt r ≡ true → o.row r ≡ Linked
   linked b = (g.sound b).learnt_fits
 
@@ -25,14 +25,14 @@ module _ {limits : Limits} {m : Memory} {log : List Update} {o : Owners} {knows 
     pub announced : (b : ℕ) → b ≢ a → m'.announced b ≡ m.announced b
 
 module _ {limits : Limits} {m : Memory} {log : List Update} {o : Owners} {knows : ℕ → Knowledge} {point : ℕ → Option (List Update)}
-    {logs : ℕ → List (List Update)} {now : ℕ} {t : Times} {g : IsTree (shared m) log o knows point logs} {T : Timed limits m o knows now t} {a : ℕ}
+    {logs : ℕ → List (List Update)} {now : ℕ} {t : Times} {g : IsTree (shared_part m) log o knows point logs} {T : Timed limits m o knows now t} {a : ℕ}
     {m' : Memory} {o' : Owners} (k' : Knowledge) (c : Calm g T a m' o') where
   -- a step at which nobody enters
   pub calm_turn : (k'.inside ≡ true → (knows a).inside ≡ true) → Turn T (linked g T a) a m' o' k' t
   calm_turn inside = record {
     rows_later = λ r. inl refl;
     pages_later = λ p. inl refl;
-    chains = λ x d l h. rows_kept o (shared m) m'.rows g.closed c.kept x d l h;
+    chains = λ x d l h. rows_kept o (shared_part m) m'.rows g.closed c.kept x d l h;
     epoch = c.epoch;
     announced = c.announced;
     entered = λ b ne. refl;
@@ -85,7 +85,7 @@ module _ {limits : Limits} {m : Memory} {log : List Update} {o : Owners} {knows 
   still_timed an inside read over = read_timed an inside (rw (inside, read, over) (held_later (calm_turn (λ i. sym inside ∙ i)) a))
 
 module _ {limits : Limits} {m : Memory} {log : List Update} {o : Owners} {knows : ℕ → Knowledge} {point : ℕ → Option (List Update)}
-    {logs : ℕ → List (List Update)} {now : ℕ} {t : Times} (g : IsTree (shared m) log o knows point logs) (T : Timed limits m o knows now t) (a : ℕ) where
+    {logs : ℕ → List (List Update)} {now : ℕ} {t : Times} (g : IsTree (shared_part m) log o knows point logs) (T : Timed limits m o knows now t) (a : ℕ) where
   -- nothing is changed
   pub calm_same : Calm g T a m o
   calm_same = record
@@ -99,7 +99,7 @@ module _ {limits : Limits} {m : Memory} {log : List Update} {o : Owners} {knows 
   placed_in p l k st s = none_if (t.page_out p) (λ w e. let f = sym s ∙ (T.pages p w e).0.2 in cc)
 
   -- what a page on its side chain names is not out
-  pub place_since : (e : ℕ) (p : SidePage) → InPlace o (shared m) (level_in p.chain) (spec log o.index (level_in p.chain)) p → NamesSince t.page_out e p.chain
+  pub place_since : (e : ℕ) (p : SidePage) → InPlace o (shared_part m) (level_in p.chain) (spec log o.index (level_in p.chain)) p → NamesSince t.page_out e p.chain
   place_since e p h = record {
     right = λ q i. let n = right_page (g.tree.levels (level_in p.chain) (g.tree.exact.below p.page (level_in p.chain) (low_in p.chain) h.stage h.placed)) p h q i in
         none_since e (t.page_out q) (placed_in q (level_in p.chain) (low_in n.0.chain) n.3.stage (ap o.page (sym n.1) ∙ n.3.placed));
@@ -130,7 +130,7 @@ module _ {limits : Limits} {m : Memory} {log : List Update} {o : Owners} {knows 
       }
 
   -- the actor reads the slot of a page
-  pub head_holds : (knows a).inside ≡ true → (p x : ℕ) → slot_in m.slots p ≡ Some x → (l : ℕ) (s : Key) → Reached 0 l s (o.page p) → (spells : SpellsLog o (shared m) x log)
+  pub head_holds : (knows a).inside ≡ true → (p x : ℕ) → slot_in m.slots p ≡ Some x → (l : ℕ) (s : Key) → Reached 0 l s (o.page p) → (spells : SpellsLog o (shared_part m) x log)
       → Reached 0 (level_in spells.chain) (low_in spells.chain) (o.page p)
       → Holds m.rows t.row_out t.page_out (t.entered a) (knows a).inside (knows a).read.seen (put (knows a).read.learnt x true) (knows a).read.roots
       (put (knows a).read.heads p (Some x)) (put (knows a).read.before p (knows a).read.heads) (knows a).asked.linked

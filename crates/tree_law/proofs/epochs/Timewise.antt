@@ -2,9 +2,9 @@
 use Rattle.tree_law.proofs.Words.{false, ◌⊎◌, ap, refl, Option, suc, None, List, true, inl, ◌≢◌, ◌≤◌, inr, subst, sym, ℕ, ◌≡◌, Bool, zero, ◌∙◌, ◌<◌, arith, Some, eqb, same_Some}
 use Rattle.tree_law.proofs.Words.{Update, set, unset, Reply, Limits, Answer, StepOf, ReuseRows, ReusePids, Leave, TakePid, Row, Place, TakeRow, Slot, Enter, Epoch, Exchange, Announce, Retire, Memory}
 use Rattle.tree_law.proofs.Words.{replaced_at, next_row, Record, Remove, Base, Hold, Split, Put, Delete, Merge, Term, Unterm, SplitOf, low_in, level_in, May, IsOwn, MayExchange, IsOwnBase, MayLink}
-use Rattle.tree_law.proofs.Words.{MayRoot, MayAdd, base_from, HasRead, update_record, Knowledge, finished, Ready, learn, Other, Written, OwnRow, IsAnswer}
+use Rattle.tree_law.proofs.Words.{MayRoot, MayAdd, base_from, HasRead, update_record, Knowledge, after_reply, Ready, learn, Other, Written, OwnRow, IsAnswer}
 use Rattle.tree_law.proofs.Words.{memory_after, Key, IsReuse, IsMoved, Next, IsHomed, Linked, Owners, Reached, Spare, Owner, OwnFits, Placed, Indexed, PageOwner, Cleared, Keeps, Fresh}
-use Rattle.tree_law.proofs.Words.{Removed, Held, Merged, Stage, LinkMoves, Exchanged, put, shared, slot_in, row_in, Times, Timed, times_after, Holds, split_page, IsTree, []}
+use Rattle.tree_law.proofs.Words.{Removed, Held, Merged, Stage, LinkMoves, Exchanged, put, shared_part, slot_in, row_in, Times, Timed, times_after, Holds, split_page, IsTree, []}
 use Rattle.bw_model.specs.declared.step.Answer.TheVariants as answer
 use Rattle.tree_law.proofs.links.Keeping.{slot_of, met_placed}
 use Rattle.tree_law.proofs.shape.{placed_reached, by_equal, put_other, own_base, none_if}
@@ -66,9 +66,9 @@ put_cleared : (f f' : ℕ → PageOwner) (c l0 : ℕ) (s0 : Key) (st : Stage) (n
 put_cleared f f' c l0 s0 st n was e q b l s i = ap (λ (h : ℕ → PageOwner). h q) e ∙ put_other f c n q (λ j. absurd (cc)) ∙ i
 
 module _ {limits : Limits} {m : Memory} {log : List Update} {o : Owners} {knows : ℕ → Knowledge} {point : ℕ → Option (List Update)}
-    {logs : ℕ → List (List Update)} {now : ℕ} {t : Times} (g : IsTree (shared m) log o knows point logs) (T : Timed limits m o knows now t) (a : ℕ) where
+    {logs : ℕ → List (List Update)} {now : ℕ} {t : Times} (g : IsTree (shared_part m) log o knows point logs) (T : Timed limits m o knows now t) (a : ℕ) where
   abbrev pub After : Memory → StepOf Record → Answer Record → Option Reply → Type 0
-  After m' s x r = (n : Next a (shared m) (shared m') log o knows point logs s x r) → Timed limits m' n.owners (put knows a (finished (learn (knows a) s x) r)) (suc now) (times_after a m o now s x t)
+  After m' s x r = (n : Next a (shared_part m) (shared_part m') log o knows point logs s x r) → Timed limits m' n.owners (put knows a (after_reply (learn (knows a) s x) r)) (suc now) (times_after a m o now s x t)
 
   still_spare : (b : ℕ) (free : Bool) (v v' : Owner) → v ≡ Spare b → (v' ≡ Linked → v ≡ Linked) → IsMoved a free v v' → v' ≡ Spare b
   still_spare b free v v' e back (inl i) = i ∙ e
@@ -81,8 +81,8 @@ module _ {limits : Limits} {m : Memory} {log : List Update} {o : Owners} {knows 
   spare_or b free v v' e (inr (inr i)) = inr i.1
 
   -- a step that takes nothing out and links nothing
-  pub calm_next : {s : StepOf Record} {x : Answer Record} {r : Option Reply} (m' : Memory) (n : Next a (shared m) (shared m') log o knows point logs s x r)
-      → m'.slots ≡ m.slots → ((row : ℕ) → IsHomed (shared m) s x row → ⊥)
+  pub calm_next : {s : StepOf Record} {x : Answer Record} {r : Option Reply} (m' : Memory) (n : Next a (shared_part m) (shared_part m') log o knows point logs s x r)
+      → m'.slots ≡ m.slots → ((row : ℕ) → IsHomed (shared_part m) s x row → ⊥)
       → ((p l : ℕ) (k : Key) → Reached 0 l k (n.owners.page p) → Reached 0 l k (o.page p)) → ((p b l : ℕ) (k : Key) → o.page p ≡ Cleared b l k → n.owners.page p ≡ Cleared b l k)
       → m.epoch ≤ m'.epoch → ((b : ℕ) → b ≢ a → m'.announced b ≡ m.announced b) → Calm g T a m' n.owners
   calm_next {s} {x} {r} m' n slots homed reached cleared epoch announced =
@@ -100,14 +100,14 @@ module _ {limits : Limits} {m : Memory} {log : List Update} {o : Owners} {knows 
       }
 
   -- one that leaves pages whose they are
-  calm_pages : {s : StepOf Record} {x : Answer Record} {r : Option Reply} (m' : Memory) (n : Next a (shared m) (shared m') log o knows point logs s x r) → m'.slots ≡ m.slots
-      → ((row : ℕ) → IsHomed (shared m) s x row → ⊥) → n.owners.page ≡ o.page → m.epoch ≤ m'.epoch → ((b : ℕ) → b ≢ a → m'.announced b ≡ m.announced b) → Calm g T a m' n.owners
+  calm_pages : {s : StepOf Record} {x : Answer Record} {r : Option Reply} (m' : Memory) (n : Next a (shared_part m) (shared_part m') log o knows point logs s x r) → m'.slots ≡ m.slots
+      → ((row : ℕ) → IsHomed (shared_part m) s x row → ⊥) → n.owners.page ≡ o.page → m.epoch ≤ m'.epoch → ((b : ℕ) → b ≢ a → m'.announced b ≡ m.announced b) → Calm g T a m' n.owners
   calm_pages {s} {x} {r} m' n slots homed same epoch announced =
       calm_next m' n slots homed (λ p l k. subst (λ (f : ℕ → PageOwner). Reached 0 l k (f p)) same) (λ p b l k e. ap (λ (f : ℕ → PageOwner). f p) same ∙ e) epoch announced
 
   reads : (p : ℕ) (v : ℕ) (r : Option Reply) → May a (knows a) (Slot (suc p)) → m.slots (suc p) ≡ v → After m (Slot (suc p)) (answer.Number v) r
   reads p zero r may e n =
-      still_timed (finished (learn (knows a) (Slot (suc p)) (answer.Number 0)) r) (calm_pages m n refl (λ row h. h) n.phased (omega arith) (λ b ne. refl)) refl refl refl refl refl refl
+      still_timed (after_reply (learn (knows a) (Slot (suc p)) (answer.Number 0)) r) (calm_pages m n refl (λ row h. h) n.phased (omega arith) (λ b ne. refl)) refl refl refl refl refl refl
   reads p (suc x) r may e n =
       let Holds' : ℕ → Type 0 =
       λ j. Holds m.rows t.row_out t.page_out (t.entered a) (knows a).inside (knows a).read.seen (put (knows a).read.learnt j true) (knows a).read.roots
@@ -116,7 +116,7 @@ module _ {limits : Limits} {m : Memory} {log : List Update} {o : Owners} {knows 
       elim (slot_of g a (suc p) here.0 here.1 here.2) [
         | inl none ↦ absurd (cc none.0)
         | inr v ↦ (let same : v.0 ≡ suc x = same_Some v.0 (suc x) (sym v.1 ∙ ap row_in e) in
-            read_timed (finished (learn (knows a) (Slot (suc p)) (answer.Number (suc x))) r) (calm_pages m n refl (λ row h. h) n.phased (omega arith) (λ b ne. refl)) refl refl
+            read_timed (after_reply (learn (knows a) (Slot (suc p)) (answer.Number (suc x))) r) (calm_pages m n refl (λ row h. h) n.phased (omega arith) (λ b ne. refl)) refl refl
             (rw same at (head_holds g T a may.0 (suc p) v.0 v.1 here.0 here.1 here.2 v.2 v.3)) refl refl)
       ]
 
@@ -146,7 +146,7 @@ module _ {limits : Limits} {m : Memory} {log : List Update} {o : Owners} {knows 
 
   -- what a link does with pages
   links_pages : (p x y : ℕ) (w : Record) (f' : ℕ → PageOwner) → m.rows (suc y) ≡ Some w
-      → ((s : SplitOf) → w ≡ Split s → (base : ℕ) × ((knows a).own.pages s.page ≡ Ready base) × IsOwn ((knows a).own.rows base) × (base ≢ suc y)) → LinkMoves (shared m) a w (suc p) o.page f'
+      → ((s : SplitOf) → w ≡ Split s → (base : ℕ) × ((knows a).own.pages s.page ≡ Ready base) × IsOwn ((knows a).own.rows base) × (base ≢ suc y)) → LinkMoves (shared_part m) a w (suc p) o.page f'
       → Reach p y f' × Clears f'
   unfolding Reach Clears
   links_pages p x y (Term w) f' st sp h = (
@@ -220,7 +220,7 @@ module _ {limits : Limits} {m : Memory} {log : List Update} {o : Owners} {knows 
       let pages = links_pages p (suc x) y h.content n.owners.page own.1 h.split links in
       let at = T.slots (suc p) (suc x) (level_in h.basis.chain) (low_in h.basis.chain) f.reached held in
       subst
-      (λ (k : Knowledge). Timed limits m' n.owners (put knows a (finished k r)) (suc now) (times_after a m o now (Exchange (suc p) (suc x) (suc y)) (answer.Whether true) t))
+      (λ (k : Knowledge). Timed limits m' n.owners (put knows a (after_reply k r)) (suc now) (times_after a m o now (Exchange (suc p) (suc x) (suc y)) (answer.Whether true) t))
       (sym (rw (other, h.placed)))
       (linked_timed g T a p (suc x) y n.owners (record {
         own = rw h.placed tt;
@@ -242,7 +242,7 @@ module _ {limits : Limits} {m : Memory} {log : List Update} {o : Owners} {knows 
       (λ s e. let b = h.split s e in (b.0, b.1)))
 
   emptying_of : (p x : ℕ) (r : Option Reply) → slot_in m.slots (suc p) ≡ Some (suc x) → ((b l : ℕ) (s : Key) → o.page (suc p) ≡ Cleared b l s → b ≡ a)
-      → (n : Next a (shared m) (shared (record m { slots = replaced_at (suc p) 0 m.slots })) log o knows point logs (Exchange (suc p) (suc x) 0) (answer.Whether true) r)
+      → (n : Next a (shared_part m) (shared_part (record m { slots = replaced_at (suc p) 0 m.slots })) log o knows point logs (Exchange (suc p) (suc x) 0) (answer.Whether true) r)
       → Emptying g T a p (suc x) n.owners
   emptying_of p x r held whose n = record {
     held = held;
@@ -286,7 +286,7 @@ module _ {limits : Limits} {m : Memory} {log : List Update} {o : Owners} {knows 
             (λ j. absurd (cc e.5)) ∙ put_other o.page e.0 (Placed Indexed e.1 e.2) q (λ j. absurd (cc e.4)) ∙ i;
       }) r)
     where
-      e : Exchanged a (shared m) 0 x y o.page n.owners.page
+      e : Exchanged a (shared_part m) 0 x y o.page n.owners.page
       e = n.phased
 
       reached : (q l : ℕ) (s : Key) → Reached 0 l s (put (put o.page e.0 (Placed Indexed e.1 e.2)) y (Placed Indexed (suc e.1) []) q) → Reached 0 l s (o.page q) ⊎ (q ≡ y)
@@ -297,10 +297,10 @@ module _ {limits : Limits} {m : Memory} {log : List Update} {o : Owners} {knows 
 
   -- an exchange that lost
   loses : (p x y : ℕ) (r : Option Reply) → (m' : Memory) → m' ≡ m → times_after a m o now (Exchange p x y) (answer.Whether false) t ≡ t
-      → ((row : ℕ) → IsHomed (shared m) (Exchange p x y) (answer.Whether false) row → ⊥) → After m' (Exchange p x y) (answer.Whether false) r
+      → ((row : ℕ) → IsHomed (shared_part m) (Exchange p x y) (answer.Whether false) row → ⊥) → After m' (Exchange p x y) (answer.Whether false) r
   loses p x y r m' e same homed =
       subst (λ (v : Memory). After v (Exchange p x y) (answer.Whether false) r) (sym e)
-      (λ n. rw same (still_timed (finished (knows a) r) (calm_pages m n refl homed n.phased (omega arith) (λ b ne. refl)) refl refl refl refl refl refl))
+      (λ n. rw same (still_timed (after_reply (knows a) r) (calm_pages m n refl homed n.phased (omega arith) (λ b ne. refl)) refl refl refl refl refl refl))
 
   exchange : (p x y : ℕ) (r : Option Reply) → MayExchange a (knows a) p x y → After (memory_after a (Exchange p x y) m) (Exchange p x y) (answer.Whether (eqb (m.slots p) x)) r
   exchange zero x y r h = by_equal (m.slots 0) x (λ e t. rw t (roots x y r h)) (λ ne t. rw t (loses 0 x y r m refl refl (λ row i. i)))
@@ -309,7 +309,7 @@ module _ {limits : Limits} {m : Memory} {log : List Update} {o : Owners} {knows 
 
   takes_row : (q : ℕ) (r : Option Reply) (z : Bool) → m.free_rows q ≡ z → After (memory_after a (TakeRow q) m) (TakeRow q) (answer.Whether z) r
   takes_row q r true e n = take_row_timed g T a q r e n.owners (calm_pages (memory_after a (TakeRow q) m) n refl (λ row i. i) n.phased (omega arith) (λ b ne. refl))
-  takes_row q r false e n = still_timed (finished (knows a) r) (calm_pages (memory_after a (TakeRow q) m) n refl (λ row i. i) n.phased (omega arith) (λ b ne. refl)) refl refl refl refl refl refl
+  takes_row q r false e n = still_timed (after_reply (knows a) r) (calm_pages (memory_after a (TakeRow q) m) n refl (λ row i. i) n.phased (omega arith) (λ b ne. refl)) refl refl refl refl refl refl
 
   takes_pid : (q : ℕ) (r : Option Reply) (z : Bool) → m.free_pids q ≡ z → After (memory_after a (TakePid q) m) (TakePid q) (answer.Whether z) r
   takes_pid q r true e n = take_pid_timed g T a q r n.owners (calm_next (memory_after a (TakePid q) m) n refl (λ row i. i) reached cleared (omega arith) (λ b ne. refl))
@@ -322,16 +322,16 @@ module _ {limits : Limits} {m : Memory} {log : List Update} {o : Owners} {knows 
 
       cleared : (p b l : ℕ) (k : Key) → o.page p ≡ Cleared b l k → n.owners.page p ≡ Cleared b l k
       cleared p b l k i = ap (λ (f : ℕ → PageOwner). f p) n.phased ∙ put_other o.page q (Keeps a) p (λ j. absurd (cc (g.frees.page q e).0)) ∙ i
-  takes_pid q r false e n = still_timed (finished (knows a) r) (calm_pages (memory_after a (TakePid q) m) n refl (λ row i. i) n.phased (omega arith) (λ b ne. refl)) refl refl refl refl refl refl
+  takes_pid q r false e n = still_timed (after_reply (knows a) r) (calm_pages (memory_after a (TakePid q) m) n refl (λ row i. i) n.phased (omega arith) (λ b ne. refl)) refl refl refl refl refl refl
 
   -- each allowed step but a reuse
   pub timed_step : (s : StepOf Record) → (IsReuse s → ⊥) → (x : Answer Record) (r : Option Reply) → May a (knows a) s → IsAnswer m s x → a < limits.actors → After (memory_after a s m) s x r
   timed_step (Slot zero) calm x r may is actor =
-      subst (λ v. After m (Slot 0) v r) (sym is) (λ n. read_timed (finished (learn (knows a) (Slot 0) (answer.Number (m.slots 0))) r)
+      subst (λ v. After m (Slot 0) v r) (sym is) (λ n. read_timed (after_reply (learn (knows a) (Slot 0) (answer.Number (m.slots 0))) r)
       (calm_pages m n refl (λ row i. i) n.phased (omega arith) (λ b ne. refl)) refl refl (root_holds g T a may) refl refl)
   timed_step (Slot (suc p)) calm x r may is actor = rw is (reads p (m.slots (suc p)) r may refl)
   timed_step (Row q) calm x r may is actor =
-      subst (λ v. After m (Row q) v r) (sym is.2) (λ n. read_timed (finished (learn (knows a) (Row q) (answer.Content is.0)) r)
+      subst (λ v. After m (Row q) v r) (sym is.2) (λ n. read_timed (after_reply (learn (knows a) (Row q) (answer.Content is.0)) r)
       (calm_pages m n refl (λ row i. i) n.phased (omega arith) (λ b ne. refl)) refl refl (row_holds g T a q is.0 may.1 is.1) refl refl)
   timed_step Epoch calm x r may is actor = subst (λ v. After m Epoch v r) (sym is) (λ n. epoch_timed g T a r n.owners (calm_pages m n refl (λ row i. i) n.phased (omega arith) (λ b ne. refl)))
   timed_step (Announce c) calm x r may is actor =
@@ -349,9 +349,9 @@ module _ {limits : Limits} {m : Memory} {log : List Update} {o : Owners} {knows 
       (λ n. leave_timed g T a r n.owners (calm_pages (memory_after a Leave m) n refl (λ row i. i) n.phased (omega arith) (λ b ne. put_other m.announced a 0 b ne)))
   timed_step (Retire e) calm x r may is actor =
       let retired : (e : ℕ) → m.epoch ≤ (memory_after a (Retire e) m).epoch = λ e. by_equal m.epoch e (λ i t. rw t (omega arith)) (λ ne t. rw t (omega arith)) in
-      λ n. still_timed (finished (knows a) r) (calm_pages (memory_after a (Retire e) m) n refl (λ row i. i) n.phased (retired e) (λ b ne. refl)) refl refl refl refl refl refl
+      λ n. still_timed (after_reply (knows a) r) (calm_pages (memory_after a (Retire e) m) n refl (λ row i. i) n.phased (retired e) (λ b ne. refl)) refl refl refl refl refl refl
   timed_step (ReusePids w b) calm x r may is actor = absurd (calm tt)
   timed_step (ReuseRows w b) calm x r may is actor = absurd (calm tt)
   timed_step s calm x r may is actor =
       subst (λ v. After m s v r) (sym is.2)
-      (λ n. still_timed (finished (learn (knows a) s (answer.Number is.0)) r) (calm_pages m n refl (λ row i. i) n.phased (omega arith) (λ b ne. refl)) refl refl refl refl refl refl)
+      (λ n. still_timed (after_reply (learn (knows a) s (answer.Number is.0)) r) (calm_pages m n refl (λ row i. i) n.phased (omega arith) (λ b ne. refl)) refl refl refl refl refl refl)

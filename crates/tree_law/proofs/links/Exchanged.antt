@@ -1,6 +1,6 @@
 -- What an exchange that won makes of what its actor knows.
 use Rattle.tree_law.proofs.Words.{refl, suc, inl, inr, ℕ, ◌≡◌, zero, Page, record_link, Record, Base, Split, Put, Delete, Unterm, SplitOf, UntermOf, Knowledge, Ready, Empty, OwnPage, Other, Gone}
-use Rattle.tree_law.proofs.Words.{Written, filled, rooted, OwnRow, emptied, exchanged, split_off, linked_over, handed_page, handed_over, set_page, rebuilt, updated, IsUpdateLink}
+use Rattle.tree_law.proofs.Words.{Written, after_filling, after_root, OwnRow, after_emptying, after_exchange, split_off, linked_over, handed_page, handed_over, set_page, rebuilt, after_update, IsUpdateLink}
 use Rattle.traces.specs.discipline.Knowledge.{after_clear}
 
 pub data Exchanging (k : Knowledge) : ℕ → ℕ → ℕ → Knowledge → Type 0 where
@@ -9,15 +9,15 @@ pub data Exchanging (k : Knowledge) : ℕ → ℕ → ℕ → Knowledge → Type
   clears : (p x : ℕ) → k.own.pages (suc p) ≡ Gone → Exchanging k (suc p) x zero (after_clear (suc p) x k)
   readies : (p x y : ℕ) → k.own.pages (suc p) ≡ Empty → Exchanging k (suc p) x (suc y) (set_page (suc p) (Ready (suc y)) k)
   rebuilds : (p x y : ℕ) (w : Page) → k.own.pages (suc p) ≡ Other → k.own.rows (suc y) ≡ Written (Base w) → Exchanging k (suc p) x (suc y) (rebuilt x (suc y) k)
-  updates : (p x y : ℕ) (w : Record) → k.own.pages (suc p) ≡ Other → k.own.rows (suc y) ≡ Written w → IsUpdateLink (record_link w) → Exchanging k (suc p) x (suc y) (updated x (suc y) k)
+  updates : (p x y : ℕ) (w : Record) → k.own.pages (suc p) ≡ Other → k.own.rows (suc y) ≡ Written w → IsUpdateLink (record_link w) → Exchanging k (suc p) x (suc y) (after_update x (suc y) k)
   splits : (p x y base : ℕ) (w : SplitOf) → k.own.pages w.page ≡ Ready base → Exchanging k (suc p) x (suc y) (handed_page w.page Other (suc y) (handed_over base k))
   unterms : (p x y : ℕ) (w : UntermOf) → Exchanging k (suc p) x (suc y) (handed_page w.child Gone (suc y) k)
   hands : (p x y : ℕ) → Exchanging k (suc p) x (suc y) (handed_over (suc y) k)
   misses : {p x y : ℕ} → Exchanging k p x y k
 
-pub exchanging : (p x y : ℕ) (k : Knowledge) → Exchanging k p x y (exchanged p x y k)
-exchanging zero x y k = (elim (k.own.pages y) as (λ v. k.own.pages y ≡ v → Exchanging k zero x y (rooted v y k)) [ Ready base ↦ λ e. roots x y base e | v ↦ λ e. misses ]) refl
-exchanging (suc p) x zero k = (elim (k.own.pages (suc p)) as (λ v. k.own.pages (suc p) ≡ v → Exchanging k (suc p) x zero (emptied v (suc p) x k)) [
+pub exchanging : (p x y : ℕ) (k : Knowledge) → Exchanging k p x y (after_exchange p x y k)
+exchanging zero x y k = (elim (k.own.pages y) as (λ v. k.own.pages y ≡ v → Exchanging k zero x y (after_root v y k)) [ Ready base ↦ λ e. roots x y base e | v ↦ λ e. misses ]) refl
+exchanging (suc p) x zero k = (elim (k.own.pages (suc p)) as (λ v. k.own.pages (suc p) ≡ v → Exchanging k (suc p) x zero (after_emptying v (suc p) x k)) [
   | Ready base ↦ λ e. empties p x base e
   | Gone ↦ λ e. clears p x e
   | v ↦ λ e. misses
@@ -37,7 +37,7 @@ exchanging (suc p) x (suc y) k = by_page (k.own.pages (suc p)) refl
     by_row o (Written w) e = hands p x y
     by_row o v e = misses
 
-    by_page : (v : OwnPage) → k.own.pages (suc p) ≡ v → Exchanging k (suc p) x (suc y) (filled v (suc p) x (suc y) k)
+    by_page : (v : OwnPage) → k.own.pages (suc p) ≡ v → Exchanging k (suc p) x (suc y) (after_filling v (suc p) x (suc y) k)
     by_page Other e = by_row e (k.own.rows (suc y)) refl
     by_page Empty e = readies p x y e
     by_page v e = misses
@@ -51,7 +51,7 @@ pub record Alike (k k' : Knowledge) : Type 0 where
   pub no_rows : k'.asked.no_rows ≡ k.asked.no_rows
   pub epoch : k'.limbo.epoch ≡ k.limbo.epoch
 
-pub exchanged_alike : (p x y : ℕ) (k : Knowledge) → Alike k (exchanged p x y k)
+pub exchanged_alike : (p x y : ℕ) (k : Knowledge) → Alike k (after_exchange p x y k)
 exchanged_alike p x y k = elim (exchanging p x y k) as (λ p x y k' v. Alike k k') [
   | misses ↦ record { inside = refl; read = refl; command = refl; no_pids = refl; no_rows = refl; epoch = refl }
   | v ↦ record { inside = refl; read = refl; command = refl; no_pids = refl; no_rows = refl; epoch = refl }

@@ -1,6 +1,6 @@
 -- What a step leaves, and what the tree says of a slot.
 use Rattle.tree_law.proofs.Words.{false, ◌⊎◌, ap, refl, Option, None, List, true, inl, ◌≤◌, inr, ◌∷◌, subst, sym, ℕ, ◌≡◌, ◌∙◌, arith, Some, same_Some, Update, Command, Reply, Answer, []}
-use Rattle.tree_law.proofs.Words.{Done, Leave, Enter, ContentOf, Child, Record, right_in, low_in, is_removed, level_in, HasRead, IsMet, NamesChild, begun, Knowledge, finished, learn, forgotten, Key}
+use Rattle.tree_law.proofs.Words.{Done, Leave, Enter, ContentOf, Child, Record, right_in, low_in, is_removed, level_in, HasRead, IsMet, NamesChild, after_begin, Knowledge, after_reply, learn, forgotten, Key}
 use Rattle.tree_law.proofs.Words.{Owners, Reached, IsOut, Owner, LinkFits, InOrder, IsChain, IsClosed, SpellsLog, leaf_map, ChainNames, OwnsPages, Owns, Placed, Indexed}
 use Rattle.tree_law.proofs.Words.{PageOwner, Fresh, rank, Removed, Held, Merged, Stage, rank_of, child_of, mark, put, Shared, IsTree, spec, IsOff, Off, SidePage, InPlace, HasLevels, KnowsBy}
 use Rattle.traces.specs.discipline.Discipline.{IsBeyond}
@@ -62,9 +62,9 @@ module _ {m : Shared} {log : List Update} {o : Owners} {knows : ℕ → Knowledg
   pub mine_at : (o' : Owners) (m' : Shared) → Kept o o' m m' → KnowsBy o' m' (knows a) (point a) (log ∷ logs a)
   mine_at o' m' kept = knows_kept g.closed kept mine
 
-  pub begins : (c : Command) → IsTree m log o (put knows a (begun (knows a) c)) (put point a None) (put logs a [])
+  pub begins : (c : Command) → IsTree m log o (put knows a (after_begin (knows a) c)) (put point a None) (put logs a [])
   begins c =
-      quiet (begun (knows a) c) None [] (g.owns a) (g.owns_pages a)
+      quiet (after_begin (knows a) c) None [] (g.owns a) (g.owns_pages a)
       (record { seen_fits = mine.seen_fits; learnt_fits = mine.learnt_fits; roots_fit = mine.roots_fit; heads_fit = λ p. tt; orders_fit = λ p f. tt; linked_fits = refl })
 
   -- a step after which the actor knows what it knew
@@ -72,18 +72,18 @@ module _ {m : Shared} {log : List Update} {o : Owners} {knows : ℕ → Knowledg
       → IsTree m log o (put knows a k) (put point a (point a)) (put logs a (log ∷ logs a))
   idles k own read linked = quiet k (point a) (log ∷ logs a) (rw own (g.owns a)) (rw own (g.owns_pages a)) (rw (read, linked) mine)
 
-  pub enters : (e : ℕ) (x : Answer Record) (r : Option Reply) → IsTree m log o (put knows a (finished (learn (knows a) (Enter e) x) r)) (put point a (point a)) (put logs a (log ∷ logs a))
+  pub enters : (e : ℕ) (x : Answer Record) (r : Option Reply) → IsTree m log o (put knows a (after_reply (learn (knows a) (Enter e) x) r)) (put point a (point a)) (put logs a (log ∷ logs a))
   enters e x r =
-      quiet (finished (learn (knows a) (Enter e) x) r) (point a) (log ∷ logs a) (g.owns a) (g.owns_pages a) (record
+      quiet (after_reply (learn (knows a) (Enter e) x) r) (point a) (log ∷ logs a) (g.owns a) (g.owns_pages a) (record
       { seen_fits = mine.seen_fits; learnt_fits = λ q e. absurd (cc); roots_fit = mine.roots_fit; heads_fit = mine.heads_fit; orders_fit = mine.orders_fit; linked_fits = mine.linked_fits })
 
   forgets : (linked : Option (Option ℕ)) → LinkFits o m (point a) linked → LinkFits o m (point a) (forgotten linked)
   forgets (Some (Some x)) h = (h.0, h.1)
   forgets linked h = h
 
-  pub leaves : (r : Option Reply) → IsTree m log o (put knows a (finished (learn (knows a) Leave Done) r)) (put point a (point a)) (put logs a (log ∷ logs a))
+  pub leaves : (r : Option Reply) → IsTree m log o (put knows a (after_reply (learn (knows a) Leave Done) r)) (put point a (point a)) (put logs a (log ∷ logs a))
   leaves r =
-      quiet (finished (learn (knows a) Leave Done) r) (point a) (log ∷ logs a) (g.owns a) (g.owns_pages a) (record {
+      quiet (after_reply (learn (knows a) Leave Done) r) (point a) (log ∷ logs a) (g.owns a) (g.owns_pages a) (record {
         seen_fits = λ q. tt;
         learnt_fits = λ q e.
             absurd (cc);

@@ -1,6 +1,6 @@
 -- What a step with its answer lets its actor know, by kinds.
 use Rattle.tree_law.proofs.Words.{false, suc, true, ℕ, zero, Answer, Whether, Content, Number, StepOf, ReuseRows, ReusePids, Leave, TakePid, Row, Place, TakeRow, Slot, Enter, Epoch, PidBits, Exchange}
-use Rattle.tree_law.proofs.Words.{RowBits, Announce, Record, Knowledge, learn, Empty, OwnRow, exchanged, set_page, Limbos, learn_head}
+use Rattle.tree_law.proofs.Words.{RowBits, Announce, Record, Knowledge, learn, Empty, OwnRow, after_exchange, set_page, Limbos, learn_head}
 use Rattle.traces.specs.discipline.Knowledge.{learn_slot, learn_record, learn_word, after_leave}
 
 -- an actor that goes on is neither entering nor leaving
@@ -16,7 +16,7 @@ pub data Learning (k : Knowledge) : StepOf Record → Answer Record → Knowledg
   pid_word : (w n : ℕ) → Learning k (PidBits w) (Number n) (record k { asked = record k.asked { no_pids = learn_word w n k.asked.no_pids } })
   row_word : (w n : ℕ) → Learning k (RowBits w) (Number n) (record k { asked = record k.asked { no_rows = learn_word w n k.asked.no_rows } })
   takes_pid : (p : ℕ) → Learning k (TakePid p) (Whether true) (set_page p Empty k)
-  wins : (p x y : ℕ) → Learning k (Exchange p x y) (Whether true) (exchanged p x y k)
+  wins : (p x y : ℕ) → Learning k (Exchange p x y) (Whether true) (after_exchange p x y k)
   enters : (e : ℕ) (x : Answer Record) → Learning k (Enter e) x (record k { inside = true; read = record k.read { learnt = λ row. false } })
   leaves : (x : Answer Record) → Learning k Leave x (after_leave k)
   in_rows : {s : StepOf Record} {x : Answer Record} (rows : ℕ → OwnRow) → Stays s → Learning k s x (record k { own = record k.own { rows = rows } })

@@ -1,6 +1,6 @@
 -- The exchanges that merge a removed page into its left one, and that clear a merged page's slot.
 use Rattle.tree_law.proofs.Words.{◌⊎◌, ap, refl, Option, None, List, true, inl, ◌≢◌, ◌≤◌, inr, ◌∷◌, subst, sym, ℕ, ◌≡◌, ◌∙◌, arith, Some, same_Some, IsSome, Update, Reply, Record, Merge, right_in}
-use Rattle.tree_law.proofs.Words.{low_in, is_removed, level_in, high_in, HasRead, MayMerge, Knowledge, finished, Foreign, Gone, Written, filled, emptied, handed_over, Key, IsBelow, Covers, Linked}
+use Rattle.tree_law.proofs.Words.{low_in, is_removed, level_in, high_in, HasRead, MayMerge, Knowledge, after_reply, Foreign, Gone, Written, after_filling, after_emptying, handed_over, Key, IsBelow, Covers, Linked}
 use Rattle.tree_law.proofs.Words.{Owners, Spare, IsOut, OwnFits, IsChain, Placed, PageOwner, Cleared, rank, Removed, Merged, Stage, stage_removed, put, Shared, IsTree, spec, IsOff, SidePage, InPlace}
 use Rattle.traces.specs.discipline.Knowledge.{after_clear}
 use Rattle.tree_law.proofs.shape.{not_below, upto_same, under_trans, by_range, covers_to, by_equal, put_same, put_other, put_all, chain_unique, chain_kept, in_level_as, one_chain, right_page}
@@ -13,15 +13,15 @@ use Rattle.tree_law.proofs.shape.Kept.{Kept}
 
 module _ {m : Shared} {log : List Update} {o : Owners} {knows : ℕ → Knowledge} {point : ℕ → Option (List Update)} {logs : ℕ → List (List Update)} (g : IsTree m log o knows point logs) (a : ℕ) where
   pub clears : (p x : ℕ) → m.slots p ≡ Some x → (knows a).own.pages p ≡ Gone → (r : Option Reply)
-      → IsTree (record m { slots = put m.slots p None }) log o (put knows a (finished (emptied ((knows a).own.pages p) p x (knows a)) r)) (put point a (point a)) (put logs a (log ∷ logs a))
+      → IsTree (record m { slots = put m.slots p None }) log o (put knows a (after_reply (after_emptying ((knows a).own.pages p) p x (knows a)) r)) (put point a (point a)) (put logs a (log ∷ logs a))
   clears p x s own r =
       let was : (l : ℕ) × (k : Key) × (o.page p ≡ Cleared a l k) × IsSome (m.slots p) = rw own at (g.owns_pages a p) in
       let m' : Shared = record m { slots = put m.slots p None } in
       let change : Change a o o m m' =
       record { row = λ j. row_same refl refl; page = λ j. by_equal j p (λ e t. rw t (page_gone was.0 was.1 (ap o.page e ∙ was.2) (ap o.page e ∙ was.2) refl)) (λ e t. rw t (page_same refl refl)) } in
       let kept : Kept o o m m' = kept_change change in
-      subst (λ (k : Knowledge). IsTree m' log o (put knows a (finished k r)) (put point a (point a)) (put logs a (log ∷ logs a))) (sym (rw own))
-      (put_tree g a m' log o (finished k r) (point a) (log ∷ logs a)
+      subst (λ (k : Knowledge). IsTree m' log o (put knows a (after_reply k r)) (put point a (point a)) (put logs a (log ∷ logs a))) (sym (rw own))
+      (put_tree g a m' log o (after_reply k r) (point a) (log ∷ logs a)
       change
       (record { row = g.frees.row; page = λ j h. let f = g.frees.page j h in (f.0, put_other m.slots p None j (λ e. absurd (cc (f.0, was.2))) ∙ f.1) })
       (closed_kept kept g.closed (λ j l. inl l))
@@ -48,7 +48,7 @@ module _ {m : Shared} {log : List Update} {o : Owners} {knows : ℕ → Knowledg
       (record { row = put o.row y Linked; page = put o.page h.other (Placed Merged (level_in basis.chain) (low_in h.merged)); index = o.index }) (point a) ×
       (o.page h.other ≡ Placed Removed (level_in basis.chain) (low_in h.merged))
   merges p x y s basis content written h r =
-      let learned : filled ((knows a).own.pages p) p x y (knows a) ≡ handed_over y (knows a) =
+      let learned : after_filling ((knows a).own.pages p) p x y (knows a) ≡ handed_over y (knows a) =
       rw (not_own g a p lv (low_in c) place.stage place.placed ((knows a).own.pages p) (g.owns_pages a p), (written ∙ ap Written h.is)) refl in
       let change : Change a o o' m m' = record {
         row = λ j. by_equal j y (λ i t. rw t (row_own (ap o.row i ∙ fits.0))) (λ i t. rw t (row_same refl refl));
@@ -60,7 +60,7 @@ module _ {m : Shared} {log : List Update} {o : Owners} {knows : ℕ → Knowledg
             (λ i t. rw t (page_same refl refl))));
       } in
       let kept : Kept o o' m m' = kept_change change in (
-        rw learned (put_tree g a m' log o' (finished (handed_over y (knows a)) r) (point a) (log ∷ logs a)
+        rw learned (put_tree g a m' log o' (after_reply (handed_over y (knows a)) r) (point a) (log ∷ logs a)
             change
             (record {
               row = λ j f. put_other o.row y Linked j (λ i. absurd (cc (g.frees.row j f, fits.0))) ∙ g.frees.row j f;

@@ -1,6 +1,6 @@
 -- The reads keep the invariant. At the read of a slot it is known for is_tree what stood in the slots that were read before.
 use Rattle.tree_law.proofs.Words.{ap, refl, Option, None, List, true, inl, ◌≤◌, ◌∷◌, subst, sym, ℕ, ◌≡◌, ◌∙◌, arith, Some, same_Some, IfSome, Update, Reply, Row, Child, next_row}
-use Rattle.tree_law.proofs.Words.{Record, low_in, is_removed, level_in, Knowledge, finished, learn, learnt_next, learn_head, Linked, Owners, Reached, IsLinked, HeadFits, OrderFits, SpellsLog}
+use Rattle.tree_law.proofs.Words.{Record, low_in, is_removed, level_in, Knowledge, after_reply, learn, learnt_next, learn_head, Linked, Owners, Reached, IsLinked, HeadFits, OrderFits, SpellsLog}
 use Rattle.tree_law.proofs.Words.{SeenFits, Placed, Indexed, PageOwner, put, Shared, IsTree, [], inr}
 use Rattle.bw_model.specs.declared.step.Answer.TheVariants as answer
 use Rattle.tree_law.proofs.shape.{by_equal, put_all, chain_unique, reached_placed, placed_reached, in_level_as, no_gap, right_page, name_more}
@@ -8,10 +8,10 @@ use Rattle.tree_law.proofs.links.Keeping.{spec_leaf, on_or_merged, quiet, mine, 
 
 module _ {m : Shared} {log : List Update} {o : Owners} {knows : ℕ → Knowledge} {point : ℕ → Option (List Update)} {logs : ℕ → List (List Update)} (g : IsTree m log o knows point logs) (a : ℕ) where
   pub reads_root : (r : Option Reply)
-      → IsTree m log o (put knows a (finished (record (knows a) { read = record (knows a).read { roots = put (knows a).read.roots m.root true } }) r))
+      → IsTree m log o (put knows a (after_reply (record (knows a) { read = record (knows a).read { roots = put (knows a).read.roots m.root true } }) r))
       (put point a (point a)) (put logs a (log ∷ logs a))
   reads_root r =
-      quiet g a (finished (record (knows a) { read = record (knows a).read { roots = put (knows a).read.roots m.root true } }) r) (point a) (log ∷ logs a) (g.owns a) (g.owns_pages a)
+      quiet g a (after_reply (record (knows a) { read = record (knows a).read { roots = put (knows a).read.roots m.root true } }) r) (point a) (log ∷ logs a) (g.owns a) (g.owns_pages a)
       (record {
         seen_fits = (mine g a).seen_fits;
         learnt_fits = (mine g a).learnt_fits;
@@ -23,9 +23,9 @@ module _ {m : Shared} {log : List Update} {o : Owners} {knows : ℕ → Knowledg
       })
 
   pub reads_slot : (p x : ℕ) → m.slots p ≡ Some x → (h : SpellsLog o m x log) → Reached 0 (level_in h.chain) (low_in h.chain) (o.page p) → (r : Option Reply)
-      → IsTree m log o (put knows a (finished (learn_head p x (knows a)) r)) (put point a (point a)) (put logs a (log ∷ logs a))
+      → IsTree m log o (put knows a (after_reply (learn_head p x (knows a)) r)) (put point a (point a)) (put logs a (log ∷ logs a))
   reads_slot p x sx s e r =
-      quiet g a (finished (learn_head p x (knows a)) r) (point a) (log ∷ logs a) (g.owns a) (g.owns_pages a)
+      quiet g a (after_reply (learn_head p x (knows a)) r) (point a) (log ∷ logs a) (g.owns a) (g.owns_pages a)
       (record {
         seen_fits = (mine g a).seen_fits;
         learnt_fits = name_more o (knows a).read.learnt x s.linked (mine g a).learnt_fits;
@@ -81,10 +81,10 @@ module _ {m : Shared} {log : List Update} {o : Owners} {knows : ℕ → Knowledg
       }
 
   pub reads_row : (q : ℕ) (w : Record) → (knows a).read.learnt q ≡ true → m.rows q ≡ Some w → (r : Option Reply)
-      → IsTree m log o (put knows a (finished (learn (knows a) (Row q) (answer.Content w)) r)) (put point a (point a)) (put logs a (log ∷ logs a))
+      → IsTree m log o (put knows a (after_reply (learn (knows a) (Row q) (answer.Content w)) r)) (put point a (point a)) (put logs a (log ∷ logs a))
   reads_row q w l e r =
       let at : IsLinked o m q = g.closed q ((mine g a).learnt_fits q l) in
-      quiet g a (finished (learn (knows a) (Row q) (answer.Content w)) r) (point a) (log ∷ logs a) (g.owns a) (g.owns_pages a)
+      quiet g a (after_reply (learn (knows a) (Row q) (answer.Content w)) r) (point a) (log ∷ logs a) (g.owns a) (g.owns_pages a)
       (record {
         seen_fits = put_all (λ j v. SeenFits (o.row j) (m.rows j) v) (knows a).read.seen q (Some w) (at.linked, e) (λ j ne. (mine g a).seen_fits j);
         learnt_fits = rows (next_row w) (rw (same_Some at.content w (sym at.stands ∙ e)) at at.next);

@@ -1,6 +1,6 @@
 -- One row is linked over the chain of a page that was read, and pages go on.
 use Rattle.tree_law.proofs.Words.{false, ap, refl, Option, suc, None, List, inl, ◌≢◌, ◌≤◌, inr, ◌∷◌, sym, ℕ, ◌≡◌, ◌∙◌, arith, Some, IfSome, Update, ContentOf, next_row}
-use Rattle.tree_law.proofs.Words.{Record, content_in, right_in, low_in, is_removed, level_in, high_in, HasRead, Knowledge, finished, filled, linked_over, Reply}
+use Rattle.tree_law.proofs.Words.{Record, content_in, right_in, low_in, is_removed, level_in, high_in, HasRead, Knowledge, after_reply, after_filling, linked_over, Reply}
 use Rattle.tree_law.proofs.Words.{Foreign, OwnPage, Other, Gone, Written, Key}
 use Rattle.tree_law.proofs.Words.{Covers, Linked, Owners, Reached, Spare, OwnFits, LinkFits, PageFits, IsChain, OwnsPages, Nobody, Placed, PageOwner, Cleared, rank}
 use Rattle.tree_law.proofs.Words.{Merged, Stage, stage_removed, put, Shared, IsTree, spec, IsOff, Exact, KnowsBy, []}
@@ -97,7 +97,7 @@ module _ {m : Shared} {log : List Update} {o : Owners} {knows : ℕ → Knowledg
   -- the tree after the actor's exchange of the page's slot from one row to another
   abbrev pub LinkedTree : (p x y : ℕ) (r : Option Reply) (log' : List Update) (o' : Owners) (ps : Option (List Update)) → Type 0
   LinkedTree p x y r log' o' ps =
-      IsTree (record m { slots = put m.slots p (Some y) }) log' o' (put knows a (finished (filled ((knows a).own.pages p) p x y (knows a)) r)) (put point a ps) (put logs a (log ∷ logs a))
+      IsTree (record m { slots = put m.slots p (Some y) }) log' o' (put knows a (after_reply (after_filling ((knows a).own.pages p) p x y (knows a)) r)) (put point a ps) (put logs a (log ∷ logs a))
 
   -- what was placed in a row of its own
   pub owned_row : (y : ℕ) (w : Record) → (knows a).own.rows y ≡ Written w → (o.row y ≡ Spare a) × (m.rows y ≡ Some w)
@@ -122,7 +122,7 @@ module _ {m : Shared} {log : List Update} {o : Owners} {knows : ℕ → Knowledg
       (λ i t. rw t (rw (not_own j (level_in c) (low_in c) place.stage (ap o.page i ∙ place.placed) ((knows a).own.pages j) (g.owns_pages a j)) tt))
       (λ ne t. rw t (moved_own p y (o.page j) (page' j) (moves j ne) (m.slots j) ((knows a).own.pages j) (g.owns_pages a j))) in
       let mine' : KnowsBy o' m' (knows a) (point a) (log ∷ logs a) = mine_at g a o' m' kept in
-      rw learns (put_tree g a m' log' o' (finished k r) ps (log ∷ logs a)
+      rw learns (put_tree g a m' log' o' (after_reply k r) ps (log ∷ logs a)
       change
       (record {
         row = λ j f. put_other o.row y Linked j (λ i. absurd (cc (g.frees.row j f, own.0))) ∙ g.frees.row j f;
@@ -178,7 +178,7 @@ module _ {m : Shared} {log : List Update} {o : Owners} {knows : ℕ → Knowledg
       own : (o.row y ≡ Spare a) × (m.rows y ≡ Some w)
       own = owned_row y w placed
 
-      learns : filled ((knows a).own.pages p) p x y (knows a) ≡ k
+      learns : after_filling ((knows a).own.pages p) p x y (knows a) ≡ k
       learns = rw (not_own p (level_in c) (low_in c) place.stage place.placed ((knows a).own.pages p) (g.owns_pages a p), placed) learned
 
       m' : Shared

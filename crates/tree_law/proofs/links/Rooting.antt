@@ -1,6 +1,6 @@
 -- The exchange that links a new root over the old one and its right.
 use Rattle.tree_law.proofs.Words.{false, ap, refl, Option, suc, None, List, inl, ◌≢◌, ◌≤◌, inr, ◌∷◌, subst, sym, ℕ, ◌≡◌, zero, ◌∙◌, arith, Some, same_Some, Update, Reply, ContentOf, Child, Record}
-use Rattle.tree_law.proofs.Words.{level_in, root_over, MayRoot, Knowledge, finished, Foreign, Other, rooted, handed_page, Key, put_key, Linked, Owners, eqb}
+use Rattle.tree_law.proofs.Words.{level_in, root_over, MayRoot, Knowledge, after_reply, Foreign, Other, after_root, handed_page, Key, put_key, Linked, Owners, eqb}
 use Rattle.tree_law.proofs.Words.{Spare, OwnFits, Placed, Indexed, PageOwner, Keeps, Fresh, rank, Stage, stage_removed, put, Shared, IsTree, spec, Level, SidePage, []}
 use Rattle.tree_law.proofs.shape.{not_self, by_equal, eqb_apart, put_same, put_other, put_all, reached_placed, level_kept, placed_level, exact_root, row_own, row_same, page_own}
 use Rattle.tree_law.proofs.shape.{page_same, page_stage, Change, kept_change, closed_kept}
@@ -17,8 +17,8 @@ module _ {m : Shared} {log : List Update} {o : Owners} {knows : ℕ → Knowledg
             y (Placed Indexed (suc g.tree.top) []);
         index = put o.index g.tree.top
             (put_key (put_key (λ k. None) h.separator (Some (Child h.right false))) [] (Some (Child m.root false)));
-      }) (put knows a (finished
-      (rooted ((knows a).own.pages y) y (knows a)) r)) (put point a (point a)) (put logs a (log ∷ logs a)) × ((o.page x ≡ Placed Indexed g.tree.top []) ×
+      }) (put knows a (after_reply
+      (after_root ((knows a).own.pages y) y (knows a)) r)) (put point a (point a)) (put logs a (log ∷ logs a)) × ((o.page x ≡ Placed Indexed g.tree.top []) ×
       (o.page h.right ≡ Placed Fresh g.tree.top h.separator) × (o.page y ≡ Keeps a))
   roots x y s h r =
       let fits : (o.row h.base_row ≡ Spare a) × (m.rows h.base_row ≡ Some base) = rw h.base at (g.owns a h.base_row) in
@@ -56,8 +56,8 @@ module _ {m : Shared} {log : List Update} {o : Owners} {knows : ℕ → Knowledg
             (λ i is. rw is (by_equal q b (λ i t. rw t λ e on. absurd (let u = (placed_level Indexed st top (suc top) h.separator k e).0 in omega arith))
             (λ i t. rw t λ e on. absurd (let u = g.tree.exact.below q (suc top) k st e in omega arith))));
       } in (
-        subst (λ (k : Knowledge). IsTree m' log o' (put knows a (finished k r)) (put point a (point a)) (put logs a (log ∷ logs a))) (sym (rw h.ready))
-            (put_tree g a m' log o' (finished (handed_page y Other h.base_row (knows a)) r) (point a) (log ∷ logs a)
+        subst (λ (k : Knowledge). IsTree m' log o' (put knows a (after_reply k r)) (put point a (point a)) (put logs a (log ∷ logs a))) (sym (rw h.ready))
+            (put_tree g a m' log o' (after_reply (handed_page y Other h.base_row (knows a)) r) (point a) (log ∷ logs a)
             change
             (record {
               row = λ j n. put_other o.row h.base_row Linked j (λ i. absurd (cc (g.frees.row j n, fits.0))) ∙ g.frees.row j n;

@@ -1,6 +1,6 @@
 -- The exchange that links a split: the new page comes between the old one and its right.
 use Rattle.tree_law.proofs.Words.{ap, refl, cond, Option, None, List, inl, ◌≢◌, inr, ◌∷◌, sym, ℕ, ◌≡◌, ◌∙◌, arith, Some, not, Update, Reply, Record, Split, SplitOf, content_in, low_in}
-use Rattle.tree_law.proofs.Words.{level_in, high_in, base_from, HasRead, MaySplit, Knowledge, finished, Other, Written, filled, handed_page, handed_over, Key, IsBelow, Covers, Linked}
+use Rattle.tree_law.proofs.Words.{level_in, high_in, base_from, HasRead, MaySplit, Knowledge, after_reply, Other, Written, after_filling, handed_page, handed_over, Key, IsBelow, Covers, Linked}
 use Rattle.tree_law.proofs.Words.{Owners, Spare, Placed, Keeps, Fresh, Stage, put, Shared, IsTree, []}
 use Rattle.tree_law.proofs.shape.{under_trans, upto_trans, below_not, covers_to, by_equal, put_same, put_other, tree_relinked, placed_level, exact_fresh, row_own, row_same}
 use Rattle.tree_law.proofs.shape.{page_own, page_same, page_link, Change, kept_change, closed_kept}
@@ -23,7 +23,7 @@ module _ {m : Shared} {log : List Update} {o : Owners} {knows : ℕ → Knowledg
       (record { row = put (put o.row h.row Linked) y Linked; page = put o.page h.right (Placed Fresh (level_in basis.chain) h.separator); index = o.index })
       (point a) × ((st : Stage) × (o.page p ≡ Placed st (level_in basis.chain) (low_in basis.chain)) × (o.page h.right ≡ Keeps a))
   splits p x y s basis content written h r =
-      let learned : filled ((knows a).own.pages p) p x y (knows a) ≡ handed_page h.right Other y (handed_over h.row (knows a)) =
+      let learned : after_filling ((knows a).own.pages p) p x y (knows a) ≡ handed_page h.right Other y (handed_over h.row (knows a)) =
       rw (not_own g a p (level_in c) (low_in c) place.stage place.placed ((knows a).own.pages p) (g.owns_pages a p), (written ∙ ap Written h.is), h.ready) refl in
       let split : SplitOf = record { level = level_in c; next = x; separator = h.separator; page = h.right } in
       let base : Record = base_from c h.separator h.items in
@@ -44,7 +44,7 @@ module _ {m : Shared} {log : List Update} {o : Owners} {knows : ℕ → Knowledg
       } in
       let linked_lower : o'.row h.row ≡ Linked = by_equal h.row y (λ i t. rw t) (λ i t. rw t (put_same o.row h.row Linked)) in
       let kept : Kept o o' m m' = kept_change change in (
-        rw learned (put_tree g a m' log o' (finished (handed_page h.right Other y (handed_over h.row (knows a))) r) (point a) (log ∷ logs a)
+        rw learned (put_tree g a m' log o' (after_reply (handed_page h.right Other y (handed_over h.row (knows a))) r) (point a) (log ∷ logs a)
             change
             (record {
               row = λ j f. by_equal j y (λ i is. rw is (absurd (cc (g.frees.row j f, upper.0))))

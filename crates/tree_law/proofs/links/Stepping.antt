@@ -4,9 +4,9 @@ use Rattle.tree_law.proofs.Words.{Reply, Answer, Whether, Number, StepOf, ReuseR
 use Rattle.tree_law.proofs.Words.{Child, Memory, replaced_at, next_row, Record, Remove, RemoveOf, Base, Hold, Split, Merge, Term, Unterm, low_in, level_in, May}
 use Rattle.tree_law.proofs.Words.{root_over, MayExchange, FitsOn, MayLink, MayRoot}
 use Rattle.tree_law.proofs.Words.{base_from, HasRead, update_record, MayPost, IsMet, MayUpdate, MayUnterm, MayHold, MayMerge, MaySplit, MayConsolidate}
-use Rattle.tree_law.proofs.Words.{MayRemove, IsFitted, IsUnheld, Knowledge, finished, Ready}
-use Rattle.tree_law.proofs.Words.{learn, Empty, OwnPage, Gone, Written, filled, emptied, IsAnswer, memory_after, IsAdded, Key, put_key, IsReuse, IsMoved, Next, IsHomed, Linked, Owners, Spare}
-use Rattle.tree_law.proofs.Words.{PageFits, Placed, Indexed, PageOwner, Cleared, Keeps, Fresh, Removed, Held, Merged, Phased, LinkMoves, put, shared, slot_in, row_in, Shared, IsTree, []}
+use Rattle.tree_law.proofs.Words.{MayRemove, IsFitted, IsUnheld, Knowledge, after_reply, Ready}
+use Rattle.tree_law.proofs.Words.{learn, Empty, OwnPage, Gone, Written, after_filling, after_emptying, IsAnswer, memory_after, IsAdded, Key, put_key, IsReuse, IsMoved, Next, IsHomed, Linked, Owners, Spare}
+use Rattle.tree_law.proofs.Words.{PageFits, Placed, Indexed, PageOwner, Cleared, Keeps, Fresh, Removed, Held, Merged, Phased, LinkMoves, put, shared_part, slot_in, row_in, Shared, IsTree, []}
 use Rattle.tree_law.proofs.shape.{read_linked, chain_stands, by_equal, put_other, own_spare}
 use Rattle.tree_law.proofs.links.Keeping.{idles, enters, leaves, slot_of, met_placed}
 use Rattle.tree_law.proofs.links.Reading.{reads_root, reads_slot, reads_row}
@@ -50,10 +50,10 @@ links_same m a (set b k v) x p f = refl
 links_same m a (unset b k) x p f = refl
 
 module _ (memory : Memory) {log : List Update} {o : Owners} {knows : ℕ → Knowledge} {point : ℕ → Option (List Update)} {logs : ℕ → List (List Update)}
-    (g : IsTree (shared memory) log o knows point logs) (a : ℕ) where
+    (g : IsTree (shared_part memory) log o knows point logs) (a : ℕ) where
   -- what a step with its answer leaves
   abbrev pub After : Memory → StepOf Record → Answer Record → Option Reply → Type 0
-  After memory' s x r = Next a (shared memory) (shared memory') log o knows point logs s x r
+  After memory' s x r = Next a (shared_part memory) (shared_part memory') log o knows point logs s x r
 
   same_rows : (row : ℕ) → o.row row ≡ Linked → (o.row row ≡ Linked) × (memory.rows row ≡ memory.rows row)
   same_rows row l = (l, refl)
@@ -65,15 +65,15 @@ module _ (memory : Memory) {log : List Update} {o : Owners} {knows : ℕ → Kno
   same_added row l = inl l
 
   -- a step after which each row and page is whose it was
-  rests : {m' : Shared} {s : StepOf Record} {x : Answer Record} {r : Option Reply} → Phased a (shared memory) s x o.page o.page → ((row : ℕ) → o.row row ≡ Linked → m'.rows row ≡ memory.rows row)
-      → IsTree m' log o (put knows a (finished (learn (knows a) s x) r)) (put point a (point a)) (put logs a (log ∷ logs a)) → Next a (shared memory) m' log o knows point logs s x r
+  rests : {m' : Shared} {s : StepOf Record} {x : Answer Record} {r : Option Reply} → Phased a (shared_part memory) s x o.page o.page → ((row : ℕ) → o.row row ≡ Linked → m'.rows row ≡ memory.rows row)
+      → IsTree m' log o (put knows a (after_reply (learn (knows a) s x) r)) (put point a (point a)) (put logs a (log ∷ logs a)) → Next a (shared_part memory) m' log o knows point logs s x r
   rests phased rows is_tree = record
       { update = None; due = tt; last = λ i. refl; owners = o; phased = phased; moved = same_moved; added = same_added; homed = λ row l. inl l; kept = λ row l. (l, rows row l); is_tree = is_tree }
 
   -- one after which the actor holds what it held, and has read no more
-  idle : {s : StepOf Record} {x : Answer Record} {r : Option Reply} → Phased a (shared memory) s x o.page o.page → (learn (knows a) s x).own ≡ (knows a).own
+  idle : {s : StepOf Record} {x : Answer Record} {r : Option Reply} → Phased a (shared_part memory) s x o.page o.page → (learn (knows a) s x).own ≡ (knows a).own
       → (learn (knows a) s x).read ≡ (knows a).read → (learn (knows a) s x).asked.linked ≡ (knows a).asked.linked → After memory s x r
-  idle {s} {x} {r} phased own read linked = rests phased (λ row l. refl) (idles g a (finished (learn (knows a) s x) r) own read linked)
+  idle {s} {x} {r} phased own read linked = rests phased (λ row l. refl) (idles g a (after_reply (learn (knows a) s x) r) own read linked)
 
   spare_of : {w : Record} (y : ℕ) → (knows a).own.rows y ≡ Written w → o.row y ≡ Spare a
   spare_of {w} y e = (rw e at (g.owns a y)).0
@@ -91,8 +91,8 @@ module _ (memory : Memory) {log : List Update} {o : Owners} {knows : ℕ → Kno
     content = w;
     stands = placed_row g a y w placed;
     under = basis.chain;
-    is_under = rw next (chain_stands o (shared memory) (knows a).read.seen (g.sound a).seen_fits basis.chain (Some x) basis.read);
-    next = rw next (read_linked o (shared memory) (knows a).read.seen (g.sound a).seen_fits basis.chain x basis.read);
+    is_under = rw next (chain_stands o (shared_part memory) (knows a).read.seen (g.sound a).seen_fits basis.chain (Some x) basis.read);
+    next = rw next (read_linked o (shared_part memory) (knows a).read.seen (g.sound a).seen_fits basis.chain x basis.read);
     fits = fits;
     unheld = unheld;
   }
@@ -106,7 +106,7 @@ module _ (memory : Memory) {log : List Update} {o : Owners} {knows : ℕ → Kno
 
   -- the new row of a slot is linked
   linked_homed : (p x y : ℕ) (w : Record) → (knows a).own.rows (suc y) ≡ Written w → IfSome (next_row w) (λ n. n ≡ x) → (row : ℕ)
-      → put o.row (suc y) Linked row ≡ Linked → (o.row row ≡ Linked) ⊎ IsHomed (shared memory) (Exchange (suc p) x (suc y)) (Whether true) row
+      → put o.row (suc y) Linked row ≡ Linked → (o.row row ≡ Linked) ⊎ IsHomed (shared_part memory) (Exchange (suc p) x (suc y)) (Whether true) row
   linked_homed p x y w placed next row l = by_equal row (suc y) (λ e t. inr (inl (w, e, ap memory.rows e ∙ placed_row g a (suc y) w placed, next))) (λ ne t. let i = rw t at l in inl i)
 
   -- a row that was the actor's own is linked
@@ -136,7 +136,7 @@ module _ (memory : Memory) {log : List Update} {o : Owners} {knows : ℕ → Kno
     kept = λ row l. (put_other o.row q (Spare a) row (λ i. absurd (cc (g.frees.row q e))) ∙ l, refl);
     is_tree = takes_row g a q e r;
   }
-  takes q r false e = rests refl (λ row l. refl) (rw (cleared_again memory.free_rows q e) (idles g a (finished (knows a) r) refl refl refl))
+  takes q r false e = rests refl (λ row l. refl) (rw (cleared_again memory.free_rows q e) (idles g a (after_reply (knows a) r) refl refl refl))
 
   takes_pid : (q : ℕ) (r : Option Reply) (t : Bool) → memory.free_pids q ≡ t → After (memory_after a (TakePid q) memory) (TakePid q) (Whether t) r
   takes_pid q r true e = record {
@@ -152,7 +152,7 @@ module _ (memory : Memory) {log : List Update} {o : Owners} {knows : ℕ → Kno
     kept = same_rows;
     is_tree = takes_page g a q e r;
   }
-  takes_pid q r false e = rests refl (λ row l. refl) (rw (cleared_again memory.free_pids q e) (idles g a (finished (knows a) r) refl refl refl))
+  takes_pid q r false e = rests refl (λ row l. refl) (rw (cleared_again memory.free_pids q e) (idles g a (after_reply (knows a) r) refl refl refl))
 
   -- an exchange that lost teaches nothing
   loses : (p x y : ℕ) (r : Option Reply) → After memory (Exchange p x y) (Whether false) r
@@ -162,14 +162,14 @@ module _ (memory : Memory) {log : List Update} {o : Owners} {knows : ℕ → Kno
       (written : (knows a).own.rows (suc y) ≡ Written content) (fits : FitsOn basis.chain content) where
     -- the memory in which the row is linked on the page
     abbrev pub Linking : Type 0
-    Linking = Next a (shared memory) (record (shared memory) { slots = put (slot_in memory.slots) (suc p) (Some (suc y)) }) log o knows point logs (Exchange (suc p) (suc x) (suc y)) (Whether true) r
+    Linking = Next a (shared_part memory) (record (shared_part memory) { slots = put (slot_in memory.slots) (suc p) (Some (suc y)) }) log o knows point logs (Exchange (suc p) (suc x) (suc y)) (Whether true) r
 
     -- the row is linked, some pages go on, and no update is made
     one : (w : Record) → (knows a).own.rows (suc y) ≡ Written w → IfSome (next_row w) (λ n. n ≡ suc x) → IsAdded o memory.rows (suc y)
-        → (page : ℕ → PageOwner) (index : ℕ → Key → Option ContentOf) → LinkMoves (shared memory) a w (suc p) o.page page
-        → IsTree (record (shared memory) { slots = put (slot_in memory.slots) (suc p) (Some (suc y)) }) log
+        → (page : ℕ → PageOwner) (index : ℕ → Key → Option ContentOf) → LinkMoves (shared_part memory) a w (suc p) o.page page
+        → IsTree (record (shared_part memory) { slots = put (slot_in memory.slots) (suc p) (Some (suc y)) }) log
         (record { row = put o.row (suc y) Linked; page = page; index = index })
-        (put knows a (finished (filled ((knows a).own.pages (suc p)) (suc p) (suc x) (suc y) (knows a)) r)) (put point a (point a))
+        (put knows a (after_reply (after_filling ((knows a).own.pages (suc p)) (suc p) (suc x) (suc y) (knows a)) r)) (put point a (point a))
         (put logs a (log ∷ logs a))
         → Linking
     one w placed next added page index moves is_tree = record {
@@ -187,10 +187,10 @@ module _ (memory : Memory) {log : List Update} {o : Owners} {knows : ℕ → Kno
 
     -- the same of a delta over the old row
     delta : (w : Record) → content ≡ w → next_row w ≡ Some (suc x) → ((remove : RemoveOf) → w ≡ Remove remove → IsUnheld basis.chain)
-        → (page : ℕ → PageOwner) (index : ℕ → Key → Option ContentOf) → LinkMoves (shared memory) a w (suc p) o.page page
-        → IsTree (record (shared memory) { slots = put (slot_in memory.slots) (suc p) (Some (suc y)) }) log
+        → (page : ℕ → PageOwner) (index : ℕ → Key → Option ContentOf) → LinkMoves (shared_part memory) a w (suc p) o.page page
+        → IsTree (record (shared_part memory) { slots = put (slot_in memory.slots) (suc p) (Some (suc y)) }) log
         (record { row = put o.row (suc y) Linked; page = page; index = index })
-        (put knows a (finished (filled ((knows a).own.pages (suc p)) (suc p) (suc x) (suc y) (knows a)) r)) (put point a (point a))
+        (put knows a (after_reply (after_filling ((knows a).own.pages (suc p)) (suc p) (suc x) (suc y) (knows a)) r)) (put point a (point a))
         (put logs a (log ∷ logs a))
         → Linking
     delta w is next unheld = one w (written ∙ ap Written is) (rw next) (adds (suc p) (suc x) (suc y) w (written ∙ ap Written is) next basis (rw is at fits) unheld)
@@ -201,7 +201,7 @@ module _ (memory : Memory) {log : List Update} {o : Owners} {knows : ℕ → Kno
       due = (h.command, h.going, h.unlinked, n.1);
       last = λ i. absurd (cc);
       owners = record o { row = put o.row (suc y) Linked };
-      phased = (update_record h.update (suc x), placed_row g a (suc y) (update_record h.update (suc x)) (written ∙ ap Written h.is), links_same (shared memory) a h.update (suc x) (suc p) o.page);
+      phased = (update_record h.update (suc x), placed_row g a (suc y) (update_record h.update (suc x)) (written ∙ ap Written h.is), links_same (shared_part memory) a h.update (suc x) (suc p) o.page);
       moved = linked_moved (suc y) (spare_of (suc y) (written ∙ ap Written h.is));
       added =
           linked_added (suc y) (adds (suc p) (suc x) (suc y) (update_record h.update (suc x)) (written ∙ ap Written h.is) (record_next h.update (suc x)) basis
@@ -271,7 +271,7 @@ module _ (memory : Memory) {log : List Update} {o : Owners} {knows : ℕ → Kno
           low_in basis.chain,
           n.1,
           refl,
-          (suc x, basis.chain, s, chain_stands o (shared memory) (knows a).read.seen (g.sound a).seen_fits basis.chain (Some (suc x)) basis.read, h.unheld),
+          (suc x, basis.chain, s, chain_stands o (shared_part memory) (knows a).read.seen (g.sound a).seen_fits basis.chain (Some (suc x)) basis.read, h.unheld),
         )
         n.0
 
@@ -279,7 +279,7 @@ module _ (memory : Memory) {log : List Update} {o : Owners} {knows : ℕ → Kno
     by_merge h =
         let n = merges g a (suc p) (suc x) (suc y) s basis content written h r in
         delta _ h.is refl (λ remove is. absurd (cc)) _ _
-        (h.other, level_in basis.chain, n.1, refl, (suc x, basis.chain, s, chain_stands o (shared memory) (knows a).read.seen (g.sound a).seen_fits basis.chain (Some (suc x)) basis.read, h.right))
+        (h.other, level_in basis.chain, n.1, refl, (suc x, basis.chain, s, chain_stands o (shared_part memory) (knows a).read.seen (g.sound a).seen_fits basis.chain (Some (suc x)) basis.read, h.right))
         n.0
 
     by_unterm : MayUnterm (knows a) (suc p) (suc x) basis.chain content → Linking
@@ -303,20 +303,20 @@ module _ (memory : Memory) {log : List Update} {o : Owners} {knows : ℕ → Kno
 
   -- an exchange of a page's slot that won
   exchanges : (p x y : ℕ) (r : Option Reply) → slot_in memory.slots (suc p) ≡ row_in x → MayExchange a (knows a) (suc p) x y
-      → Next a (shared memory) (record (shared memory) { slots = put (slot_in memory.slots) (suc p) (row_in y) }) log o knows point logs (Exchange (suc p) x y) (Whether true) r
+      → Next a (shared_part memory) (record (shared_part memory) { slots = put (slot_in memory.slots) (suc p) (row_in y) }) log o knows point logs (Exchange (suc p) x y) (Whether true) r
   exchanges p zero zero r s h = absurd h
   exchanges p zero (suc y) r s h =
       rests ((refl, (own_kept (suc p) Empty h.0).0)) (λ row l. refl) (rw h.0 (own_slot g a (suc p) (Some (suc y)) (Ready (suc y)) (own_kept (suc p) Empty h.0).0
-      ((own_kept (suc p) Empty h.0).0, refl) (finished (filled Empty (suc p) zero (suc y) (knows a)) r) refl refl refl refl))
+      ((own_kept (suc p) Empty h.0).0, refl) (after_reply (after_filling Empty (suc p) zero (suc y) (knows a)) r) refl refl refl refl))
   exchanges p (suc x) zero r s (inl h) =
       rests ((refl, inl (own_kept (suc p) (Ready (suc x)) h).0)) (λ row l. refl) (rw h (own_slot g a (suc p) None Empty (own_kept (suc p) (Ready (suc x)) h).0
-      ((own_kept (suc p) (Ready (suc x)) h).0, refl) (finished (emptied (Ready (suc x)) (suc p) (suc x) (knows a)) r) refl refl refl refl))
+      ((own_kept (suc p) (Ready (suc x)) h).0, refl) (after_reply (after_emptying (Ready (suc x)) (suc p) (suc x) (knows a)) r) refl refl refl refl))
   exchanges p (suc x) zero r s (inr h) = rests ((refl, inr (let w = own_kept (suc p) Gone h in (w.0, w.1, w.2)))) (λ row l. refl) (clears g a (suc p) (suc x) s h r)
   exchanges p (suc x) (suc y) r s h = links p x y r s h.basis h.content h.placed h.fits h.due
 
   -- an exchange of slot 0 that won
   exchanges_root : (x y : ℕ) (r : Option Reply) → memory.slots 0 ≡ x → MayRoot (knows a) x y
-      → Next a (shared memory) (record (shared memory) { root = y }) log o knows point logs (Exchange 0 x y) (Whether true) r
+      → Next a (shared_part memory) (record (shared_part memory) { root = y }) log o knows point logs (Exchange 0 x y) (Whether true) r
   exchanges_root x y r s h = let n = roots g a x y s h r in record {
     update = None;
     due = tt;

@@ -1,6 +1,6 @@
 -- Taking rows and pages, placing records in own rows and rows in the slots of own pages keep the invariant.
 use Rattle.tree_law.proofs.Words.{false, ap, refl, Option, None, List, true, inl, inr, ◌∷◌, ℕ, ◌≡◌, ◌∙◌, Some, Update, Reply, Whether, Done, TakePid, Place, TakeRow, Record, IsOwn}
-use Rattle.tree_law.proofs.Words.{Knowledge, finished, learn, Empty, OwnPage, Taken, Written, Key, Owners, Spare, OwnFits, PageFits, Nobody, Placed, Cleared, Keeps, Merged, Stage, put, Shared, IsTree}
+use Rattle.tree_law.proofs.Words.{Knowledge, after_reply, learn, Empty, OwnPage, Taken, Written, Key, Owners, Spare, OwnFits, PageFits, Nobody, Placed, Cleared, Keeps, Merged, Stage, put, Shared, IsTree}
 use Rattle.tree_law.proofs.shape.{by_equal, put_same, put_other, put_all, tree_kept, exact_same, row_free, row_own, row_same, page_free, page_own, page_same, Change}
 use Rattle.tree_law.proofs.shape.{kept_change, closed_kept, own_spare}
 use Rattle.tree_law.proofs.links.Keeping.{put_tree, mine_at, tree_at, off_still}
@@ -9,14 +9,14 @@ use Rattle.tree_law.proofs.shape.Kept.{Kept}
 module _ {m : Shared} {log : List Update} {o : Owners} {knows : ℕ → Knowledge} {point : ℕ → Option (List Update)} {logs : ℕ → List (List Update)} (g : IsTree m log o knows point logs) (a : ℕ) where
   pub takes_row : (q : ℕ) → m.free q ≡ true → (r : Option Reply)
       → IsTree (record m { free = put m.free q false }) log (record o { row = put o.row q (Spare a) })
-      (put knows a (finished (learn (knows a) (TakeRow q) (Whether true)) r)) (put point a (point a)) (put logs a (log ∷ logs a))
+      (put knows a (after_reply (learn (knows a) (TakeRow q) (Whether true)) r)) (put point a (point a)) (put logs a (log ∷ logs a))
   takes_row q f r =
       let m' : Shared = record m { free = put m.free q false } in
       let o' : Owners = record o { row = put o.row q (Spare a) } in
       let change : Change a o o' m m' =
       record { row = λ j. by_equal j q (λ i t. rw t (row_free (ap o.row i ∙ g.frees.row q f))) (λ i t. rw t (row_same refl refl)); page = λ p. page_same refl refl } in
       let kept : Kept o o' m m' = kept_change change in
-      put_tree g a m' log o' (finished (learn (knows a) (TakeRow q) (Whether true)) r) (point a) (log ∷ logs a)
+      put_tree g a m' log o' (after_reply (learn (knows a) (TakeRow q) (Whether true)) r) (point a) (log ∷ logs a)
       change
       (record {
         row = λ j. by_equal j q (λ i t. rw t λ h. absurd (cc)) (λ ne t. rw t λ h. g.frees.row j h);
@@ -30,7 +30,7 @@ module _ {m : Shared} {log : List Update} {o : Owners} {knows : ℕ → Knowledg
 
   pub takes_page : (q : ℕ) → m.free_pages q ≡ true → (r : Option Reply)
       → IsTree (record m { free_pages = put m.free_pages q false }) log (record o { page = put o.page q (Keeps a) })
-      (put knows a (finished (learn (knows a) (TakePid q) (Whether true)) r)) (put point a (point a)) (put logs a (log ∷ logs a))
+      (put knows a (after_reply (learn (knows a) (TakePid q) (Whether true)) r)) (put point a (point a)) (put logs a (log ∷ logs a))
   takes_page q f r =
       let was : (o.page q ≡ Nobody) × (m.slots q ≡ None) = g.frees.page q f in
       let m' : Shared = record m { free_pages = put m.free_pages q false } in
@@ -44,7 +44,7 @@ module _ {m : Shared} {log : List Update} {o : Owners} {knows : ℕ → Knowledg
       let old : (p l : ℕ) (s : Key) (st : Stage) → put o.page q (Keeps a) p ≡ Placed st l s → o.page p ≡ Placed st l s =
       λ p l s st. by_equal p q (λ i t. rw t λ h. absurd (cc)) (λ i t. rw t λ h. h) in
       let kept : Kept o o' m m' = kept_change change in
-      put_tree g a m' log o' (finished (learn (knows a) (TakePid q) (Whether true)) r) (point a) (log ∷ logs a)
+      put_tree g a m' log o' (after_reply (learn (knows a) (TakePid q) (Whether true)) r) (point a) (log ∷ logs a)
       change
       (record {
         row = g.frees.row;
@@ -59,13 +59,13 @@ module _ {m : Shared} {log : List Update} {o : Owners} {knows : ℕ → Knowledg
       (mine_at g a o' m' kept)
 
   pub places : (q : ℕ) (w : Record) → IsOwn ((knows a).own.rows q) → (r : Option Reply)
-      → IsTree (record m { rows = put m.rows q (Some w) }) log o (put knows a (finished (learn (knows a) (Place q w) Done) r)) (put point a (point a)) (put logs a (log ∷ logs a))
+      → IsTree (record m { rows = put m.rows q (Some w) }) log o (put knows a (after_reply (learn (knows a) (Place q w) Done) r)) (put point a (point a)) (put logs a (log ∷ logs a))
   places q w i r =
       let was : o.row q ≡ Spare a = own_spare (m.rows q) ((knows a).own.rows q) (g.owns a q) i in
       let m' : Shared = record m { rows = put m.rows q (Some w) } in
       let change : Change a o o m m' =
       record { row = λ j. by_equal j q (λ e t. rw t (row_own (ap o.row e ∙ was))) (λ e t. rw t (row_same refl refl)); page = λ p. page_same refl refl } in
-      put_tree g a m' log o (finished (learn (knows a) (Place q w) Done) r) (point a) (log ∷ logs a)
+      put_tree g a m' log o (after_reply (learn (knows a) (Place q w) Done) r) (point a) (log ∷ logs a)
       change
       (record { row = g.frees.row; page = g.frees.page })
       (closed_kept (kept_change change) g.closed (λ j l. inl l))

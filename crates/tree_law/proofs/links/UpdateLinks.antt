@@ -1,7 +1,7 @@
 -- A step makes an update exactly where it links a put or a delete.
 use Rattle.tree_law.proofs.Words.{ap, refl, Option, suc, None, List, true, inl, inr, subst, sym, ℕ, ◌≡◌, zero, ◌∙◌, Some, eqb, same_Some, option_map, IsSome, IfSome, Update, Reply, Answer, Whether}
-use Rattle.tree_law.proofs.Words.{Link, StepOf, Exchange, record_link, Memory, Record, Base, Put, Delete, low_in, level_in, May, MayExchange, MayLink, Knowledge, finished, learn, Other}
-use Rattle.tree_law.proofs.Words.{Written, linked_over, IsAnswer, memory_after, link_without, link_of, IsUpdateLink, After, IsDue, Owners, LinkFits, shared, row_in, IsTree}
+use Rattle.tree_law.proofs.Words.{Link, StepOf, Exchange, record_link, Memory, Record, Base, Put, Delete, low_in, level_in, May, MayExchange, MayLink, Knowledge, after_reply, learn, Other}
+use Rattle.tree_law.proofs.Words.{Written, linked_over, IsAnswer, memory_after, link_without, link_of, IsUpdateLink, After, IsDue, Owners, LinkFits, shared_part, row_in, IsTree}
 use Rattle.bw_model.specs.declared.step.Link.TheVariants as link
 use Rattle.tree_law.specs.Next.{log_at_point}
 use Rattle.tree_law.proofs.trace.Phasing.{link_ready, link_empty, link_front}
@@ -75,7 +75,7 @@ pub record LinksNow (m : Memory) (s : StepOf Record) (x : Answer Record) : Type 
   pub update : IsUpdateLink kind
 
 module _ (m : Memory) {log : List Update} {o : Owners} {knows : ℕ → Knowledge} {point : ℕ → Option (List Update)} {logs : ℕ → List (List Update)}
-    (g : IsTree (shared m) log o knows point logs) (a : ℕ) where
+    (g : IsTree (shared_part m) log o knows point logs) (a : ℕ) where
   -- an own row has what was placed there
   stands : (row : ℕ) (content : Record) → (knows a).own.rows row ≡ Written content → m.rows row ≡ Some content
   stands row content e = (rw e at (g.owns a row)).1
@@ -97,10 +97,10 @@ module _ (m : Memory) {log : List Update} {o : Owners} {knows : ℕ → Knowledg
       )
 
   module _ (s : StepOf Record) (x : Answer Record) (r : Option Reply) (may : May a (knows a) s) (is : IsAnswer m s x)
-      (n : After a (shared m) (shared (memory_after a s m)) log o knows point logs s x r) where
-    after : LinkFits n.owners (shared (memory_after a s m)) (log_at_point log n.update (point a)) (learn (knows a) s x).asked.linked
-    after = subst (λ (z : Option (List Update) × Option (Option ℕ)). LinkFits n.owners (shared (memory_after a s m)) z.0 z.1)
-        (λ i. (put_same point a (log_at_point log n.update (point a)) i, ap (λ (k : Knowledge). k.asked.linked) (put_same knows a (finished (learn (knows a) s x) r)) i)) (n.is_tree.sound a).linked_fits
+      (n : After a (shared_part m) (shared_part (memory_after a s m)) log o knows point logs s x r) where
+    after : LinkFits n.owners (shared_part (memory_after a s m)) (log_at_point log n.update (point a)) (learn (knows a) s x).asked.linked
+    after = subst (λ (z : Option (List Update) × Option (Option ℕ)). LinkFits n.owners (shared_part (memory_after a s m)) z.0 z.1)
+        (λ i. (put_same point a (log_at_point log n.update (point a)) i, ap (λ (k : Knowledge). k.asked.linked) (put_same knows a (after_reply (learn (knows a) s x) r)) i)) (n.is_tree.sound a).linked_fits
 
     -- an update is linked by the step
     is_linked : IsSome n.update → ((knows a).asked.linked ≡ None) × IsLinked (learn (knows a) s x)
@@ -108,7 +108,7 @@ module _ (m : Memory) {log : List Update} {o : Owners} {knows : ℕ → Knowledg
     is_linked some = go n.update n.due some (learn (knows a) s x).asked.linked after
       where
         go : (u : Option Update) → IfSome u (IsDue a (knows a) log) → IsSome u → (l : Option (Option ℕ))
-            → LinkFits n.owners (shared (memory_after a s m)) (log_at_point log u (point a)) l → ((knows a).asked.linked ≡ None) × IsSome l
+            → LinkFits n.owners (shared_part (memory_after a s m)) (log_at_point log u (point a)) l → ((knows a).asked.linked ≡ None) × IsSome l
         go (Some u) due e (Some y) h = (due.2, refl)
         go u due e l h = cc
 
@@ -120,7 +120,7 @@ module _ (m : Memory) {log : List Update} {o : Owners} {knows : ℕ → Knowledg
         before : point a ≡ None
         before = rw none at (g.sound a).linked_fits
 
-        go : (u : Option Update) → (l : Option (Option ℕ)) → IsSome l → LinkFits n.owners (shared (memory_after a s m)) (log_at_point log u (point a)) l → IsSome u
+        go : (u : Option Update) → (l : Option (Option ℕ)) → IsSome l → LinkFits n.owners (shared_part (memory_after a s m)) (log_at_point log u (point a)) l → IsSome u
         go (Some u) l e h = refl
         go None None e h = cc
         go None (Some None) e h = let f = h.1 in let b = before in absurd (cc)

@@ -2,7 +2,7 @@
 use Rattle.tree_law.proofs.Words.{false, ap, refl, cond, Option, suc, None, List, true, ◌≢◌, ◌++◌, ◌≤◌, ◌∷◌, sym, ℕ, ◌≡◌, Bool, zero, ◌∙◌, ◌<◌, arith, Some, nat_tests, fold-append}
 use Rattle.tree_law.proofs.Words.{same_Some, option_map, is_eq, if◌then◌else◌, bytes_eq, key_cmp, Update, logged_value, set, unset, update_of, command_key, Command, Swap, Upsert, Insert, Reply}
 use Rattle.tree_law.proofs.Words.{ContentOf, Child, Value, next_row, Record, Remove, content_in, right_in, low_in, is_removed, level_in, high_in, value_of, base_from, HasRead, update_record}
-use Rattle.tree_law.proofs.Words.{MayUpdate, MayConsolidate, MayRemove, Knowledge, Written, linked_over, handed_over, rebuilt, updated, Key, Covers, Linked, Owners, Reached}
+use Rattle.tree_law.proofs.Words.{MayUpdate, MayConsolidate, MayRemove, Knowledge, Written, linked_over, handed_over, rebuilt, after_update, Key, Covers, Linked, Owners, Reached}
 use Rattle.tree_law.proofs.Words.{leaf_map, Placed, Indexed, PageOwner, rank, Removed, Held, Merged, Stage, stage_removed, put, Shared, IsTree, spec, []}
 use Rattle.bw_model.specs.declared.command.Command.TheVariants.{Delete}
 use Rattle.bw_model.specs.Log.{updated_key, updated_value}
@@ -58,7 +58,7 @@ key_due b (Swap k x v) (Some o) u e = chosen_key (bytes_eq o x) b k v u e
 key_due b (Delete k) (Some x) u e = ap updated_key (sym (same_Some (unset b k) u e))
 key_due b c old u e = absurd (cc)
 
-linked_update : (u : Update) (x y : ℕ) (k : Knowledge) → linked_over (Written (update_record u x)) x y k ≡ updated x y k
+linked_update : (u : Update) (x y : ℕ) (k : Knowledge) → linked_over (Written (update_record u x)) x y k ≡ after_update x y k
 linked_update (set b j v) x y k = refl
 linked_update (unset b j) x y k = refl
 
@@ -85,7 +85,7 @@ module _ {m : Shared} {log : List Update} {o : Owners} {knows : ℕ → Knowledg
             (log ++ u ∷ [])
             (λ k v. rw h.leaf (over_decides u x c log k (is k v)))
             (λ l k n. log_outside u log o.index (level_in c) c h.leaf (λ k n. key_apart u log k (λ i. n (rw (i ∙ key_due a h.command (logged_value log (command_key h.command)) u due) inside))) l k n)
-            (updated x y (knows a)) (linked_update u x y (knows a)) refl (λ v. v) refl
+            (after_update x y (knows a)) (linked_update u x y (knows a)) refl (λ v. v) refl
             (Some log) (log, refl, (record { linked = f.linked; chain = c; is_chain = f.stands; same = λ z n. is })) r,
         due,
       )

@@ -1,7 +1,7 @@
 -- The page that a term names, and the term that a removed page has.
 use Rattle.tree_law.proofs.Words.{false, true, [], ap, refl, suc, List, inl, inr, ◌≤◌, subst, sym, ℕ, ◌≡◌, Bool, ◌∙◌, ◌<◌, arith, Some, cases_lt, Contains, IsTrue, Limits, ContentOf, Child, Record}
 use Rattle.tree_law.proofs.Words.{content_in, covers, is_removed, low_in, LivePage, Entry, memory_of, IsFitted, Key, Covers, Placed, Indexed, Removed, Merged}
-use Rattle.tree_law.proofs.Words.{Stage, mark, rank, stage_removed, shared, IsState, Off}
+use Rattle.tree_law.proofs.Words.{Stage, mark, rank, stage_removed, shared_part, IsState, Off}
 use Rattle.base_page.proofs.PageLaws.{belongs}
 use Rattle.base_page.specs.Places.{IsGreatest}
 use Rattle.bw_model.specs.Bytes.{is_below}
@@ -33,7 +33,7 @@ module _ (limits : Limits) (entries : List Entry) (state : IsState limits entrie
   Pages = pages limits entries state
 
   -- the page of a term that is held yet after the page was merged
-  off_side : (q l : ℕ) (s : Key) → state.owners.page q ≡ Placed Merged l s → Off state.owners (shared (memory_of limits entries)) q l s
+  off_side : (q l : ℕ) (s : Key) → state.owners.page q ≡ Placed Merged l s → Off state.owners (shared_part (memory_of limits entries)) q l s
   off_side q l s e = elim (state.is_tree.tree.off q l s (inl e)) [ inl out ↦ absurd (cc out.1.3) | inr off ↦ off ]
 
   -- a page in the tree with a term at its low key

@@ -1,7 +1,7 @@
 -- The pages of each level of a state, from the leaves up to the level of the root.
 use Rattle.tree_law.proofs.Words.{◌⊎◌, [], ap, refl, suc, List, inl, inr, length, ◌≤◌, ◌∷◌, subst, sym, ℕ, ◌≡◌, zero, ◌∙◌, ◌<◌, arith, Option, None, Some, map, cases_lt, Contains}
 use Rattle.tree_law.proofs.Words.{Limits, ContentOf, Memory, right_in, low_in, high_in, covers, IsTrue, LivePage, Entry, memory_of, log_of, Key, Covers, IsUnder, Owners, Placed, Indexed, Stage, rank}
-use Rattle.tree_law.proofs.Words.{shared, IsState, phase_of, spec, HasSidePage, SidePage, InPlace, IsPart}
+use Rattle.tree_law.proofs.Words.{shared_part, IsState, phase_of, spec, HasSidePage, SidePage, InPlace, IsPart}
 use Rattle.std.proofs.lemmas.List.{length-map}
 use Rattle.tree_law.specs.LevelPages.{IsPageOn}
 use Rattle.tree_law.proofs.shape.KeyOrder.{covers_from, covers_to, empty_lowest}
@@ -25,7 +25,7 @@ module _ (limits : Limits) (entries : List Entry) (state : IsState limits entrie
   decides l = spec (log_of entries state.points) state.owners.index l
 
   abbrev pub Here : ℕ → SidePage → Type 0
-  Here l f = InPlace state.owners (shared (memory_of limits entries)) l (decides l) f
+  Here l f = InPlace state.owners (shared_part (memory_of limits entries)) l (decides l) f
 
   abbrev pages_by : (l : ℕ) → (state.is_tree.tree.top < l) ⊎ (l ≤ state.is_tree.tree.top) → List LivePage
   pages_by l (inl above) = []
@@ -60,7 +60,7 @@ module _ (limits : Limits) (entries : List Entry) (state : IsState limits entrie
     pub here : Here l place
     pub begins : low_in place.chain ≡ s
 
-  in_side : (l : ℕ) (gs : List SidePage) (p : Option ℕ) (low : Option Key) → IsPart owners (shared memory) l (decides l) gs p low None None
+  in_side : (l : ℕ) (gs : List SidePage) (p : Option ℕ) (low : Option Key) → IsPart owners (shared_part memory) l (decides l) gs p low None None
       → (q : ℕ) → HasSidePage q gs → (f : SidePage) × (f.page ≡ q) × Contains (map live gs) (live f) × Here l f
   in_side l [] p low h q has = absurd has
   in_side l (f ∷ gs) p low h q (inl e) = (f, e, (zero, omega arith, refl), h.2)
@@ -87,7 +87,7 @@ module _ (limits : Limits) (entries : List Entry) (state : IsState limits entrie
   pub stands : (l : ℕ) (f : SidePage) → Here l f → Contains (pages l) (live f)
   stands l f h =
       let r = listed l f.page (low_in f.chain) h.stage h.placed h.on in
-      let same : r.place.chain ≡ f.chain = one_chain owners (shared memory) l (decides l) (decides l) f r.place h r.here r.is in
+      let same : r.place.chain ≡ f.chain = one_chain owners (shared_part memory) l (decides l) (decides l) f r.place h r.here r.is in
       let is : live r.place ≡ live f = (λ i. record { pid = r.is i; chain = same i }) in
       subst (Contains (pages l)) is r.contains
 
@@ -136,7 +136,7 @@ module _ (limits : Limits) (entries : List Entry) (state : IsState limits entrie
       let first : Covers a.place.chain key = covers_from a.place.chain key (subst (λ (p : LivePage). IsTrue (covers p.chain key)) (sym a.is) inside) in
       let second : Covers b.place.chain key = covers_from b.place.chain key (subst (λ (p : LivePage). IsTrue (covers p.chain key)) (sym b.is) within) in
       let pid : a.place.page ≡ b.place.page = same_page (state.is_tree.tree.levels l a.le) a.place b.place a.here b.here key first second in
-      let chain : a.place.chain ≡ b.place.chain = one_chain owners (shared memory) l (decides l) (decides l) b.place a.place b.here a.here pid in
+      let chain : a.place.chain ≡ b.place.chain = one_chain owners (shared_part memory) l (decides l) (decides l) b.place a.place b.here a.here pid in
       let same : live a.place ≡ live b.place = (λ i. record { pid = pid i; chain = chain i }) in
       sym a.is ∙ same ∙ b.is
 

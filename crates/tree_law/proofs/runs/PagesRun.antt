@@ -1,6 +1,6 @@
 -- Each step of the runs with cursor pages is allowed.
 use Rattle.tree_law.proofs.Words.{false, [], refl, cond, suc, None, List, true, inl, ◌++◌, inr, ◌∷◌, subst, sym, ℕ, ◌≡◌, zero, ◌<◌, arith, Some, take, lit<, Contains, IsTrue, not, slice_index_or}
-use Rattle.tree_law.proofs.Words.{codes, is_in_range, is_below, ArePairsOf, Record, MayReply, found, value_of, MayAdd, IsMet, IsDisciplined, HoldsBack, knows, Knowledge, small, right_term}
+use Rattle.tree_law.proofs.Words.{codes, is_in_range, is_below, ArePairsOf, Record, MayReply, chain_value, value_of, MayAdd, IsMet, IsDisciplined, HoldsBack, knows, Knowledge, small, right_term}
 use Rattle.tree_law.proofs.Words.{root_a, a, hold_a, other_put, helped_term, helped_split, Key, removal, upper_c, b}
 use Rattle.std.specs.List.Sorted.{IsStrictlySortedBy}
 use Rattle.bw_model.specs.declared.command.Reply.TheVariants as reply
@@ -24,10 +24,10 @@ abbrev before_last : ℕ → Knowledge
 before_last n = knows (helped_split ++ take n last_page) 1
 
 -- the removed leaf has no values
-empty : (key value : Key) → found removed key ≡ Some value → ⊥
+empty : (key value : Key) → chain_value removed key ≡ Some value → ⊥
 empty key value e = (elim (not (is_below key b)) as (λ t. value_of (cond t None None) ≡ Some value → ⊥) [ true ↦ λ f. cc | false ↦ λ f. cc ]) e
 
-no_pairs : ArePairsOf (found removed) a (Some b) []
+no_pairs : ArePairsOf (chain_value removed) a (Some b) []
 unfolding IsStrictlySortedBy
 no_pairs = record { ascending = tt; exact = λ key value. (λ c. let lt = c.1 in absurd (omega arith), λ h. absurd (empty key value h.1)) }
 
@@ -35,15 +35,15 @@ no_pairs = record { ascending = tt; exact = λ key value. (λ c. let lt = c.1 in
 abbrev last : List Record
 last = other_put ∷ upper_c ∷ []
 
-one_pair : ArePairsOf (found last) b None ((b, codes "2") ∷ [])
+one_pair : ArePairsOf (chain_value last) b None ((b, codes "2") ∷ [])
 unfolding IsStrictlySortedBy
 one_pair = record { ascending = (tt, tt); exact = λ key value. (λ c. there key value c.0 c.1 c.2, λ h. pair key value h.1) }
   where
-    there : (key value : Key) (n : ℕ) → n < 1 → ◌≡◌ {A = Key × Key} (slice_index_or ((b, codes "2") ∷ []) n (key, value)) (key, value) → IsTrue (is_in_range b None key) × (found last key ≡ Some value)
-    there key value zero lt e = subst (λ (pair : Key × Key). IsTrue (is_in_range b None pair.0) × (found last pair.0 ≡ Some pair.1)) e (refl, refl)
+    there : (key value : Key) (n : ℕ) → n < 1 → ◌≡◌ {A = Key × Key} (slice_index_or ((b, codes "2") ∷ []) n (key, value)) (key, value) → IsTrue (is_in_range b None key) × (chain_value last key ≡ Some value)
+    there key value zero lt e = subst (λ (pair : Key × Key). IsTrue (is_in_range b None pair.0) × (chain_value last pair.0 ≡ Some pair.1)) e (refl, refl)
     there key value (suc n) lt e = absurd (omega arith)
 
-    pair : (key value : Key) → found last key ≡ Some value → Contains {X = Key × Key} ((b, codes "2") ∷ []) (key, value)
+    pair : (key value : Key) → chain_value last key ≡ Some value → Contains {X = Key × Key} ((b, codes "2") ∷ []) (key, value)
     pair key value = by_key key b
         (λ same t. rw t λ e. let is : codes "2" ≡ value = cc in (0, lit< tt, λ i. (sym same i, is i)))
         (λ ne t. rw t λ e. absurd (cc))

@@ -1,7 +1,7 @@
 -- Each level is a whole side chain, and each level above the leaves has just the terms of the pages under it.
 use Rattle.tree_law.proofs.Words.{[], ap, Option, suc, None, List, inl, ◌≤◌, ◌∷◌, sym, ℕ, ◌≡◌, Bool, ◌∙◌, arith, Some, map, same_Some, Update, ContentOf, Child, Memory, Record}
 use Rattle.tree_law.proofs.Words.{IsChainOf-unique, content_in, low_in, level_in, high_in, Knowledge, LivePage, HasMark, IsIndexed, Key, Covers, IsUnder, Owners}
-use Rattle.tree_law.proofs.Words.{Placed, Indexed, rank, Stage, shared, Shared, IsTree, spec, Level, SidePage, InPlace, IsPart, inr}
+use Rattle.tree_law.proofs.Words.{Placed, Indexed, rank, Stage, shared_part, Shared, IsTree, spec, Level, SidePage, InPlace, IsPart, inr}
 use Rattle.tree_law.specs.Indexed.{HasTermAt, IsPageIn}
 use Rattle.tree_law.proofs.shape.KeyOrder.{empty_lowest, covers_from, covers_to}
 use Rattle.tree_law.proofs.links.Keeping.{on_or_merged}
@@ -18,12 +18,12 @@ first_page o m lv mp [] p low h = absurd (cc h.0)
 first_page o m lv mp (g ∷ gs) p low h = (g, sym (same_Some p g.page h.0), sym (same_Some low (low_in g.chain) h.1), h.2)
 
 module _ (memory : Memory) {log : List Update} {o : Owners} {knows : ℕ → Knowledge} {point : ℕ → Option (List Update)} {logs : ℕ → List (List Update)}
-    (g : IsTree (shared memory) log o knows point logs) where
+    (g : IsTree (shared_part memory) log o knows point logs) where
   -- the page of a PID in the tree
   page_at : (q l : ℕ) (s : Key) (st : Stage) → o.page q ≡ Placed st l s → IsPageIn memory l s q
   page_at q l s st e = elim (on_or_merged st) [
     | inl on ↦ let t = g.tree.levels l (g.tree.exact.below q l s st e) in
-        let f = locate o (shared memory) l (spec log o.index l) t.side (Some (g.tree.first l)) (Some []) None None q t.whole (t.listed q s st e on) in (
+        let f = locate o (shared_part memory) l (spec log o.index l) t.side (Some (g.tree.first l)) (Some []) None None q t.whole (t.listed q s st e on) in (
           f.page.chain,
           rw f.is at (chain_of memory o l (spec log o.index l) f.page f.here),
           f.here.is_page.on_level,
@@ -36,7 +36,7 @@ module _ (memory : Memory) {log : List Update} {o : Owners} {knows : ℕ → Kno
   ]
 
   module _ (l : ℕ) (le : suc l ≤ g.tree.top) where
-    abbrev above : Level o (shared memory) (suc l) (o.index l) (g.tree.first (suc l))
+    abbrev above : Level o (shared_part memory) (suc l) (o.index l) (g.tree.first (suc l))
     above = g.tree.levels (suc l) le
 
     posted : (key : Key) (child : ℕ) (held : Bool) → HasTermAt (map live above.side) key child held → IsPageIn memory l key child × HasMark (o.page child) child held
@@ -57,8 +57,8 @@ module _ (memory : Memory) {log : List Update} {o : Owners} {knows : ℕ → Kno
 
   pub is_indexed : IsIndexed memory o
   is_indexed =
-      let front : (l : ℕ) (le : l ≤ g.tree.top) → (f : SidePage) × (f.page ≡ g.tree.first l) × (low_in f.chain ≡ []) × InPlace o (shared memory) l (spec log o.index l) f =
-      λ l le. first_page o (shared memory) l (spec log o.index l) (g.tree.levels l le).side (g.tree.first l) [] (g.tree.levels l le).whole in
+      let front : (l : ℕ) (le : l ≤ g.tree.top) → (f : SidePage) × (f.page ≡ g.tree.first l) × (low_in f.chain ≡ []) × InPlace o (shared_part memory) l (spec log o.index l) f =
+      λ l le. first_page o (shared_part memory) l (spec log o.index l) (g.tree.levels l le).side (g.tree.first l) [] (g.tree.levels l le).whole in
       let from_empty : (c : List Record) → low_in c ≡ [] → IsUnder (low_in c) (high_in c) → Covers c [] =
       λ c e some. record { low = rw e (empty_lowest []); high = rw e at some } in
       record {
@@ -70,7 +70,7 @@ module _ (memory : Memory) {log : List Update} {o : Owners} {knows : ℕ → Kno
         only = λ q l st le e on.
             let t = g.tree.levels l le in
             let f = front l le in
-            let h = locate o (shared memory) l (spec log o.index l) t.side (Some (g.tree.first l)) (Some []) None None q t.whole (t.listed q [] st e on) in
+            let h = locate o (shared_part memory) l (spec log o.index l) t.side (Some (g.tree.first l)) (Some []) None None q t.whole (t.listed q [] st e on) in
             let low : low_in h.page.chain ≡ [] = placed_low h.here.stage st l l (low_in h.page.chain) [] (sym h.here.placed ∙ ap o.page h.is ∙ e) in
             sym h.is ∙ same_page t h.page f.0 h.here f.3 [] (from_empty h.page.chain low h.here.is_page.some) (from_empty f.0.chain f.2 f.3.is_page.some) ∙ f.1;
         begins = λ l le. let f = front l le in page_at (g.tree.first l) l [] f.3.stage (ap o.page (sym f.1) ∙ f.3.placed ∙ ap (λ (k : Key). Placed f.3.stage l k) f.2);

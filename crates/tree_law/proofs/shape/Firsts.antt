@@ -1,7 +1,7 @@
 -- A step keeps the first page of each level, and adds at most one level on top.
 use Rattle.tree_law.proofs.Words.{false, ◌⊎◌, ap, Option, suc, List, true, inl, ◌≢◌, ◌≤◌, inr, sym, ℕ, ◌≡◌, zero, ◌∙◌, arith, Update, is_among, Answer, Whether, StepOf, ReusePids, TakePid}
 use Rattle.tree_law.proofs.Words.{Exchange, Memory, Record, Remove, Hold, Split, Merge, Term, Unterm, Knowledge, IsAnswer, IsFirst, Key, Owners, Nobody, Placed, Indexed, PageOwner, Cleared, Keeps}
-use Rattle.tree_law.proofs.Words.{Fresh, rank, Removed, Held, Merged, Stage, Phased, LinkMoves, Exchanged, put, shared, Shared, IsTree, [], nat_tests, eqb}
+use Rattle.tree_law.proofs.Words.{Fresh, rank, Removed, Held, Merged, Stage, Phased, LinkMoves, Exchanged, put, shared_part, Shared, IsTree, [], nat_tests, eqb}
 use Rattle.tree_law.proofs.shape.Exactness.{is_indexed, below_top, root_indexed}
 use Rattle.tree_law.proofs.shape.Puts.{by_equal, put_same, put_other, decided, eqb_apart}
 use Rattle.tree_law.proofs.shape.Relinked.{placed_level}
@@ -79,20 +79,20 @@ module _ (f f' : ℕ → PageOwner) where
 
 -- what each step does, by its phases
 module _ (m : Memory) {log : List Update} {o : Owners} {knows : ℕ → Knowledge} {point : ℕ → Option (List Update)} {logs : ℕ → List (List Update)}
-    (g : IsTree (shared m) log o knows point logs) (a : ℕ) (s : StepOf Record) (x : Answer Record) (is : IsAnswer m s x) (f' : ℕ → PageOwner) where
+    (g : IsTree (shared_part m) log o knows point logs) (a : ℕ) (s : StepOf Record) (x : Answer Record) (is : IsAnswer m s x) (f' : ℕ → PageOwner) where
   taken_nobody : (q : ℕ) → m.free_pids q ≡ true → o.page q ≡ Nobody
   taken_nobody q free = (g.frees.page q free).0
 
-  stays_or_merged : Phased a (shared m) s x o.page f' → (q l : ℕ) (low : Key) (st : Stage) → o.page q ≡ Placed st l low → rank st ≤ 3 → Stays o.page f' q l low
+  stays_or_merged : Phased a (shared_part m) s x o.page f' → (q l : ℕ) (low : Key) (st : Stage) → o.page q ≡ Placed st l low → rank st ≤ 3 → Stays o.page f' q l low
   stays_or_merged ph q l low st at on = go s x is ph
     where
-      go : (t : StepOf Record) (y : Answer Record) → IsAnswer m t y → Phased a (shared m) t y o.page f' → Stays o.page f' q l low
+      go : (t : StepOf Record) (y : Answer Record) → IsAnswer m t y → Phased a (shared_part m) t y o.page f' → Stays o.page f' q l low
       go (TakePid p) (Whether true) e ph' = elsewhere o.page f' q l low st p (Keeps a) at on (λ i. let was : o.page p ≡ Nobody = taken_nobody p (cc) in absurd (cc)) ph'
-      go (Exchange zero old new) (Whether true) e ph' = by_root o.page f' (shared m) a old new ph' q l low st at on
+      go (Exchange zero old new) (Whether true) e ph' = by_root o.page f' (shared_part m) a old new ph' q l low st at on
       go (Exchange (suc p) zero zero) (Whether true) e ph' = unchanged o.page f' q l low st at on ph'.0
       go (Exchange (suc p) zero (suc new)) (Whether true) e ph' = unchanged o.page f' q l low st at on ph'.0
       go (Exchange (suc p) (suc old) zero) (Whether true) e ph' = unchanged o.page f' q l low st at on ph'.0
-      go (Exchange (suc p) (suc old) (suc new)) (Whether true) e ph' = by_links o.page f' (shared m) a ph'.0 (suc p) ph'.2 q l low st at on
+      go (Exchange (suc p) (suc old) (suc new)) (Whether true) e ph' = by_links o.page f' (shared_part m) a ph'.0 (suc p) ph'.2 q l low st at on
       go (Exchange p old new) (Whether false) e ph' = unchanged o.page f' q l low st at on ph'
       go (TakePid p) (Whether false) e ph' = unchanged o.page f' q l low st at on ph'
       go (ReusePids word bits) y e ph' = elim (decided (is_among word bits q)) [ inl k ↦ absurd (let v = (ph' q).0 k in let f = sym at ∙ v.3 in cc) | inr k ↦ inl (st, (ph' q).1 k ∙ at, on) ]
@@ -100,19 +100,19 @@ module _ (m : Memory) {log : List Update} {o : Owners} {knows : ℕ → Knowledg
       go (TakePid p) y e ph' = absurd (cc)
       go t y e ph' = unchanged o.page f' q l low st at on ph'
 
-  grown_by_one : Phased a (shared m) s x o.page f' → (q l : ℕ) (low : Key) (st : Stage) → f' q ≡ Placed st l low → Grown o.page l
+  grown_by_one : Phased a (shared_part m) s x o.page f' → (q l : ℕ) (low : Key) (st : Stage) → f' q ≡ Placed st l low → Grown o.page l
   grown_by_one ph q l low st at = go s x is ph
     where
       same : f' ≡ o.page → Grown o.page l
-      same e = was_there o.page f' (shared m) a q l low st at e
+      same e = was_there o.page f' (shared_part m) a q l low st at e
 
-      go : (t : StepOf Record) (y : Answer Record) → IsAnswer m t y → Phased a (shared m) t y o.page f' → Grown o.page l
-      go (TakePid p) (Whether true) e ph' = put_back o.page f' (shared m) a q l low st p (Keeps a) at ph' (λ i. absurd (cc))
-      go (Exchange zero old new) (Whether true) e ph' = root_back o.page f' (shared m) a old new ph' q l low st at
+      go : (t : StepOf Record) (y : Answer Record) → IsAnswer m t y → Phased a (shared_part m) t y o.page f' → Grown o.page l
+      go (TakePid p) (Whether true) e ph' = put_back o.page f' (shared_part m) a q l low st p (Keeps a) at ph' (λ i. absurd (cc))
+      go (Exchange zero old new) (Whether true) e ph' = root_back o.page f' (shared_part m) a old new ph' q l low st at
       go (Exchange (suc p) zero zero) (Whether true) e ph' = same ph'.0
       go (Exchange (suc p) zero (suc new)) (Whether true) e ph' = same ph'.0
       go (Exchange (suc p) (suc old) zero) (Whether true) e ph' = same ph'.0
-      go (Exchange (suc p) (suc old) (suc new)) (Whether true) e ph' = links_back o.page f' (shared m) a ph'.0 (suc p) ph'.2 q l low st at
+      go (Exchange (suc p) (suc old) (suc new)) (Whether true) e ph' = links_back o.page f' (shared_part m) a ph'.0 (suc p) ph'.2 q l low st at
       go (Exchange p old new) (Whether false) e ph' = same ph'
       go (TakePid p) (Whether false) e ph' = same ph'
       go (ReusePids word bits) y e ph' = elim (decided (is_among word bits q))
@@ -123,8 +123,8 @@ module _ (m : Memory) {log : List Update} {o : Owners} {knows : ℕ → Knowledg
 
 -- from one memory that meets the invariant to the next
 module _ (m m' : Memory) {log log' : List Update} {o o' : Owners} {knows knows' : ℕ → Knowledge} {point point' : ℕ → Option (List Update)}
-    {logs logs' : ℕ → List (List Update)} (g : IsTree (shared m) log o knows point logs) (g' : IsTree (shared m') log' o' knows' point' logs')
-    (a : ℕ) (s : StepOf Record) (x : Answer Record) (is : IsAnswer m s x) (ph : Phased a (shared m) s x o.page o'.page) where
+    {logs logs' : ℕ → List (List Update)} (g : IsTree (shared_part m) log o knows point logs) (g' : IsTree (shared_part m') log' o' knows' point' logs')
+    (a : ℕ) (s : StepOf Record) (x : Answer Record) (is : IsAnswer m s x) (ph : Phased a (shared_part m) s x o.page o'.page) where
   -- The first page of a level stays the first. It is not merged: another page would then be the first, and it would have been so before.
   pub first_stays : (l q : ℕ) → IsFirst o l q → IsFirst o' l q
   first_stays l q (st, at, on) = elim (stays_or_merged m g a s x is o'.page ph q l [] st at on) [

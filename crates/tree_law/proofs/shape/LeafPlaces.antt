@@ -1,7 +1,7 @@
 -- A page in its place on the lowest level is a leaf, and no other leaf has its keys; and what such a leaf has, the log has.
 use Rattle.tree_law.proofs.Words.{[], ap, refl, Option, suc, None, List, inl, inr, ◌∷◌, ℕ, ◌≡◌, zero, ◌∙◌, arith, Some, map, Contains, option_map, IsTrue, is_in_range, Update, ArePairsOf}
-use Rattle.tree_law.proofs.Words.{ContentOf, Value, Memory, Record, content_in, right_in, low_in, high_in, covers, found, value_of, Knowledge, LivePage, HasMapOf, Key, Owners, leaf_map, Placed}
-use Rattle.tree_law.proofs.Words.{shared, IsLeafWith, IsTree, HasSidePage, SidePage, InPlace, IsPart}
+use Rattle.tree_law.proofs.Words.{ContentOf, Value, Memory, Record, content_in, right_in, low_in, high_in, covers, chain_value, value_of, Knowledge, LivePage, HasMapOf, Key, Owners, leaf_map, Placed}
+use Rattle.tree_law.proofs.Words.{shared_part, IsLeafWith, IsTree, HasSidePage, SidePage, InPlace, IsPart}
 use Rattle.op_machine.specs.theorem.Answered.{IsCursorPage}
 use Rattle.tree_law.proofs.shape.Exactness.{is_indexed}
 use Rattle.tree_law.proofs.shape.KeyOrder.{both, covers_from, covers_to, upto_trans}
@@ -9,12 +9,12 @@ use Rattle.tree_law.proofs.shape.Mapping.{live, leaves, is_leaves, map_of}
 use Rattle.tree_law.proofs.shape.Sides.{one_chain}
 
 module _ (memory : Memory) {log : List Update} {o : Owners} {knows : ℕ → Knowledge} {point : ℕ → Option (List Update)} {logs : ℕ → List (List Update)}
-    (g : IsTree (shared memory) log o knows point logs) where
+    (g : IsTree (shared_part memory) log o knows point logs) where
   abbrev Here : SidePage → Type 0
-  Here f = InPlace o (shared memory) 0 (leaf_map log) f
+  Here f = InPlace o (shared_part memory) 0 (leaf_map log) f
 
   -- a page of the list, as it stands there
-  listed : (gs : List SidePage) (p : Option ℕ) (low : Option Key) → IsPart o (shared memory) 0 (leaf_map log) gs p low None None → (page : ℕ)
+  listed : (gs : List SidePage) (p : Option ℕ) (low : Option Key) → IsPart o (shared_part memory) 0 (leaf_map log) gs p low None None → (page : ℕ)
       → HasSidePage page gs → (f : SidePage) × (f.page ≡ page) × Contains (map live gs) (live f) × Here f
   listed [] p low h page has = absurd has
   listed (f ∷ gs) p low h page (inl e) = (f, e, (zero, omega arith, refl), h.2)
@@ -33,7 +33,7 @@ module _ (memory : Memory) {log : List Update} {o : Owners} {knows : ℕ → Kno
       there = listed (leaves memory g).side (Some 1) (Some []) (leaves memory g).whole page ((leaves memory g).listed page (low_in chain) place.stage place.placed place.on)
 
       same : live there.0 ≡ record { pid = page; chain = chain }
-      same = λ i. record { pid = there.1 i; chain = (one_chain o (shared memory) 0 (leaf_map log) (leaf_map log) (record { page = page; row = row; chain = chain }) there.0 place there.3 there.1) i }
+      same = λ i. record { pid = there.1 i; chain = (one_chain o (shared_part memory) 0 (leaf_map log) (leaf_map log) (record { page = page; row = row; chain = chain }) there.0 place there.3 there.1) i }
 
 valued : (content : Option ContentOf) (value : Key) → value_of content ≡ Some value → content ≡ Some (Value value)
 valued (Some (Value v)) value e = ap (λ (w : Key). Some (Value w)) (let f : v ≡ value = cc in f)
@@ -41,7 +41,7 @@ valued content value e = absurd (cc)
 
 -- the pairs of such a leaf from one of its keys on are those of the log
 pub shows : (memory : Memory) (log : List Update) → HasMapOf memory log → (page : LivePage) → IsLeafWith memory page → (from : Key)
-    → IsTrue (covers page.chain from) → (pairs : List (Key × Key)) → ArePairsOf (found page.chain) from (high_in page.chain) pairs
+    → IsTrue (covers page.chain from) → (pairs : List (Key × Key)) → ArePairsOf (chain_value page.chain) from (high_in page.chain) pairs
     → IsCursorPage memory log from pairs (high_in page.chain)
 shows memory log has page leaf from inside pairs are = record {
   leaf = page;

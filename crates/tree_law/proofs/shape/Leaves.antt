@@ -1,7 +1,7 @@
 -- The pages of each level of a state stand, and are fewer than there are slots.
 use Rattle.tree_law.proofs.Words.{false, [], ap, Option, None, List, true, inl, ◌≢◌, length, ◌≤◌, inr, ◌∷◌, sym, ℕ, ◌≡◌, ◌∙◌, ◌<◌, arith, Some, map, cases_lt, nat_tests, All-weaker}
 use Rattle.tree_law.proofs.Words.{All-from_recursion, All, ⊤, Update, Limits, ContentOf, Memory, right_in, low_in, high_in, LivePage, memory_of, turn_of, Entry, IsLinearized, log_of, HasMapOf, Key}
-use Rattle.tree_law.proofs.Words.{Owners, leaf_map, Placed, Fresh, Stage, shared, Shared, IsState, phase_of, Level, SidePage, InPlace, IsPart}
+use Rattle.tree_law.proofs.Words.{Owners, leaf_map, Placed, Fresh, Stage, shared_part, Shared, IsState, phase_of, Level, SidePage, InPlace, IsPart}
 use Rattle.base_page.proofs.ItemLaws.{all-weaker}
 use Rattle.std.proofs.Math.Dec.{eqb}
 use Rattle.std.specs.List.{AllByRecursion, AllPairs, list_any}
@@ -77,13 +77,13 @@ module _ (limits : Limits) (entries : List Entry) (state : IsState limits entrie
   log = log_of entries state.points
 
   -- a level, from its first page on
-  module _ (l first : ℕ) (mp : Key → Option ContentOf) (level : Level state.owners (shared m) l mp first) where
+  module _ (l first : ℕ) (mp : Key → Option ContentOf) (level : Level state.owners (shared_part m) l mp first) where
     abbrev Here : SidePage → Type 0
-    Here g = InPlace state.owners (shared m) l mp g
+    Here g = InPlace state.owners (shared_part m) l mp g
 
     -- what is so of each page in its place is so of each page of the level
     each_page : (P : SidePage → Type 0) → ((g : SidePage) → Here g → P g) → AllPages P level.side
-    each_page P f = all_in state.owners (shared m) l mp (λ g. ⊤) P (λ g here t. f g here) level.side (Some first) (Some []) None None level.whole (all_pages (λ g. ⊤) (λ g. tt) level.side)
+    each_page P f = all_in state.owners (shared_part m) l mp (λ g. ⊤) P (λ g here t. f g here) level.side (Some first) (Some []) None None level.whole (all_pages (λ g. ⊤) (λ g. tt) level.side)
 
     in_range : (g : SidePage) → Here g → (0 < g.page) × (g.page < limits.pids)
     in_range g here = elim (state.named.pid_below g.page) [ inl free ↦ absurd (not_free here.stage l (low_in g.chain) (ap phase_of (sym here.placed) ∙ free)) | inr within ↦ within ]
@@ -101,7 +101,7 @@ module _ (limits : Limits) (entries : List Entry) (state : IsState limits entrie
         let some : 64 ≤ limits.pids = limits.allowed.some_pids in
         let above : AllByRecursion (λ n. 0 ≢ n) (pids level.side) = of_pids (λ n. 0 ≢ n) level.side (each_page (λ g. 0 ≢ g.page) (λ g here e. let above = (in_range g here).0 in omega arith)) in
         let below : AllByRecursion (λ n. n < limits.pids) (pids level.side) = of_pids (λ n. n < limits.pids) level.side (each_page (λ g. g.page < limits.pids) (λ g here. (in_range g here).1)) in
-        let apart : AreApart (pids level.side) = apart_in state.owners (shared m) l mp level.side (Some first) (Some []) None None level.whole in
+        let apart : AreApart (pids level.side) = apart_in state.owners (shared_part m) l mp level.side (Some first) (Some []) None None level.whole in
         rw (length-map level.side (λ g. g.page)) at (fewer limits.pids (pids level.side) (omega arith) apart above below)
 
     pub pages_on : HasPagesOn limits m l first

@@ -1,7 +1,7 @@
 -- All levels of a state stand, and each one's first page is the child at the empty key of the first page above it.
 use Rattle.tree_law.proofs.Words.{false, ap, refl, suc, List, ◌∷◌, ◌≤◌, subst, sym, ℕ, ◌≡◌, ◌∙◌, ◌<◌, arith, Option, Some, Limits, ContentOf, Child, Value, Item, Memory, Record}
 use Rattle.tree_law.proofs.Words.{IsChainOf, IsChainOf-unique, content_in, content_at, low_in, high_in, memory_of, log_of, Entry, Key, Covers, IsUnder}
-use Rattle.tree_law.proofs.Words.{Indexed, Stage, mark, rank, shared, IsState, spec, []}
+use Rattle.tree_law.proofs.Words.{Indexed, Stage, mark, rank, shared_part, IsState, spec, []}
 use Rattle.std.specs.List.{AllByRecursion}
 use Rattle.std.proofs.lemmas.List.Elements.{recursion_from_All}
 use Rattle.base_page.specs.Pages.{IsOfLevel}
@@ -44,7 +44,7 @@ module _ (limits : Limits) (entries : List Entry) (state : IsState limits entrie
   first_down l le chain is =
       let tree = state.is_tree.tree in
       let level = tree.levels (suc l) le in
-      let f = first_page state.owners (shared memory) (suc l) (map (suc l)) level.side (tree.first (suc l)) [] level.whole in
+      let f = first_page state.owners (shared_part memory) (suc l) (map (suc l)) level.side (tree.first (suc l)) [] level.whole in
       let same : f.0.chain ≡ chain = IsChainOf-unique memory (tree.first (suc l)) f.0.chain chain (rw f.1 at (chain_of memory state.owners (suc l) (map (suc l)) f.0 f.3)) is in
       let fits : IsPageChain f.0.chain = state.fitted f.0.row f.3.linked f.0.chain f.3.is_page.is_chain in
       let made = page_of f.0.chain fits.fitted in

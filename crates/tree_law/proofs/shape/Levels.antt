@@ -1,7 +1,7 @@
 -- The index is exact at each moment of a trace: that of the moment after all entries is the invariant's.
 use Rattle.tree_law.proofs.Words.{false, [], ap, refl, Option, suc, List, true, inl, length, ◌++◌, ◌≤◌, inr, ◌∷◌, subst, sym, ℕ, ◌≡◌, Bool, ◌∙◌, arith, Some, cases_lt, Update, Limits, Child, Memory}
 use Rattle.tree_law.proofs.Words.{IsChainOf-unique, level_in, Knowledge, memory_at, memory_of, Entry, IsLeftmost, IsRootLevel, Indexes, HasPhaseOfTerm, indexed, IsInPhase}
-use Rattle.tree_law.proofs.Words.{Phase, held, removed, merged, IsFirst, HasMark, IsIndexed, Owners, Placed, Indexed, PageOwner, Fresh, Removed, Held, Merged, Stage, mark, shared, phase_of, IsTree}
+use Rattle.tree_law.proofs.Words.{Phase, held, removed, merged, IsFirst, HasMark, IsIndexed, Owners, Placed, Indexed, PageOwner, Fresh, Removed, Held, Merged, Stage, mark, shared_part, phase_of, IsTree}
 use Rattle.tree_law.specs.Indexed.{IsIndexedAlong}
 use Rattle.tree_law.proofs.shape.Exactness.{is_indexed, below_top, root_indexed}
 use Rattle.tree_law.proofs.trace.Marks.{take_whole}
@@ -19,7 +19,7 @@ of_stage st w child is_held e k = absurd (cc)
 
 -- the moment after all entries
 module _ (limits : Limits) (entries : List Entry) {log : List Update} {o : Owners} {knows : ℕ → Knowledge} {point : ℕ → Option (List Update)}
-    {logs : ℕ → List (List Update)} (g : IsTree (shared (memory_of limits entries)) log o knows point logs) where
+    {logs : ℕ → List (List Update)} (g : IsTree (shared_part (memory_of limits entries)) log o knows point logs) where
   abbrev m : Memory
   m = memory_of limits entries
 
@@ -71,7 +71,7 @@ module _ (limits : Limits) (entries : List Entry) {log : List Update} {o : Owner
 -- one more entry
 module _ (limits : Limits) (entries : List Entry) (last : Entry) {log log' : List Update} {o o' : Owners} {knows knows' : ℕ → Knowledge}
     {point point' : ℕ → Option (List Update)} {logs logs' : ℕ → List (List Update)}
-    (g : IsTree (shared (memory_of limits entries)) log o knows point logs) (g' : IsTree (shared (memory_of limits (entries ++ last ∷ []))) log' o' knows' point' logs')
+    (g : IsTree (shared_part (memory_of limits entries)) log o knows point logs) (g' : IsTree (shared_part (memory_of limits (entries ++ last ∷ []))) log' o' knows' point' logs')
     (stays : (l q : ℕ) → IsFirst o l q → IsFirst o' l q) (grows : (is_indexed (memory_of limits (entries ++ last ∷ [])) g').top ≤ suc ((is_indexed (memory_of limits entries) g).top))
     (in_phase : (pid : ℕ) → IsInPhase limits (entries ++ last ∷ []) (length (entries ++ last ∷ [])) pid (phase_of (o'.page pid)))
     (only_phase : (pid : ℕ) (phase : Phase) → IsInPhase limits (entries ++ last ∷ []) (length (entries ++ last ∷ [])) pid phase → phase ≡ phase_of (o'.page pid))
@@ -158,7 +158,7 @@ module _ (limits : Limits) (entries : List Entry) (last : Entry) {log log' : Lis
 
 -- the empty trace, where all levels are the lowest
 module _ (limits : Limits) {log : List Update} {o : Owners} {knows : ℕ → Knowledge} {point : ℕ → Option (List Update)} {logs : ℕ → List (List Update)}
-    (g : IsTree (shared (memory_of limits [])) log o knows point logs) (flat : (l q : ℕ) → IsFirst o l q → l ≡ 0) where
+    (g : IsTree (shared_part (memory_of limits [])) log o knows point logs) (flat : (l q : ℕ) → IsFirst o l q → l ≡ 0) where
   abbrev start : IsIndexed (memory_of limits []) o
   start = is_indexed (memory_of limits []) g
 

@@ -1,7 +1,7 @@
 -- The memory has the map of the log: the leaves are whole, and decide each key as the log does.
 use Rattle.tree_law.proofs.Words.{false, [], ap, refl, Option, suc, None, List, true, ◌∷◌, sym, ℕ, ◌≡◌, Bool, zero, ◌∙◌, ◌<◌, arith, Some, map, same_Some, Contains, MatchOption}
 use Rattle.tree_law.proofs.Words.{is_under, Update, logged_value, ContentOf, Memory, Record, IsChainOf, content_in, right_in, low_in, high_in, value_of, Knowledge, LivePage, IsSideChainFrom}
-use Rattle.tree_law.proofs.Words.{HasMapOf, Key, Covers, IsUnder, Owners, IsChain, leaf_map, shared, slot_in, row_in, IsTree, Level, SidePage, InPlace, IsPart}
+use Rattle.tree_law.proofs.Words.{HasMapOf, Key, Covers, IsUnder, Owners, IsChain, leaf_map, shared_part, slot_in, row_in, IsTree, Level, SidePage, InPlace, IsPart}
 use Rattle.traces.specs.chain.SideChain.{IsWholeFrom, IsLeaves, Spells}
 use Rattle.traces.proofs.ChainLaws.{IsSideChainFrom-unique}
 use Rattle.tree_law.proofs.shape.KeyOrder.{empty_lowest, covers_from, covers_to}
@@ -24,34 +24,34 @@ pub chain_at : (memory : Memory) (p x : ℕ) (c : List Record) → slot_in memor
 chain_at memory p x c e h = let s = slot_some memory.slots p x e in record { page = s.0; linked = rw s.1 s.2; records = rw s.1 h }
 
 module _ (memory : Memory) (o : Owners) (lv : ℕ) (mp : Key → Option ContentOf) where
-  pub chain_of : (g : SidePage) → InPlace o (shared memory) lv mp g → IsChainOf memory g.page g.chain
+  pub chain_of : (g : SidePage) → InPlace o (shared_part memory) lv mp g → IsChainOf memory g.page g.chain
   chain_of g h = chain_at memory g.page g.row g.chain h.is_page.head h.is_page.is_chain
 
   -- the pages are a side chain, and their ranges follow one another
-  pub side_from : (gs : List SidePage) (p : Option ℕ) (low : Option Key) → IsPart o (shared memory) lv mp gs p low None None
+  pub side_from : (gs : List SidePage) (p : Option ℕ) (low : Option Key) → IsPart o (shared_part memory) lv mp gs p low None None
       → MatchOption p (map live gs ≡ []) (λ q. IsSideChainFrom memory q (map live gs))
   side_from [] None low h = refl
   side_from (g ∷ gs) (Some p) low h = (sym (same_Some p g.page h.0), rw (same_Some p g.page h.0) (chain_of g h.2), side_from gs (right_in g.chain) (high_in g.chain) h.3)
   side_from gs p low h = absurd (cc h.0)
 
-  pub whole_from : (gs : List SidePage) (p : Option ℕ) (low : Option Key) → IsPart o (shared memory) lv mp gs p low None None → MatchOption low (map live gs ≡ []) (λ k. IsWholeFrom k (map live gs))
+  pub whole_from : (gs : List SidePage) (p : Option ℕ) (low : Option Key) → IsPart o (shared_part memory) lv mp gs p low None None → MatchOption low (map live gs ≡ []) (λ k. IsWholeFrom k (map live gs))
   whole_from [] p None h = refl
   whole_from (g ∷ gs) p (Some k) h = (sym (same_Some k (low_in g.chain) h.1), whole_from gs (right_in g.chain) (high_in g.chain) h.3)
   whole_from gs p low h = absurd (cc h.1)
 
   -- a page among them is in its place
-  pub among : (gs : List SidePage) (p : Option ℕ) (low : Option Key) → IsPart o (shared memory) lv mp gs p low None None → (page : LivePage)
-      → Contains (map live gs) page → (g : SidePage) × (live g ≡ page) × InPlace o (shared memory) lv mp g
+  pub among : (gs : List SidePage) (p : Option ℕ) (low : Option Key) → IsPart o (shared_part memory) lv mp gs p low None None → (page : LivePage)
+      → Contains (map live gs) page → (g : SidePage) × (live g ≡ page) × InPlace o (shared_part memory) lv mp g
   among [] p low h page (n, lt, e) = absurd (omega arith)
   among (g ∷ gs) p low h page (zero, lt, e) = (g, e, h.2)
   among (g ∷ gs) p low h page (suc n, lt, e) = among gs (right_in g.chain) (high_in g.chain) h.3 page (n, omega arith, e)
 
   -- one of the pages covers the key
   abbrev pub Covering : List SidePage → Key → Type 0
-  Covering gs key = (g : SidePage) × Contains (map live gs) (live g) × InPlace o (shared memory) lv mp g × Covers g.chain key
+  Covering gs key = (g : SidePage) × Contains (map live gs) (live g) × InPlace o (shared_part memory) lv mp g × Covers g.chain key
 
   -- a key from the first low key on is covered by one of them
-  pub covering : (gs : List SidePage) (p : Option ℕ) (low : Option Key) → IsPart o (shared memory) lv mp gs p low None None → (key : Key) → StartsFrom low key → Covering gs key
+  pub covering : (gs : List SidePage) (p : Option ℕ) (low : Option Key) → IsPart o (shared_part memory) lv mp gs p low None None → (key : Key) → StartsFrom low key → Covering gs key
   covering [] p low h key s = absurd (rw h.1 at s)
   covering (g ∷ gs) p low h key s = go (λ u. covering gs (right_in g.chain) (high_in g.chain) h.3 key u) (high_in g.chain) refl
     where
@@ -70,8 +70,8 @@ module _ (memory : Memory) (o : Owners) (lv : ℕ) (mp : Key → Option ContentO
       go rest (Some high) e = test rest high e (is_under key (Some high)) refl
 
 module _ (memory : Memory) {log : List Update} {o : Owners} {knows : ℕ → Knowledge} {point : ℕ → Option (List Update)} {logs : ℕ → List (List Update)}
-    (g : IsTree (shared memory) log o knows point logs) where
-  pub leaves : Level o (shared memory) 0 (leaf_map log) 1
+    (g : IsTree (shared_part memory) log o knows point logs) where
+  pub leaves : Level o (shared_part memory) 0 (leaf_map log) 1
   leaves = rw g.tree.leaf at (g.tree.levels 0 (omega arith))
 
   pub is_leaves : IsLeaves memory (map live leaves.side)
@@ -97,5 +97,5 @@ module _ (memory : Memory) {log : List Update} {o : Owners} {knows : ℕ → Kno
   }
 
 pub map_of : {m : Memory} {log : List Update} {o : Owners} {knows : ℕ → Knowledge} {point : ℕ → Option (List Update)} {logs : ℕ → List (List Update)}
-    → IsTree (shared m) log o knows point logs → HasMapOf m log
+    → IsTree (shared_part m) log o knows point logs → HasMapOf m log
 map_of {m} g = has_map m g

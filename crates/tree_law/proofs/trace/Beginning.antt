@@ -1,9 +1,9 @@
 -- The empty trace is a state, and a begin keeps a state.
 use Rattle.tree_law.proofs.Words.{false, ◌⊎◌, ap, refl, ltb, Option, suc, None, List, true, inl, ◌≢◌, length, ◌++◌, ◌≤◌, inr, ◌∷◌, sym, ℕ, ◌≡◌, Bool, zero, ◌∙◌, ◌<◌, arith, Some}
 use Rattle.tree_law.proofs.Words.{ltb-true, fold-append, Update, Command, Limits, ReuseRows, ReusePids, opening, Memory, slice_get_below, slice_get_kept, slice_get-push_cases}
-use Rattle.tree_law.proofs.Words.{slice_get-push, IsRun-push, TakesStep-push_cases, memory_of-push, command_of-push, begun, knows, Knowledge, knows_after, ShowsRow, memory_at, command_of, memory_of}
+use Rattle.tree_law.proofs.Words.{slice_get-push, IsRun-push, TakesStep-push_cases, memory_of-push, command_of-push, after_begin, knows, Knowledge, knows_after, ShowsRow, memory_at, command_of, memory_of}
 use Rattle.tree_law.proofs.Words.{Entry, Begin, and_right, same_operation, and_left, log_of-push, IsOperation, Operation, indexed, log_at, log_of, HasMapOf, UnlinksPid, UnlinksRow, HandsPid}
-use Rattle.tree_law.proofs.Words.{HandsRow, IsInLimbo, Owners, Indexed, put, shared, slot_in, IsReadyPage, Tells, operation_from, IsSearch, IsState, phase_of}
+use Rattle.tree_law.proofs.Words.{HandsRow, IsInLimbo, Owners, Indexed, put, shared_part, slot_in, IsReadyPage, Tells, operation_from, IsSearch, IsState, phase_of}
 use Rattle.tree_law.proofs.Words.{IsInTree, IsUnended, HaveStood, Times, Timed, Opens, IsTree, same_Some, []}
 use Rattle.std.proofs.Common.{leb}
 use Rattle.traces.proofs.RunLaws.{IsRun-none}
@@ -62,12 +62,12 @@ opening_timed limits = record {
 
 -- what an actor holds when it begins it held before
 begin_timed : {limits : Limits} {m : Memory} {log : List Update} {o : Owners} {knows : ℕ → Knowledge} {point : ℕ → Option (List Update)}
-    {logs : ℕ → List (List Update)} {now : ℕ} {t : Times} (g : IsTree (shared m) log o knows point logs) (T : Timed limits m o knows now t) (a : ℕ)
+    {logs : ℕ → List (List Update)} {now : ℕ} {t : Times} (g : IsTree (shared_part m) log o knows point logs) (T : Timed limits m o knows now t) (a : ℕ)
     (c : Command)
-    → Timed limits m o (put knows a (begun (knows a) c)) (suc now) t
+    → Timed limits m o (put knows a (after_begin (knows a) c)) (suc now) t
 begin_timed {m = m} {o = o} {knows = knows} g T a c =
     let h = T.holds a in
-    read_timed (begun (knows a) c) (calm_same g T a) refl refl
+    read_timed (after_begin (knows a) c) (calm_same g T a) refl refl
     (record {
       learnt_inside = h.learnt_inside;
       learnt_since = h.learnt_since;
@@ -165,7 +165,7 @@ begins limits entries a c state below idle =
     let pids_longer : (b q : ℕ) → IsInLimbo (entries ++ Begin a c ∷ []) b (UnlinksPid limits (entries ++ Begin a c ∷ []) b q) (HandsPid q) ((knows entries b).limbo.pids q) =
     λ b q. limbo_push entries (Begin a c) (UnlinksPid limits entries b q) (UnlinksPid limits (entries ++ Begin a c ∷ []) b q) (HandsPid q)
     (pid_longer entries (Begin a c) limits b q) b ((knows entries b).limbo.pids q) (λ f other s x h. absurd (cc h.1)) (state.limbo_pids b q) in
-    let tree_after : IsTree (shared (memory_of limits (entries ++ Begin a c ∷ []))) (log_of (entries ++ Begin a c ∷ []) (state.points ++ false ∷ []))
+    let tree_after : IsTree (shared_part (memory_of limits (entries ++ Begin a c ∷ []))) (log_of (entries ++ Begin a c ∷ []) (state.points ++ false ∷ []))
     state.owners (knows (entries ++ Begin a c ∷ [])) (put state.point a None) (put state.logs a []) =
     rw (memory_of-push limits entries (Begin a c), log_of-push entries state.points (Begin a c) false state.marked.beside, knows-push entries (Begin a c)) (tree_begins state.is_tree a c) in
     record {
@@ -224,18 +224,18 @@ begins limits entries a c state below idle =
     }
   where
     -- what is so of each unfinished operation: the one that begins, and those of others
-    unfinished_begin : (P : Operation → Knowledge → Type 0) → P (operation_from (length entries) a c) (begun (knows entries a) c)
+    unfinished_begin : (P : Operation → Knowledge → Type 0) → P (operation_from (length entries) a c) (after_begin (knows entries a) c)
         → ((op : Operation) → IsOperation entries op → IsUnended entries op.start op.actor → command_of entries op.actor ≡ Some op.command → P op (knows entries op.actor))
         → (op : Operation) → IsOperation (entries ++ Begin a c ∷ []) op → IsUnended (entries ++ Begin a c ∷ []) op.start op.actor
         → command_of (entries ++ Begin a c ∷ []) op.actor ≡ Some op.command → P op (knows (entries ++ Begin a c ∷ []) op.actor)
     unfinished_begin P new others op is unended asks = rw (knows-push entries (Begin a c)) (elim (slice_get-push_cases entries (Begin a c) op.start _ is) [
       | inr at ↦
           let same : op ≡ operation_from (length entries) a c = same_operation op (operation_from (length entries) a c) at.0 (let e = at.1 in cc) (let e = at.1 in cc) in
-          rw same (rw (put_same (knows entries) a (begun (knows entries a) c)) new)
+          rw same (rw (put_same (knows entries) a (after_begin (knows entries a) c)) new)
       | inl before ↦
           let other : op.actor ≢ a = λ i. unended (length entries) c (slice_get_below entries op.start _ before) (rw i (slice_get-push entries (Begin a c))) in
           let asks' : command_of entries op.actor ≡ Some op.command = sym (put_other (command_of entries) a (Some c) op.actor other) ∙ (rw (command_of-push entries (Begin a c)) at asks) in
-          rw (put_other (knows entries) a (begun (knows entries a) c) op.actor other)
+          rw (put_other (knows entries) a (after_begin (knows entries a) c) op.actor other)
           (others op before (λ later d low e. unended later d low (slice_get_kept entries (Begin a c ∷ []) later _ e)) asks')
     ])
 

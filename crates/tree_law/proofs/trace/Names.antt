@@ -2,9 +2,9 @@
 use Rattle.tree_law.proofs.Words.{false, ◌⊎◌, ap, refl, cond, Option, suc, None, List, true, inl, ◌≢◌, length, ◌++◌, ◌≤◌, inr, ◌∷◌, subst, sym, ℕ, ◌≡◌, Bool, zero, ◌∙◌, ◌<◌, arith, Some, ◌+◌, ◌^◌}
 use Rattle.tree_law.proofs.Words.{eqb, same_Some, Contains, unwrap_or, IsFalse, Update, Command, Reply, Limits, Answer, Whether, Content, Number, StepOf, ReuseRows, ReusePids, Leave}
 use Rattle.tree_law.proofs.Words.{TakePid, Row, Place, TakeRow, Slot, Enter, Exchange, Retire, Memory, next_row, Record, Base, slice_get_below, slice_get-push, take-push_whole, TakesStep-push_cases}
-use Rattle.tree_law.proofs.Words.{memory_at-push, IsOnChain, chain_rows, IsChainFrom, May, Knowledge, knows_after, finished, Ready, learn, learnt_next, ShowsRow, IsAnswer, memory_after}
+use Rattle.tree_law.proofs.Words.{memory_at-push, IsOnChain, chain_rows, IsChainFrom, May, Knowledge, knows_after, after_reply, Ready, learn, learnt_next, ShowsRow, IsAnswer, memory_after}
 use Rattle.tree_law.proofs.Words.{command_of, memory_of, IsStep, commands_after, Entry, Begin, Step, Key, IsReuse, IsMoved, Free, Linked, Owners, Reached, Spare, Placed, PageOwner, Cleared}
-use Rattle.tree_law.proofs.Words.{shared, slot_in, row_in, IsReadyPage, phase_of, IsInTree, IsNamed, IsTree, []}
+use Rattle.tree_law.proofs.Words.{shared_part, slot_in, row_in, IsReadyPage, phase_of, IsInTree, IsNamed, IsTree, []}
 use Rattle.base_page.specs.Pages as pages
 use Rattle.traces.specs.trace.Run.{MayTake}
 use Rattle.traces.proofs.TraceLaws.{HasLearnt-push_cases}
@@ -169,7 +169,7 @@ on_chain m row (p, c, chain, among) = go (slot_in m.slots p) refl
     go (Some x) e = let at = (slot_some m.slots p x e).1 in record { page = p; first = x; chain = c; held = e; records = rw at at chain.records; among = rw at at among }
 
 module _ {limits : Limits} {entries : List Entry} {o : Owners} {m : Memory} {knows : ℕ → Knowledge} {log : List Update} {points : ℕ → Option (List Update)} {logs : ℕ → List (List Update)}
-    (g : IsTree (shared m) log o knows points logs) (old : IsNamed limits entries o m knows) (a : ℕ) (s : StepOf Record) (x : Answer Record) (r : Option Reply)
+    (g : IsTree (shared_part m) log o knows points logs) (old : IsNamed limits entries o m knows) (a : ℕ) (s : StepOf Record) (x : Answer Record) (r : Option Reply)
     (may : May a (knows a) s) (is : IsAnswer m s x) where
   abbrev last : Entry
   last = Step a s x r
@@ -239,12 +239,12 @@ module _ {limits : Limits} {entries : List Entry} {o : Owners} {m : Memory} {kno
       (λ other t y h d. let i = h.1 in let st : s ≡ t = cc in let xy : x ≡ y = cc in
       still (rw xy (rw st d))))
 
-  at_rest : (t : StepOf Record) → Stays t → (y : Answer Record) → (b : ℕ) → (cond (eqb b a) (finished (learn (knows a) t y) r) (knows b)).inside ≡ true → 0 < (memory_after a t m).announced b
+  at_rest : (t : StepOf Record) → Stays t → (y : Answer Record) → (b : ℕ) → (cond (eqb b a) (after_reply (learn (knows a) t y) r) (knows b)).inside ≡ true → 0 < (memory_after a t m).announced b
   at_rest t st y b e = rw (same_announced a m t st) (by_equal b a
       (λ i is. let f = rw is at e in rw i (old.announced a (sym (learn_inside (knows a) t y st) ∙ f))) (λ ne is. let f = rw is at e in old.announced b f))
 
   announced_after : (t : StepOf Record) → May a (knows a) t → (y : Answer Record) → (b : ℕ)
-      → (cond (eqb b a) (finished (learn (knows a) t y) r) (knows b)).inside ≡ true → 0 < (memory_after a t m).announced b
+      → (cond (eqb b a) (after_reply (learn (knows a) t y) r) (knows b)).inside ≡ true → 0 < (memory_after a t m).announced b
   announced_after (Enter n) h y b e = by_equal b a (λ i t. rw t h.1) (λ ne t. rw t (old.announced b (rw t at e)))
   announced_after Leave h y b e = by_equal b a (λ i t. absurd (let f = rw t at e in cc)) (λ ne t. rw t (old.announced b (rw t at e)))
   announced_after t h y b e = at_rest t tt y b e
@@ -390,7 +390,7 @@ module _ {limits : Limits} {entries : List Entry} {o : Owners} {m : Memory} {kno
 
       -- the row is on the chain of no linked row
       apart : (x : ℕ) (c : List Record) → IsChainFrom m.rows x c → Contains (chain_rows x c) row → o.row x ≡ Linked → ⊥
-      apart x c chain among l = let l' : o.row row ≡ Linked = chain_linked o (shared m) g.closed x c l chain row among in let sp = spare in cc
+      apart x c chain among l = let l' : o.row row ≡ Linked = chain_linked o (shared_part m) g.closed x c l chain row among in let sp = spare in cc
 
       -- nor is it the base in the slot of a page that is ready
       in_base : (b p x : ℕ) → o.row x ≡ Spare b → (knows b).own.pages p ≡ Ready x → x ≡ row → ⊥

@@ -1,6 +1,6 @@
 -- The opening memory meets the invariant: one empty leaf, which is the root.
 use Rattle.tree_law.proofs.Words.{false, ap, refl, cond, Option, suc, None, inl, inr, ◌∷◌, subst, sym, ℕ, ◌≡◌, Bool, arith, Some, nat_tests, Limits, empty_leaf, opening, Base, nothing, Key, Free}
-use Rattle.tree_law.proofs.Words.{Linked, Owners, Nobody, Placed, Indexed, put, shared, slot_in, row_in, Shared, IsTree, spec, Level, IsOff, SidePage, []}
+use Rattle.tree_law.proofs.Words.{Linked, Owners, Nobody, Placed, Indexed, put, shared_part, slot_in, row_in, Shared, IsTree, spec, Level, IsOff, SidePage, []}
 use Rattle.std.specs.Prelude.{nat_le}
 use Rattle.tree_law.proofs.shape.Puts.{by_equal}
 
@@ -84,8 +84,8 @@ opening_slots limits = λ d p. at p d
 abbrev pub opening_owners : Limits → Owners
 opening_owners limits = o (opening limits).free_rows (opening limits).free_pids refl refl
 
-pub opening_tree : (limits : Limits) → IsTree (shared (opening limits)) [] (opening_owners limits) (λ a. nothing) (λ a. None) (λ a. [])
+pub opening_tree : (limits : Limits) → IsTree (shared_part (opening limits)) [] (opening_owners limits) (λ a. nothing) (λ a. None) (λ a. [])
 opening_tree limits = rw (opening_slots limits) (starts (opening limits).free_rows (opening limits).free_pids refl refl)
 
-pub opens : (limits : Limits) → (o : Owners) × IsTree (shared (opening limits)) [] o (λ a. nothing) (λ a. None) (λ a. [])
+pub opens : (limits : Limits) → (o : Owners) × IsTree (shared_part (opening limits)) [] o (λ a. nothing) (λ a. None) (λ a. [])
 opens limits = (opening_owners limits, opening_tree limits)

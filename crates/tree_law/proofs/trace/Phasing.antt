@@ -4,7 +4,7 @@ use Rattle.tree_law.proofs.Words.{if◌then◌else◌, key_cmp, Update, is_among
 use Rattle.tree_law.proofs.Words.{Base, Hold, Split, Merge, Term, Unterm, RemoveOf, IsChainFrom-unique, IsChainOf, right_in, May, root_over, Knowledge, IsAnswer}
 use Rattle.tree_law.proofs.Words.{IsUnheld, Entry, Step, link_without, link_of, Wins, Installs, indexed, free, MovesPhase, removes, Phase, cleared, held, removed, merged, splits, merges, becomes_root}
 use Rattle.tree_law.proofs.Words.{reuses, under_root, terms, holds, unterms, IsBelow, Owners, Nobody, Placed, Indexed, PageOwner, Cleared, Keeps, Fresh, Removed, Held, Merged, Phased, LinkMoves, put}
-use Rattle.tree_law.proofs.Words.{shared, slot_in, row_in, IsReadyPage, phase_of, IsInTree, IsTree, []}
+use Rattle.tree_law.proofs.Words.{shared_part, slot_in, row_in, IsReadyPage, phase_of, IsInTree, IsTree, []}
 use Rattle.tree_law.proofs.shape.{by_key, not_self, slot_some, eqb_true, eqb_apart, by_equal, put_same, put_other, decided}
 use Rattle.bw_model.specs.declared.step.Link.TheVariants as link
 use Rattle.base_page.specs.Pages as pages
@@ -75,26 +75,26 @@ second_child key separator page right pid mark above said = by_key key []
     (λ same t. absurd (not_self [] (rw same at above)))
     (λ ne t. by_key key separator (λ same u. let e = rw (t, u) at said in cc) (λ other u. absurd (let e = rw (t, u) at said in cc)))
 
-module _ (m : Memory) {log : List Update} {o : Owners} {knows : ℕ → Knowledge} {point : ℕ → Option (List Update)} {logs : ℕ → List (List Update)} (g : IsTree (shared m) log o knows point logs)
+module _ (m : Memory) {log : List Update} {o : Owners} {knows : ℕ → Knowledge} {point : ℕ → Option (List Update)} {logs : ℕ → List (List Update)} (g : IsTree (shared_part m) log o knows point logs)
     (inhabited : (p q : ℕ) → slot_in m.slots p ≡ Some q → IsInTree (o.page p) ⊎ IsReadyPage o m knows p q) (a : ℕ) (s : StepOf Record) (x : Answer Record)
-    (r : Option Reply) (may : May a (knows a) s) (is : IsAnswer m s x) (f' : ℕ → PageOwner) (ph : Phased a (shared m) s x o.page f') where
+    (r : Option Reply) (may : May a (knows a) s) (is : IsAnswer m s x) (f' : ℕ → PageOwner) (ph : Phased a (shared_part m) s x o.page f') where
   abbrev last : Entry
   last = Step a s x r
 
   linked_by : (slot old new : ℕ) (w : Record) → s ≡ Exchange slot old new → x ≡ Whether true → link_of m slot old new ≡ Some (record_link w)
-      → m.rows new ≡ Some w → (p : ℕ) × (slot ≡ suc p) × LinkMoves (shared m) a w (suc p) o.page f'
+      → m.rows new ≡ Some w → (p : ℕ) × (slot ≡ suc p) × LinkMoves (shared_part m) a w (suc p) o.page f'
   linked_by zero old new w i j kind stands = absurd (no_front link.Root w refl kind)
   linked_by (suc p) zero new w i j kind stands = absurd (no_front link.Ready w refl (sym (link_ready m p new) ∙ kind))
   linked_by (suc p) (suc old) zero w i j kind stands = absurd (no_front_map (m.rows (suc old)) w (sym (link_empty m p old) ∙ kind))
   linked_by (suc p) (suc old) (suc new) w i j kind stands =
-      let h : Phased a (shared m) (Exchange (suc p) (suc old) (suc new)) (Whether true) o.page f' = rw j at (rw i at ph) in
+      let h : Phased a (shared_part m) (Exchange (suc p) (suc old) (suc new)) (Whether true) o.page f' = rw j at (rw i at ph) in
       (p, refl, rw (same_Some h.0 w (sym h.1 ∙ stands)) at h.2)
 
   -- the step is the exchange that put the record in front of a chain
-  installed : (slot : ℕ) (w : Record) → Installs m last slot w → (p : ℕ) × (slot ≡ suc p) × LinkMoves (shared m) a w (suc p) o.page f'
+  installed : (slot : ℕ) (w : Record) → Installs m last slot w → (p : ℕ) × (slot ≡ suc p) × LinkMoves (shared_part m) a w (suc p) o.page f'
   installed slot w (b, old, new, won, stands) = let e = won.0.1 in linked_by slot old new w (cc) (cc) won.1 stands
 
-  rooted : (pid : ℕ) → MakesRoot m last pid → (old : ℕ) × Phased a (shared m) (Exchange 0 old pid) (Whether true) o.page f'
+  rooted : (pid : ℕ) → MakesRoot m last pid → (old : ℕ) × Phased a (shared_part m) (Exchange 0 old pid) (Whether true) o.page f'
   rooted pid (b, old, won) =
       let e = won.0.1 in
       let i : s ≡ Exchange 0 old pid = cc in
@@ -196,7 +196,7 @@ module _ (m : Memory) {log : List Update} {o : Owners} {knows : ℕ → Knowledg
   same_phase pid e = inr (rw e)
 
   by_link : (p old new : ℕ) (w : Record) → s ≡ Exchange (suc p) (suc old) (suc new) → x ≡ Whether true → m.rows (suc new) ≡ Some w
-      → LinkMoves (shared m) a w (suc p) o.page f' → (pid : ℕ) → MovesOrRests pid
+      → LinkMoves (shared_part m) a w (suc p) o.page f' → (pid : ℕ) → MovesOrRests pid
   by_link p old new (Split split) i j stands h pid =
       moved_at split.page pid (Keeps a) (Placed Fresh h.1 split.separator) h.4 h.5 (splits (suc p) split (installs_now p old new (Split split) i j stands) refl)
   by_link p old new (Term term) i j stands h pid =
@@ -213,7 +213,7 @@ module _ (m : Memory) {log : List Update} {o : Owners} {knows : ℕ → Knowledg
       moved_at unterm.child pid (Placed Merged h.0 unterm.separator) (Cleared a h.0 unterm.separator) h.1 h.2 (unterms (suc p) unterm (installs_now p old new (Unterm unterm) i j stands) refl)
   by_link p old new w i j stands h pid = same_phase pid h
 
-  by_root : (old y : ℕ) → s ≡ Exchange 0 old y → x ≡ Whether true → Phased a (shared m) (Exchange 0 old y) (Whether true) o.page f' → (pid : ℕ) → MovesOrRests pid
+  by_root : (old y : ℕ) → s ≡ Exchange 0 old y → x ≡ Whether true → Phased a (shared_part m) (Exchange 0 old y) (Whether true) o.page f' → (pid : ℕ) → MovesOrRests pid
   by_root old y i j h pid =
       let makes : MakesRoot m last y = (a, old, ((r, λ d. Step a (i d) (j d) r), refl)) in
       let under : MovesPhase m last h.0 fresh indexed =
@@ -229,7 +229,7 @@ module _ (m : Memory) {log : List Update} {o : Owners} {knows : ℕ → Knowledg
   pub moves_or_rests : (pid : ℕ) → MovesOrRests pid
   moves_or_rests pid = go s x refl refl may is ph
     where
-      go : (t : StepOf Record) (y : Answer Record) → s ≡ t → x ≡ y → May a (knows a) t → IsAnswer m t y → Phased a (shared m) t y o.page f' → MovesOrRests pid
+      go : (t : StepOf Record) (y : Answer Record) → s ≡ t → x ≡ y → May a (knows a) t → IsAnswer m t y → Phased a (shared_part m) t y o.page f' → MovesOrRests pid
       go (TakePid q) (Whether true) i j h e ph' =
           moved_at q pid Nobody (Keeps a) (g.frees.page q cc).0 ph' (takes a (r, λ d. Step a (i d) (j d) r))
       go (TakePid q) (Whether false) i j h e ph' = same_phase pid ph'

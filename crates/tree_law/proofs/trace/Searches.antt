@@ -1,7 +1,7 @@
 -- What an operation has found stays found, and what a further step finds.
 use Rattle.tree_law.proofs.Words.{false, ◌⊎◌, ap, refl, Option, suc, None, List, true, inl, length, ◌++◌, ◌≤◌, inr, ◌∷◌, sym, ℕ, ◌≡◌, Bool, zero, ◌∙◌, ◌<◌, arith, Some, slice_get}
-use Rattle.tree_law.proofs.Words.{Command, Reply, Limits, Answer, Number, StepOf, PidBits, RowBits, Record, slice_get_below, memory_at-push, low_in, is_removed, LacksRoom, HoldsBack, begun}
-use Rattle.tree_law.proofs.Words.{Knowledge, finished, learn, LivePage, Entry, Begin, Step, WasHeldBack, Operation, TakesOwnStep, operation_from, IsSearch, IsUnended, WasRead, []}
+use Rattle.tree_law.proofs.Words.{Command, Reply, Limits, Answer, Number, StepOf, PidBits, RowBits, Record, slice_get_below, memory_at-push, low_in, is_removed, LacksRoom, HoldsBack, after_begin}
+use Rattle.tree_law.proofs.Words.{Knowledge, after_reply, learn, LivePage, Entry, Begin, Step, WasHeldBack, Operation, TakesOwnStep, operation_from, IsSearch, IsUnended, WasRead, []}
 use Rattle.op_machine.specs.theorem.Answered.{FindsNothingFree}
 use Rattle.traces.specs.discipline.Knowledge.{Asked}
 use Rattle.tree_law.proofs.shape.Puts.{by_equal}
@@ -83,7 +83,7 @@ module _ (entries : List Entry) (last : Entry) where
   }
 
   -- an operation that begins has found nothing
-  pub search_new : (a : ℕ) (c : Command) (k : Knowledge) → IsSearch longer (operation_from (length entries) a c) (begun k c)
+  pub search_new : (a : ℕ) (c : Command) (k : Knowledge) → IsSearch longer (operation_from (length entries) a c) (after_begin k c)
   search_new a c k = record {
     unfinished = λ n reply ends.
         let low : length entries < n = ends.2.begun in
@@ -96,7 +96,7 @@ module _ (entries : List Entry) (last : Entry) where
 
   -- and an own step that does not end it adds what it read
   pub search_own : (start a : ℕ) (c : Command) (s : StepOf Record) (x : Answer Record) (k : Knowledge) → slice_get entries start ≡ Some (Begin a c) → IsUnended entries start a
-      → last ≡ Step a s x None → IsSearch entries (operation_from start a c) k → IsSearch longer (operation_from start a c) (finished (learn k s x) None)
+      → last ≡ Step a s x None → IsSearch entries (operation_from start a c) k → IsSearch longer (operation_from start a c) (after_reply (learn k s x) None)
   search_own start a c s x k begins unended is h = record {
     unfinished =
         λ n reply ends. elim (own_cases entries last (operation_from start a c) n ends.0 ends.1 (Some reply) ends.2)

@@ -2,7 +2,7 @@
 use Rattle.tree_law.proofs.Words.{[], ap, refl, Option, None, List, inl, ◌≢◌, length, inr, sym, ℕ, ◌≡◌, Bool, ◌∙◌, ◌<◌, arith, Some, take, ⊎_elim, same_Some, IfSome, MatchOption, Update}
 use Rattle.tree_law.proofs.Words.{logged_value, update_of, command_key, Command, Reply, Limits, Record, slice_get_below, IsChainFrom, low_in, level_in, high_in, MayReply, MayAnswer, knows}
 use Rattle.tree_law.proofs.Words.{memory_at, command_of, memory_of, Entry, WasHeldBack, RepliesAt, Operation, IsOwnStep, log_at, log_of, IsPoint, IsQuiet, UpdatesAtLinks, IsRepliedAt}
-use Rattle.tree_law.proofs.Words.{shared, Tells, operation_from, IsState, IsAnsweredBy, IsMarked, HasFound, HaveStood, WereRead, WasLeafWith}
+use Rattle.tree_law.proofs.Words.{shared_part, Tells, operation_from, IsState, IsAnsweredBy, IsMarked, HasFound, HaveStood, WereRead, WasLeafWith}
 use Rattle.traces.specs.discipline.Discipline.{IsHeldBack, MayShowPage, MayCallTidy, MayGiveUp}
 use Rattle.tree_law.proofs.answering.Answering.{answers}
 use Rattle.tree_law.proofs.shape.{chain_stands, shows}
@@ -143,7 +143,7 @@ module _ (limits : Limits) (entries : List Entry) (a : ℕ) (asked : Command) (s
   ))
     where
       stands : (row : ℕ) (chain : List Record) → IsChainFrom (knows entries a).read.seen row chain → IsChainFrom (memory_of limits entries).rows row chain
-      stands row chain = chain_stands state.owners (shared (memory_of limits entries)) (knows entries a).read.seen (state.is_tree.sound a).seen_fits chain (Some row)
+      stands row chain = chain_stands state.owners (shared_part (memory_of limits entries)) (knows entries a).read.seen (state.is_tree.sound a).seen_fits chain (Some row)
 
       was : (leaf : WasLeafWith limits entries mine (record { pid = may.page; chain = may.basis.chain })) × WereRead limits entries mine
           (memory_of limits entries).rows ((knows entries a).read.before may.page) leaf.step

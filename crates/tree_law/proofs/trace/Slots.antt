@@ -1,9 +1,9 @@
 -- Which slots hold rows, after a step.
 use Rattle.tree_law.proofs.Words.{false, ◌⊎◌, ap, refl, Option, suc, None, List, true, inl, ◌≢◌, inr, subst, sym, ℕ, ◌≡◌, zero, ◌∙◌, Some, eqb, same_Some, Update, Reply, Answer, Whether}
 use Rattle.tree_law.proofs.Words.{Content, Number, StepOf, ReuseRows, ReusePids, TakePid, Row, Place, TakeRow, Slot, Epoch, PidBits, Exchange, RowBits, Announce, Memory, replaced_at, Record, Remove}
-use Rattle.tree_law.proofs.Words.{Base, Hold, Split, Merge, Term, Unterm, low_in, level_in, May, IsOwn, MayExchange, IsOwnBase, Knowledge, finished, Ready, learn, Empty, OwnPage, Other, Gone, Written}
-use Rattle.tree_law.proofs.Words.{filled, rooted, OwnRow, emptied, exchanged, split_off, linked_over, IsAnswer, memory_after, Key, IsReuse, IsMoved, Linked, Owners, Reached, Spare, OwnFits}
-use Rattle.tree_law.proofs.Words.{Placed, Indexed, PageOwner, Cleared, Keeps, Fresh, Removed, Held, Merged, Stage, Phased, LinkMoves, put, shared, slot_in, Shared, IsReadyPage, IsInTree, IsTree, []}
+use Rattle.tree_law.proofs.Words.{Base, Hold, Split, Merge, Term, Unterm, low_in, level_in, May, IsOwn, MayExchange, IsOwnBase, Knowledge, after_reply, Ready, learn, Empty, OwnPage, Other, Gone, Written}
+use Rattle.tree_law.proofs.Words.{after_filling, after_root, OwnRow, after_emptying, after_exchange, split_off, linked_over, IsAnswer, memory_after, Key, IsReuse, IsMoved, Linked, Owners, Reached, Spare, OwnFits}
+use Rattle.tree_law.proofs.Words.{Placed, Indexed, PageOwner, Cleared, Keeps, Fresh, Removed, Held, Merged, Stage, Phased, LinkMoves, put, shared_part, slot_in, Shared, IsReadyPage, IsInTree, IsTree, []}
 use Rattle.base_page.specs.Pages as pages
 use Rattle.tree_law.proofs.shape.{by_equal, put_same, put_other, own_spare}
 use Rattle.tree_law.proofs.links.Stepping.{root_apart, slot_put}
@@ -33,7 +33,7 @@ reached_in_tree r l k (Placed st l' k') h = tt
 reached_in_tree r l k (Cleared b l' k') h = tt
 reached_in_tree r l k w h = h
 
-module _ (m : Memory) {log : List Update} {o : Owners} {knows : ℕ → Knowledge} {point : ℕ → Option (List Update)} {logs : ℕ → List (List Update)} (g : IsTree (shared m) log o knows point logs)
+module _ (m : Memory) {log : List Update} {o : Owners} {knows : ℕ → Knowledge} {point : ℕ → Option (List Update)} {logs : ℕ → List (List Update)} (g : IsTree (shared_part m) log o knows point logs)
     (held : (p q : ℕ) → slot_in m.slots p ≡ Some q → IsInTree (o.page p) ⊎ IsReadyPage o m knows p q) (a : ℕ) (o' : Owners)
     (kept : (q : ℕ) → o.row q ≡ Linked → (o'.row q ≡ Linked)) (moved : (q : ℕ) → IsMoved a (m.free_rows q) (o.row q) (o'.row q)) where
   -- whose the row is that is a base in a slot
@@ -72,7 +72,7 @@ module _ (m : Memory) {log : List Update} {o : Owners} {knows : ℕ → Knowledg
   with_other v n p q ne e = put_other (knows a).own.pages n v p ne ∙ e
 
   -- a row that is linked on a page
-  module _ (n x y : ℕ) (r : Option Reply) (w : Record) (stands : m.rows (suc y) ≡ Some w) (links : LinkMoves (shared m) a w (suc n) o.page o'.page) (in_tree : IsInTree (o.page (suc n))) where
+  module _ (n x y : ℕ) (r : Option Reply) (w : Record) (stands : m.rows (suc y) ≡ Some w) (links : LinkMoves (shared_part m) a w (suc n) o.page o'.page) (in_tree : IsInTree (o.page (suc n))) where
     -- a page that is ready is so afterwards, or in the tree
     linked_ready : (v : OwnRow) → OwnFits a (o.row (suc y)) (m.rows (suc y)) v → (p q : ℕ) → (knows a).own.pages p ≡ Ready q
         → IsInTree (o'.page p) ⊎ ((linked_over v (suc x) (suc y) (knows a)).own.pages p ≡ Ready q)
@@ -92,23 +92,23 @@ module _ (m : Memory) {log : List Update} {o : Owners} {knows : ℕ → Knowledg
     linked_ready (Written (Base page)) fits p q e = inr e
     linked_ready v fits p q e = inr e
 
-    filled_ready : (v : OwnPage) (p q : ℕ) → p ≢ suc n → (knows a).own.pages p ≡ Ready q → IsInTree (o'.page p) ⊎ ((filled v (suc n) (suc x) (suc y) (knows a)).own.pages p ≡ Ready q)
+    filled_ready : (v : OwnPage) (p q : ℕ) → p ≢ suc n → (knows a).own.pages p ≡ Ready q → IsInTree (o'.page p) ⊎ ((after_filling v (suc n) (suc x) (suc y) (knows a)).own.pages p ≡ Ready q)
     filled_ready Other p q ne e = linked_ready ((knows a).own.rows (suc y)) (g.owns a (suc y)) p q e
     filled_ready Empty p q ne e = inr (with_other (Ready (suc y)) (suc n) p q ne e)
     filled_ready v p q ne e = inr e
 
     linking : (m' : Memory) → m'.rows ≡ m.rows → (p q : ℕ) → put (slot_in m.slots) (suc n) (Some (suc y)) p ≡ Some q
-        → IsInTree (o'.page p) ⊎ IsReadyPage o' m' (put knows a (finished (exchanged (suc n) (suc x) (suc y) (knows a)) r)) p q
+        → IsInTree (o'.page p) ⊎ IsReadyPage o' m' (put knows a (after_reply (after_exchange (suc n) (suc x) (suc y) (knows a)) r)) p q
     linking m' rows p q e = by_equal p (suc n)
-        (λ i is. inl (links_in_tree (shared m) a w (suc n) o.page o'.page links p (rw i in_tree)))
+        (λ i is. inl (links_in_tree (shared_part m) a w (suc n) o.page o'.page links p (rw i in_tree)))
         (λ ne is. let f = rw is at e in elim (held p q f) [
-          | inl h ↦ inl (links_in_tree (shared m) a w (suc n) o.page o'.page links p h)
+          | inl h ↦ inl (links_in_tree (shared_part m) a w (suc n) o.page o'.page links p h)
           | inr h ↦ by_equal h.actor a
               (λ i t. elim (filled_ready ((knows a).own.pages (suc n)) p q ne (rw i at h.ready)) [
                 | inl tree ↦ inl tree
-                | inr known ↦ inr (ready_after m' (finished (exchanged (suc n) (suc x) (suc y) (knows a)) r) p q h (λ j. ap (λ f. f q) rows) (λ j. known))
+                | inr known ↦ inr (ready_after m' (after_reply (after_exchange (suc n) (suc x) (suc y) (knows a)) r) p q h (λ j. ap (λ f. f q) rows) (λ j. known))
               ])
-              (λ other t. inr (ready_after m' (finished (exchanged (suc n) (suc x) (suc y) (knows a)) r) p q h (λ j. ap (λ f. f q) rows) (λ j. absurd (other j))))
+              (λ other t. inr (ready_after m' (after_reply (after_exchange (suc n) (suc x) (suc y) (knows a)) r) p q h (λ j. ap (λ f. f q) rows) (λ j. absurd (other j))))
         ])
 
   abbrev Holds : Memory → Knowledge → Type 0
@@ -121,7 +121,7 @@ module _ (m : Memory) {log : List Update} {o : Owners} {knows : ℕ → Knowledg
 
   readies : (n y : ℕ) (r : Option Reply) → (knows a).own.pages (suc n) ≡ Empty → IsOwnBase ((knows a).own.rows (suc y)) → o'.page ≡ o.page → (p q : ℕ)
       → put (slot_in m.slots) (suc n) (Some (suc y)) p ≡ Some q
-      → IsInTree (o'.page p) ⊎ IsReadyPage o' (record m { slots = replaced_at (suc n) (suc y) m.slots }) (put knows a (finished (exchanged (suc n) zero (suc y) (knows a)) r)) p q
+      → IsInTree (o'.page p) ⊎ IsReadyPage o' (record m { slots = replaced_at (suc n) (suc y) m.slots }) (put knows a (after_reply (after_exchange (suc n) zero (suc y) (knows a)) r)) p q
   readies n y r empty base same p q e = rw empty (by_equal p (suc n)
       (λ i t. let f = rw t at e in let at : suc y ≡ q = same_Some (suc y) q f in let own = own_base (suc y) ((knows a).own.rows (suc y)) (g.owns a (suc y)) base in inr (record {
         actor = a;
@@ -136,38 +136,38 @@ module _ (m : Memory) {log : List Update} {o : Owners} {knows : ℕ → Knowledg
       ]))
     where
       k : Knowledge
-      k = finished (filled Empty (suc n) zero (suc y) (knows a)) r
+      k = after_reply (after_filling Empty (suc n) zero (suc y) (knows a)) r
 
-  emptied_ready : (v : OwnPage) (n x p q : ℕ) → p ≢ n → (knows a).own.pages p ≡ Ready q → (emptied v n x (knows a)).own.pages p ≡ Ready q
+  emptied_ready : (v : OwnPage) (n x p q : ℕ) → p ≢ n → (knows a).own.pages p ≡ Ready q → (after_emptying v n x (knows a)).own.pages p ≡ Ready q
   emptied_ready (Ready base) n x p q ne e = with_other Empty n p q ne e
   emptied_ready Gone n x p q ne e = with_other Other n p q ne e
   emptied_ready v n x p q ne e = e
 
   empties : (n x : ℕ) (r : Option Reply) (m' : Memory) → m'.rows ≡ m.rows → o'.page ≡ o.page → (p q : ℕ) → put (slot_in m.slots) (suc n) None p ≡ Some q
-      → IsInTree (o'.page p) ⊎ IsReadyPage o' m' (put knows a (finished (exchanged (suc n) (suc x) zero (knows a)) r)) p q
+      → IsInTree (o'.page p) ⊎ IsReadyPage o' m' (put knows a (after_reply (after_exchange (suc n) (suc x) zero (knows a)) r)) p q
   empties n x r m' rows same p q e = by_equal p (suc n)
       (λ i t. absurd (let f = rw t at e in cc))
       (λ ne t. let f = rw t at e in elim (held p q f) [
         | inl h ↦ inl (rw same h)
-        | inr h ↦ inr (ready_after m' (finished (exchanged (suc n) (suc x) zero (knows a)) r) p q h (λ j. ap (λ f. f q) rows)
+        | inr h ↦ inr (ready_after m' (after_reply (after_exchange (suc n) (suc x) zero (knows a)) r) p q h (λ j. ap (λ f. f q) rows)
             (λ j. emptied_ready ((knows a).own.pages (suc n)) (suc n) (suc x) p q ne (rw j at h.ready)))
       ])
 
-  rooted_ready : (v : OwnPage) (n p q : ℕ) → p ≢ n → (knows a).own.pages p ≡ Ready q → (rooted v n (knows a)).own.pages p ≡ Ready q
+  rooted_ready : (v : OwnPage) (n p q : ℕ) → p ≢ n → (knows a).own.pages p ≡ Ready q → (after_root v n (knows a)).own.pages p ≡ Ready q
   rooted_ready (Ready base) n p q ne e = with_other Other n p q ne e
   rooted_ready v n p q ne e = e
 
   roots : (x y : ℕ) (r : Option Reply) (m' : Memory) → m'.rows ≡ m.rows → (b l : ℕ) (k : Key) → o'.page ≡ put (put o.page b (Placed Indexed l k)) y (Placed Indexed (suc l) []) → (p q : ℕ)
-      → slot_in m.slots p ≡ Some q → IsInTree (o'.page p) ⊎ IsReadyPage o' m' (put knows a (finished (exchanged zero x y (knows a)) r)) p q
+      → slot_in m.slots p ≡ Some q → IsInTree (o'.page p) ⊎ IsReadyPage o' m' (put knows a (after_reply (after_exchange zero x y (knows a)) r)) p q
   roots x y r m' rows b l k same p q e = elim (held p q e) [
     | inl h ↦ inl (rw same (put_in_tree (put o.page b (Placed Indexed l k)) y p Indexed (suc l) [] (put_in_tree o.page b p Indexed l k h)))
     | inr h ↦ by_equal p y
         (λ i t. inl (rw same (rw i (here_in_tree (put o.page b (Placed Indexed l k)) y Indexed (suc l) []))))
-        (λ ne t. inr (ready_after m' (finished (exchanged zero x y (knows a)) r) p q h (λ j. ap (λ f. f q) rows) (λ j. rooted_ready ((knows a).own.pages y) y p q ne (rw j at h.ready))))
+        (λ ne t. inr (ready_after m' (after_reply (after_exchange zero x y (knows a)) r) p q h (λ j. ap (λ f. f q) rows) (λ j. rooted_ready ((knows a).own.pages y) y p q ne (rw j at h.ready))))
   ]
 
-  exchange_won : (p x y : ℕ) (r : Option Reply) → MayExchange a (knows a) p x y → Phased a (shared m) (Exchange p x y) (Whether true) o.page o'.page
-      → Holds (record m { slots = replaced_at p y m.slots }) (finished (exchanged p x y (knows a)) r)
+  exchange_won : (p x y : ℕ) (r : Option Reply) → MayExchange a (knows a) p x y → Phased a (shared_part m) (Exchange p x y) (Whether true) o.page o'.page
+      → Holds (record m { slots = replaced_at p y m.slots }) (after_reply (after_exchange p x y (knows a)) r)
   exchange_won zero x y r may ph p q e = roots x y r (record m { slots = replaced_at 0 y m.slots }) refl ph.0 ph.1 ph.2 ph.6 p q (rw (root_apart m.slots y) at e)
   exchange_won (suc n) zero zero r may ph p q e = absurd may
   exchange_won (suc n) zero (suc y) r may ph p q e = readies n y r may.0 may.1 ph.0 p q (rw (slot_put m.slots n (suc y)) at e)
@@ -177,19 +177,19 @@ module _ (m : Memory) {log : List Update} {o : Owners} {knows : ℕ → Knowledg
       linking n x y r ph.0 ph.1 ph.2 (reached_in_tree 0 (level_in h.2.chain) (low_in h.2.chain) (o.page (suc n)) h.3)
       (record m { slots = replaced_at (suc n) (suc y) m.slots }) refl p q (rw (slot_put m.slots n (suc y)) at e)
 
-  takes : (n : ℕ) (r : Option Reply) → m.free_pids n ≡ true → o'.page ≡ put o.page n (Keeps a) → Holds (memory_after a (TakePid n) m) (finished (learn (knows a) (TakePid n) (Whether true)) r)
+  takes : (n : ℕ) (r : Option Reply) → m.free_pids n ≡ true → o'.page ≡ put o.page n (Keeps a) → Holds (memory_after a (TakePid n) m) (after_reply (learn (knows a) (TakePid n) (Whether true)) r)
   takes n r free same p q e = by_equal p n
       (λ i t. absurd (let none = (g.frees.page n free).1 in let f : slot_in m.slots n ≡ Some q = rw i at e in cc))
       (λ ne t. elim (held p q e) [
         | inl h ↦ inl (rw same (rw (put_other o.page n (Keeps a) p ne) h))
-        | inr h ↦ inr (ready_after (memory_after a (TakePid n) m) (finished (learn (knows a) (TakePid n) (Whether true)) r) p q h (λ j. refl) (λ j. with_other Empty n p q ne (rw j at h.ready)))
+        | inr h ↦ inr (ready_after (memory_after a (TakePid n) m) (after_reply (learn (knows a) (TakePid n) (Whether true)) r) p q h (λ j. refl) (λ j. with_other Empty n p q ne (rw j at h.ready)))
       ])
 
   places : (n : ℕ) (w : Record) (x : Answer Record) (r : Option Reply) → IsOwn ((knows a).own.rows n) → ((page : ℕ) → (knows a).own.pages page ≡ Ready n → ⊥)
-      → o'.page ≡ o.page → Holds (memory_after a (Place n w) m) (finished (learn (knows a) (Place n w) x) r)
+      → o'.page ≡ o.page → Holds (memory_after a (Place n w) m) (after_reply (learn (knows a) (Place n w) x) r)
   places n w x r own never same p q e = elim (held p q e) [
     | inl h ↦ inl (rw same h)
-    | inr h ↦ inr (ready_after (memory_after a (Place n w) m) (finished (learn (knows a) (Place n w) x) r) p q h
+    | inr h ↦ inr (ready_after (memory_after a (Place n w) m) (after_reply (learn (knows a) (Place n w) x) r) p q h
         (λ owned. put_other m.rows n (Some w) q (λ i. elim owned [
           | inl l ↦ let mine = (own_spare (m.rows n) ((knows a).own.rows n) (g.owns a n) own) in let l' : o.row n ≡ Linked = rw i at l in absurd (cc)
           | inr s ↦
@@ -203,15 +203,15 @@ module _ (m : Memory) {log : List Update} {o : Owners} {knows : ℕ → Knowledg
 
   -- after an allowed step
   pub held_after : (s : StepOf Record) → (IsReuse s → ⊥) → (x : Answer Record) (r : Option Reply) → May a (knows a) s → IsAnswer m s x
-      → Phased a (shared m) s x o.page o'.page → Holds (memory_after a s m) (finished (learn (knows a) s x) r)
-  held_after (Slot zero) still_so (Number n) r may is ph = still (memory_after a (Slot zero) m) (finished (learn (knows a) (Slot zero) (Number n)) r) refl ph refl
-  held_after (Slot (suc p)) still_so (Number zero) r may is ph = still (memory_after a (Slot (suc p)) m) (finished (learn (knows a) (Slot (suc p)) (Number zero)) r) refl ph refl
-  held_after (Row q) still_so (Content w) r may is ph = still (memory_after a (Row q) m) (finished (learn (knows a) (Row q) (Content w)) r) refl ph refl
-  held_after Epoch still_so (Number n) r may is ph = still (memory_after a Epoch m) (finished (learn (knows a) Epoch (Number n)) r) refl ph refl
-  held_after (Announce b) still_so (Number n) r may is ph = still (memory_after a (Announce b) m) (finished (learn (knows a) (Announce b) (Number n)) r) refl ph refl
-  held_after (PidBits w) still_so (Number n) r may is ph = still (memory_after a (PidBits w) m) (finished (learn (knows a) (PidBits w) (Number n)) r) refl ph refl
-  held_after (RowBits w) still_so (Number n) r may is ph = still (memory_after a (RowBits w) m) (finished (learn (knows a) (RowBits w) (Number n)) r) refl ph refl
-  held_after (TakeRow n) still_so (Whether true) r may is ph = still (memory_after a (TakeRow n) m) (finished (learn (knows a) (TakeRow n) (Whether true)) r) refl ph refl
+      → Phased a (shared_part m) s x o.page o'.page → Holds (memory_after a s m) (after_reply (learn (knows a) s x) r)
+  held_after (Slot zero) still_so (Number n) r may is ph = still (memory_after a (Slot zero) m) (after_reply (learn (knows a) (Slot zero) (Number n)) r) refl ph refl
+  held_after (Slot (suc p)) still_so (Number zero) r may is ph = still (memory_after a (Slot (suc p)) m) (after_reply (learn (knows a) (Slot (suc p)) (Number zero)) r) refl ph refl
+  held_after (Row q) still_so (Content w) r may is ph = still (memory_after a (Row q) m) (after_reply (learn (knows a) (Row q) (Content w)) r) refl ph refl
+  held_after Epoch still_so (Number n) r may is ph = still (memory_after a Epoch m) (after_reply (learn (knows a) Epoch (Number n)) r) refl ph refl
+  held_after (Announce b) still_so (Number n) r may is ph = still (memory_after a (Announce b) m) (after_reply (learn (knows a) (Announce b) (Number n)) r) refl ph refl
+  held_after (PidBits w) still_so (Number n) r may is ph = still (memory_after a (PidBits w) m) (after_reply (learn (knows a) (PidBits w) (Number n)) r) refl ph refl
+  held_after (RowBits w) still_so (Number n) r may is ph = still (memory_after a (RowBits w) m) (after_reply (learn (knows a) (RowBits w) (Number n)) r) refl ph refl
+  held_after (TakeRow n) still_so (Whether true) r may is ph = still (memory_after a (TakeRow n) m) (after_reply (learn (knows a) (TakeRow n) (Whether true)) r) refl ph refl
   held_after (TakePid n) still_so (Whether true) r may is ph = takes n r (let e = is in cc) ph
   held_after (Place n w) still_so x r may is ph = places n w x r may.1 may.2 ph
   held_after (Exchange p x y) still_so (Whether true) r may is ph =
@@ -219,8 +219,8 @@ module _ (m : Memory) {log : List Update} {o : Owners} {knows : ℕ → Knowledg
       rw won (exchange_won p x y r may.1 ph)
   held_after (Exchange p x y) still_so (Whether false) r may is ph =
       let lost : eqb (m.slots p) x ≡ false = let e = is in cc in
-      rw lost (still m (finished (knows a) r) refl ph refl)
+      rw lost (still m (after_reply (knows a) r) refl ph refl)
   held_after (Exchange p x y) still_so z r may is ph = absurd (cc)
   held_after (ReusePids w b) still_so x r may is ph = absurd (still_so tt)
   held_after (ReuseRows w b) still_so x r may is ph = absurd (still_so tt)
-  held_after s still_so x r may is ph = still (memory_after a s m) (finished (learn (knows a) s x) r) refl ph refl
+  held_after s still_so x r may is ph = still (memory_after a s m) (after_reply (learn (knows a) s x) r) refl ph refl

@@ -2,7 +2,7 @@
 use Rattle.tree_law.proofs.Words.{false, ◌⊎◌, ap, refl, Option, suc, List, true, inl, length, ◌++◌, ◌≤◌, inr, ◌∷◌, subst, sym, ℕ, ◌≡◌, ◌∙◌, ◌<◌, arith, Some, slice_get, Update, Command, Reply, Limits}
 use Rattle.tree_law.proofs.Words.{Answer, Number, StepOf, Slot, Memory, Record, [], take-push, take-push_whole, IsChainFrom, right_in, low_in, is_removed, level_in, May, WasStanding}
 use Rattle.tree_law.proofs.Words.{Knowledge, learn, Readings, LivePage, IsAnswer, memory_after, memory_at, command_of, Entry, Begin, Step, Operation, Key, Linked, Owners, Reached}
-use Rattle.tree_law.proofs.Words.{InOrder, shared, slot_in, row_in, Shared, operation_from, IsUnended, HaveStood, WasRead, WereRead, WasLeafWith, IsLeafWith, IsTree, spec, Level, InPlace, same_Some}
+use Rattle.tree_law.proofs.Words.{InOrder, shared_part, slot_in, row_in, Shared, operation_from, IsUnended, HaveStood, WasRead, WereRead, WasLeafWith, IsLeafWith, IsTree, spec, Level, InPlace, same_Some}
 use Rattle.tree_law.proofs.links.Exchanged.{exchanged_alike}
 use Rattle.tree_law.proofs.links.Keeping.{alive_place, met_placed}
 use Rattle.tree_law.proofs.links.Learning.{learning, at_page, wins, leaves}
@@ -45,10 +45,10 @@ module _ {m : Shared} {log : List Update} {o : Owners} {knows : ℕ → Knowledg
 
 -- A page whose slot is read, and the removed page that is its right, as its slot was read before, are leaves.
 module _ (memory : Memory) {log : List Update} {o : Owners} {knows : ℕ → Knowledge} {point : ℕ → Option (List Update)} {logs : ℕ → List (List Update)}
-    (g : IsTree (shared memory) log o knows point logs) (a : ℕ)
+    (g : IsTree (shared_part memory) log o knows point logs) (a : ℕ)
     (page head level : ℕ) (low : Key) (reached : Reached 0 level low (o.page page)) (at : slot_in memory.slots page ≡ Some head) (basis : List Record)
     (is : IsChainFrom memory.rows head basis) (alive : is_removed basis ≡ false) where
-  place : InPlace o (shared memory) (level_in basis) (spec log o.index (level_in basis)) (record { page = page; row = head; chain = basis })
+  place : InPlace o (shared_part memory) (level_in basis) (spec log o.index (level_in basis)) (record { page = page; row = head; chain = basis })
   place = alive_place g a page level low reached head at basis is alive
 
   head_leaf : level_in basis ≡ 0 → IsLeafWith memory (record { pid = page; chain = basis })
@@ -57,14 +57,14 @@ module _ (memory : Memory) {log : List Update} {o : Owners} {knows : ℕ → Kno
   beside_leaf : (other row : ℕ) (chain : List Record) → right_in basis ≡ Some other → (knows a).read.heads other ≡ Some row → IsChainFrom memory.rows row chain
       → level_in chain ≡ 0 → is_removed chain ≡ true → IsLeafWith memory (record { pid = other; chain = chain })
   beside_leaf other row chain right read stands leaf gone =
-      let on : Level o (shared memory) (level_in basis) (spec log o.index (level_in basis)) (g.tree.first (level_in basis)) = g.tree.levels (level_in basis)
+      let on : Level o (shared_part memory) (level_in basis) (spec log o.index (level_in basis)) (g.tree.first (level_in basis)) = g.tree.levels (level_in basis)
       (g.tree.exact.below page (level_in basis) (low_in basis) place.stage place.placed) in
       let n = right_page on (record { page = page; row = head; chain = basis }) place other right in
       let h = rw read at ((g.sound a).heads_fit other) in
       let same : h.2.chain ≡ chain = chain_unique memory.rows h.2.chain chain (Some row) h.2.is_chain stands in
       let slot : slot_in memory.slots other ≡ Some row = elim (h.4 (ap is_removed same ∙ gone)) [ inl u ↦ u | inr u ↦ absurd (cc (n.3.placed, n.1, u.1.3)) ] in
       let r = (in_level_as on other (low_in n.0.chain) n.3.stage (ap o.page (sym n.1) ∙ n.3.placed) n.3.on row slot chain stands).place in
-      is_leaf memory g other row chain (subst (λ (l : ℕ). InPlace o (shared memory) l (spec log o.index l) (record { page = other; row = row; chain = chain })) (sym r.is_page.on_level ∙ leaf) r)
+      is_leaf memory g other row chain (subst (λ (l : ℕ). InPlace o (shared_part memory) l (spec log o.index l) (record { page = other; row = row; chain = chain })) (sym r.is_page.on_level ∙ leaf) r)
 
 module _ (limits : Limits) (entries : List Entry) (last : Entry) where
   abbrev longer : List Entry
@@ -115,7 +115,7 @@ module _ (limits : Limits) (entries : List Entry) (last : Entry) where
 
   -- and after an own step
   module _ (memory : Memory) {log : List Update} {o : Owners} {knows : ℕ → Knowledge} {point : ℕ → Option (List Update)} {logs : ℕ → List (List Update)}
-      (g : IsTree (shared memory) log o knows point logs)
+      (g : IsTree (shared_part memory) log o knows point logs)
       (a start : ℕ) (c : Command) (step : StepOf Record) (answer : Answer Record) (r : Option Reply) (now : memory_at limits entries (length entries) ≡ memory)
       (begins : slice_get entries start ≡ Some (Begin a c)) (unended : IsUnended entries start a) (asks : command_of entries a ≡ Some c) (last_is : last ≡ Step a step answer r)
       (may : May a (knows a) step) (is_answer : IsAnswer memory step answer) (kept : (row : ℕ) → o.row row ≡ Linked → (memory_after a step memory).rows row ≡ memory.rows row) where

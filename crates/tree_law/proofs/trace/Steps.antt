@@ -2,9 +2,9 @@
 use Rattle.tree_law.proofs.Words.{false, ◌⊎◌, ap, refl, cond, Option, suc, None, List, true, inl, ◌≢◌, length, ◌++◌, inr, ◌∷◌, subst, sym, ℕ, ◌≡◌, Bool, ◌∙◌, ◌<◌, arith, Some, same_Some, slice_get}
 use Rattle.tree_law.proofs.Words.{IsSome, IfSome, IsFalse, if◌then◌else◌, IsTrue, ◌↔◌, bytes_eq, Update, logged_value, command_key, reply_of, Command, Swap, Upsert, Insert, Reply, Limits, Answer}
 use Rattle.tree_law.proofs.Words.{Number, StepOf, ReuseRows, ReusePids, Leave, Slot, Memory, Record, slice_get_kept, slice_get-push_cases, IsRun-push, memory_of-push, command_of-push, MayReply}
-use Rattle.tree_law.proofs.Words.{IsAllowed, knows, Knowledge, finished, learn, IsAnswer, memory_after, command_of, memory_of, commands_after, Entry, Begin, Step, same_operation, log_of-push}
+use Rattle.tree_law.proofs.Words.{IsAllowed, knows, Knowledge, after_reply, learn, IsAnswer, memory_after, command_of, memory_of, commands_after, Entry, Begin, Step, same_operation, log_of-push}
 use Rattle.tree_law.proofs.Words.{RepliesAt, IsOperation, Operation, IsOwnStep, IsInPhase, MovesPhase, Phase, log_of, IsPoint, LinksUpdate, IsFirst, IsReuse}
-use Rattle.tree_law.proofs.Words.{After, IsDue, Indexed, Linked, Phased, put, shared}
+use Rattle.tree_law.proofs.Words.{After, IsDue, Indexed, Linked, Phased, put, shared_part}
 use Rattle.tree_law.proofs.Words.{slot_in, IsReadyPage, Tells, operation_from, IsSearch, IsState, phase_of, IsInTree, IsUnended, IsAnsweredBy, HasFound}
 use Rattle.tree_law.proofs.Words.{HaveStood, Times, Timed, times_after, IsTree, []}
 use Rattle.std.specs.Option.{option_to_list}
@@ -40,7 +40,7 @@ use Rattle.tree_law.proofs.links.Stepping.{step as one_step}
 -- The trace with one step more is a state; whose the pages are then, and that linked rows have their records still.
 pub record Onward (limits : Limits) (entries : List Entry) (a : ℕ) (step : StepOf Record) (answer : Answer Record) (r : Option Reply) (state : IsState limits entries) : Type 0 where
   pub after : IsState limits (entries ++ Step a step answer r ∷ [])
-  pub phased : Phased a (shared (memory_of limits entries)) step answer state.owners.page after.owners.page
+  pub phased : Phased a (shared_part (memory_of limits entries)) step answer state.owners.page after.owners.page
   pub same : (row : ℕ) → state.owners.row row ≡ Linked → (memory_after a step (memory_of limits entries)).rows row ≡ (memory_of limits entries).rows row
 
 abbrev is_update : Option Update → Bool
@@ -50,13 +50,13 @@ is_update (Some u) = true
 module _ (limits : Limits) (entries : List Entry) (a : ℕ) (step : StepOf Record) (answer : Answer Record) (r : Option Reply) (asked : Command)
     (state : IsState limits entries) (asks : command_of entries a ≡ Some asked)
     (allowed : IsAllowed limits a (knows entries a) step r) (is : IsAnswer (memory_of limits entries) step answer)
-    (n : After a (shared (memory_of limits entries)) (shared (memory_after a step (memory_of limits entries))) (log_of entries state.points) state.owners
+    (n : After a (shared_part (memory_of limits entries)) (shared_part (memory_after a step (memory_of limits entries))) (log_of entries state.points) state.owners
     (knows entries) state.point state.logs step answer r)
     (numbers : Numbers state.is_tree state.named a step answer r allowed.may is n.owners)
     (held' : (p q : ℕ) → slot_in (memory_after a step (memory_of limits entries)).slots p ≡ Some q → IsInTree (n.owners.page p) ⊎ IsReadyPage n.owners
-    (memory_after a step (memory_of limits entries)) (put (knows entries) a (finished (learn (knows entries a) step answer) r)) p q)
+    (memory_after a step (memory_of limits entries)) (put (knows entries) a (after_reply (learn (knows entries a) step answer) r)) p q)
     (times' : Times)
-    (timed' : Timed limits (memory_after a step (memory_of limits entries)) n.owners (put (knows entries) a (finished (learn (knows entries a) step answer) r)) (suc (length entries)) times')
+    (timed' : Timed limits (memory_after a step (memory_of limits entries)) n.owners (put (knows entries) a (after_reply (learn (knows entries a) step answer) r)) (suc (length entries)) times')
     (z : Settled limits entries (log_of entries state.points) state.point state.logs a asked r) where
   abbrev last : Entry
   last = Step a step answer r
@@ -124,7 +124,7 @@ module _ (limits : Limits) (entries : List Entry) (a : ℕ) (step : StepOf Recor
   point_after None = refl
   point_after (Some u) = refl
 
-  tree_after : IsTree (shared (memory_of limits longer)) (log_of longer (z.points ++ mark ∷ [])) n.owners
+  tree_after : IsTree (shared_part (memory_of limits longer)) (log_of longer (z.points ++ mark ∷ [])) n.owners
       (knows longer) (put state.point a (cond mark (Some (log_of entries state.points)) (state.point a))) (put state.logs a (log_of entries state.points ∷ state.logs a))
   tree_after = rw (memory_of-push limits entries last, log_of-push entries z.points last mark z.marked.beside, z.log_is, knows-push entries last, logged, sym (point_after n.update)) n.is_tree
 
@@ -143,7 +143,7 @@ module _ (limits : Limits) (entries : List Entry) (a : ℕ) (step : StepOf Recor
   -- what is so of each unfinished operation: the actor's own, where it goes on, and those of others
   unfinished_after : (P : Operation → Knowledge → Type 0)
       → ((start : ℕ) (c : Command) → slice_get entries start ≡ Some (Begin a c) → IsUnended entries start a → command_of entries a ≡ Some c → r ≡ None → P
-      (operation_from start a c) (finished (learn (knows entries a) step answer) r))
+      (operation_from start a c) (after_reply (learn (knows entries a) step answer) r))
       → ((op : Operation) → op.actor ≢ a → IsOperation entries op → IsUnended entries op.start op.actor → command_of entries op.actor ≡ Some op.command → P op (knows entries op.actor))
       → (op : Operation) → IsOperation longer op → IsUnended longer op.start op.actor → command_of longer op.actor ≡ Some op.command → P op (knows longer op.actor)
   unfinished_after P goes_on others op begun' unended' asks' = rw (knows-push entries last) (by_equal op.actor a
@@ -159,7 +159,7 @@ module _ (limits : Limits) (entries : List Entry) (a : ℕ) (step : StepOf Recor
       asked' : commands_after (command_of entries) last op.actor ≡ Some op.command
       asked' = rw (command_of-push entries last) at asks'
 
-      own : (o : Option Reply) → r ≡ o → op.actor ≡ a → P op (finished (learn (knows entries a) step answer) r)
+      own : (o : Option Reply) → r ≡ o → op.actor ≡ a → P op (after_reply (learn (knows entries a) step answer) r)
       own None no_reply i =
           let same : op ≡ operation_from op.start a op.command = same_operation op (operation_from op.start a op.command) refl i refl in
           let begun_a : slice_get entries op.start ≡ Some (Begin a op.command) = rw i at begun in
@@ -172,7 +172,7 @@ module _ (limits : Limits) (entries : List Entry) (a : ℕ) (step : StepOf Recor
   searches_after : (op : Operation) → IsOperation longer op → IsUnended longer op.start op.actor → command_of longer op.actor ≡ Some op.command
       → IsSearch longer op (knows longer op.actor)
   searches_after = unfinished_after (IsSearch longer)
-      (λ start c begun unended asks no_reply. subst (λ o. IsSearch longer (operation_from start a c) (finished (learn (knows entries a) step answer) o)) (sym no_reply)
+      (λ start c begun unended asks no_reply. subst (λ o. IsSearch longer (operation_from start a c) (after_reply (learn (knows entries a) step answer) o)) (sym no_reply)
       (search_own entries last start a c step answer (knows entries a) begun unended (λ d. Step a step answer (no_reply d)) (state.searches (operation_from start a c) begun unended asks)))
       (λ op ne begun unended asks. search_other entries last op (knows entries op.actor) (state.searches op begun unended asks) (λ s x y e. ne (let j : a ≡ op.actor = cc in sym j)))
 
@@ -220,10 +220,10 @@ module _ (limits : Limits) (entries : List Entry) (a : ℕ) (step : StepOf Recor
     is_tree = tree_after;
     fitted =
         rw (memory_of-push limits entries last)
-        (fitted_after state.owners (shared (memory_of limits entries)) state.is_tree.closed state.fitted n.owners (memory_after a step (memory_of limits entries)).rows n.same n.added);
+        (fitted_after state.owners (shared_part (memory_of limits entries)) state.is_tree.closed state.fitted n.owners (memory_after a step (memory_of limits entries)).rows n.same n.added);
     unheld =
         rw (memory_of-push limits entries last)
-        (unheld_after state.owners (shared (memory_of limits entries)) state.is_tree.closed state.unheld n.owners (memory_after a step (memory_of limits entries)).rows n.same n.added);
+        (unheld_after state.owners (shared_part (memory_of limits entries)) state.is_tree.closed state.unheld n.owners (memory_after a step (memory_of limits entries)).rows n.same n.added);
     named = rw (memory_of-push limits entries last, knows-push entries last)
         (named_steps state.is_tree state.named a step answer r allowed.may is n.owners numbers (state.timed.holds a).learnt_inside (state.timed.epochs a)
         (pid_below_after limits state.owners.page n.owners.page is lives state.named.free_pid_below state.named.pid_below)
