@@ -26,15 +26,16 @@ took() {
     cat "$taken"
 }
 
-# How many operations a second four processes of one thread do together, each on a tree of its own: apart WORD. They do fifty times as many as a thread
-# above, so that they are at it at the same time, though one may have loaded its tree before the others.
-apart() {
+# How many times as many operations a second four threads do on one tree as four processes of one thread do, each on a tree of its own: beside WORD. Each does
+# fifty times as many as above, so that the processes are at it at the same time, though one may have loaded its tree before the others.
+beside() {
     each=$((50 * operations))
+    together=$(took $((4 * each)) "$1" "$keys" 4 "$each")
     for process in 1 2 3 4; do
         "$program" "$1" "$keys" 1 "$each" "$bytes" 2>"$apart/$process" >"$apart/done" &
     done
     wait
-    cat "$apart/1" "$apart/2" "$apart/3" "$apart/4" | awk -v each="$each" '{ sum += each / $1 * 1e9 } END { printf "%.0f", sum }'
+    cat "$apart/1" "$apart/2" "$apart/3" "$apart/4" | awk -v together="$together" '{ sum += together / $1 } END { printf "%.2f", 4 / sum }'
 }
 
 # A lookup's steps are the epoch, the entry, slot 0, a slot for each of five levels, the rows of five chains, and the leave.
@@ -48,7 +49,7 @@ for threads in 1 2 4; do
     looks=$(took "$all" looks "$rows" "$threads" "$operations")
     echo "$threads $all $reads $half $ways $drawn $looks" >>"$times"
 done
-awk -v rows="$rows" -v reads_apart="$(apart reads)" -v half_apart="$(apart half)" '
+awk -v rows="$rows" -v reads_beside="$(beside reads)" -v half_beside="$(beside half)" '
     BEGIN { printf "a lookup reads %d rows\n", rows }
     {
         reads = $2 / $3 * 1e9
@@ -64,6 +65,6 @@ awk -v rows="$rows" -v reads_apart="$(apart reads)" -v half_apart="$(apart half)
     END {
         printf "4 threads against 1: lookups %.2f, mix %.2f, bare loads of ways %.2f, of drawn rows %.2f, looks %.2f\n", \
             reads / one_reads, half / one_half, ways / one_ways, drawn / one_drawn, looks / one_looks
-        printf "4 threads against 4 processes, a tree each: lookups %.2f, mix %.2f\n", reads / reads_apart, half / half_apart
+        printf "4 threads against 4 processes, a tree each: lookups %.2f, mix %.2f\n", reads_beside, half_beside
     }
 ' "$times"
