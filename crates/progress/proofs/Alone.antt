@@ -43,10 +43,10 @@ module _ (limits : Limits) (entries : List Entry) (a m n : ℕ) (alone : RunsAlo
       omega (arith, most, counts, begins_none)
 
 -- what hindered an operation until it ran alone, and since
-lone_pays : (limits : Limits) (entries : List Entry) (changes : HasFewChanges limits entries) (a start m n steps earlier : ℕ) → start < m → m ≤ suc n → RunsAlone entries a m n
-    → earlier ≡ tally (hinder limits entries a) start (m - start) → steps ≤ cause_worth limits * (tally (hinder limits entries a) start (suc n - start) + 1)
-    → steps ≤ cause_worth limits * (earlier + 154 * limits.pids + 8 * limits.actors + 1)
-lone_pays limits entries changes a start m n steps earlier after within alone counts paid =
+pub lone_pays : (limits : Limits) (entries : List Entry) (changes : HasFewChanges limits entries) (worth a start m n steps earlier : ℕ) → start < m → m ≤ suc n → RunsAlone entries a m n
+    → earlier ≡ tally (hinder limits entries a) start (m - start) → steps ≤ worth * (tally (hinder limits entries a) start (suc n - start) + 1)
+    → steps ≤ worth * (earlier + 154 * limits.pids + 8 * limits.actors + 1)
+lone_pays limits entries changes worth a start m n steps earlier after within alone counts paid =
     let parts : suc n - start ≡ (m - start) + (suc n - m) = omega arith in
     let at : start + (m - start) ≡ m = omega arith in
     let split : tally (hinder limits entries a) start (suc n - start) ≡ tally (hinder limits entries a) start (m - start) + tally (hinder limits entries a) m (suc n - m) =
@@ -54,8 +54,8 @@ lone_pays limits entries changes a start m n steps earlier after within alone co
     ∙ ap (λ k. tally (hinder limits entries a) start (m - start) + tally (hinder limits entries a) k (suc n - m)) at in
     let since : tally (hinder limits entries a) m (suc n - m) ≤ 154 * limits.pids + 8 * limits.actors = since_then in
     let most : tally (hinder limits entries a) start (suc n - start) + 1 ≤ earlier + 154 * limits.pids + 8 * limits.actors + 1 = omega (arith, split, since, counts) in
-    let grown : cause_worth limits * (tally (hinder limits entries a) start (suc n - start) + 1) ≤ cause_worth limits * (earlier + 154 * limits.pids + 8 * limits.actors + 1) = mul-le-mul_left
-    (cause_worth limits) most in
+    let grown : worth * (tally (hinder limits entries a) start (suc n - start) + 1) ≤ worth * (earlier + 154 * limits.pids + 8 * limits.actors + 1) = mul-le-mul_left
+    worth most in
     omega (arith, paid, grown)
   where
     since_then : tally (hinder limits entries a) m (suc n - m) ≤ 154 * limits.pids + 8 * limits.actors
@@ -72,6 +72,12 @@ none_first limits entries a start c begun =
     sym (ap (tally (hinder limits entries a) start) one ∙ ap (λ k. 0 + cond {A = ℕ} (hinder limits entries a k) 1 0) here
     ∙ ap (λ o. 0 + cond {A = ℕ} (changes_at (memory_at limits entries start) o || takes_beside a o) 1 0) begun)
 
+-- what hinders until an entry is enough, where there is nothing after it
+pub enough : (limits : Limits) (worth hindrances steps : ℕ) → steps ≤ worth * (hindrances + 1) → steps ≤ worth * (hindrances + 154 * limits.pids + 8 * limits.actors + 1)
+enough limits worth hindrances steps paid =
+    let grown : worth * (hindrances + 1) ≤ worth * (hindrances + 154 * limits.pids + 8 * limits.actors + 1) = mul-le-mul_left worth (omega arith) in
+    omega (arith, paid, grown)
+
 pub lone_end : LoneOperationsEnd
 lone_end limits entries run keeps direct changes = record {
   few = λ op m n begun after own alone none.
@@ -83,20 +89,20 @@ lone_end limits entries run keeps direct changes = record {
             let whole = listed (hinder limits entries op.actor) op.start (suc n - op.start) in (
               whole.places,
               among_hinder limits entries op.actor op.start (suc n - op.start) m (omega arith) whole,
-              enough limits (length whole.places)
+              enough limits (cause_worth limits) (length whole.places)
                   (steps_from entries op.actor op.start n) (rw whole.counts paid),
             )
         | inr le ↦ (
           list.places,
           among_hinder limits entries op.actor op.start (m - op.start) m (omega arith) list,
-          lone_pays limits entries changes op.actor op.start m n (steps_from entries op.actor op.start n) (length list.places) after (omega arith) alone list.counts paid,
+          lone_pays limits entries changes (cause_worth limits) op.actor op.start m n (steps_from entries op.actor op.start n) (length list.places) after (omega arith) alone list.counts paid,
         )
       ];
   whole = λ op n begun own alone none.
       let start : op.start < n = own.2.1.begun in
       let same : 0 + 154 * limits.pids + 8 * limits.actors + 1 ≡ 154 * limits.pids + 8 * limits.actors + 1 = omega arith in
       subst (λ k. steps_from entries op.actor op.start n ≤ cause_worth limits * k) same
-      (lone_pays limits entries changes op.actor op.start (suc op.start) n (steps_from entries op.actor op.start n) 0 (omega arith) (omega arith) alone
+      (lone_pays limits entries changes (cause_worth limits) op.actor op.start (suc op.start) n (steps_from entries op.actor op.start n) 0 (omega arith) (omega arith) alone
       (none_first limits entries op.actor op.start op.command begun)
       (paid_by_hinder limits entries run keeps direct op begun n none own));
   since = λ op m n begun after le own alone none.
@@ -106,8 +112,3 @@ lone_end limits entries run keeps direct changes = record {
       (cause_worth limits) (omega (arith, most)) in
       omega (arith, paid, grown);
 }
-  where
-    enough : (limits : Limits) (hindrances steps : ℕ) → steps ≤ cause_worth limits * (hindrances + 1) → steps ≤ cause_worth limits * (hindrances + 154 * limits.pids + 8 * limits.actors + 1)
-    enough limits hindrances steps paid =
-        let grown : cause_worth limits * (hindrances + 1) ≤ cause_worth limits * (hindrances + 154 * limits.pids + 8 * limits.actors + 1) = mul-le-mul_left (cause_worth limits) (omega arith) in
-        omega (arith, paid, grown)

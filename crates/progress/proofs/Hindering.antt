@@ -105,14 +105,14 @@ module _ (limits : Limits) (entries : List Entry) where
       let less = beside_takes a (slice_get entries k) in
       omega (arith, both, less))
 
-  changes_by : (k b slot old new : ℕ) (kind : Link) → TakesStep entries k b (Exchange slot old new) (Whether true)
+  pub changes_by : (k b slot old new : ℕ) (kind : Link) → TakesStep entries k b (Exchange slot old new) (Whether true)
       → link_of (memory_at limits entries k) slot old new ≡ Some kind → kind ≢ link.Ready → kind ≢ link.Undo
       → is_change k ≡ true
   changes_by k b slot old new kind took links one two =
       let e : slice_get entries k ≡ Some (Step b (Exchange slot old new) (Whether true) took.0) = took.1 in
       ap (changes_at (memory_at limits entries k)) e ∙ ap counts links ∙ counts_of kind one two
 
-  beside_by : (k a b number : ℕ) (pids : Bool) → b ≢ a → TakesStep entries k b (take_of pids number) (Whether true) → beside a k ≡ true
+  pub beside_by : (k a b number : ℕ) (pids : Bool) → b ≢ a → TakesStep entries k b (take_of pids number) (Whether true) → beside a k ≡ true
   beside_by k a b number pids ne took = ap (takes_beside a) took.1 ∙ by_kind pids
     where
       differs : not (b == a) ≡ true

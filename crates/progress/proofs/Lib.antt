@@ -22,3 +22,4 @@ mod Tallies
 mod Together
 pub mod Words
 mod rounds
+mod meetings

@@ -1,7 +1,7 @@
 -- All operations together take few steps, where nobody has placed a removal.
 use Rattle.std.proofs.Common.{◌≡◌, ◌<◌, ◌≤◌, ◌+◌, ◌-◌, ◌*◌, ◌⊎◌, ℕ, zero, suc, List, [], ◌∷◌, Option, None, Some, Bool, true, false, cond, take, refl, sym, ap, ◌∙◌, inl, inr, arith}
 use Rattle.progress.proofs.Words.{mul-add, mul-le-mul_left, cases_lt, eqb_tells, All-weaker, count_by, ◌==◌, slice_get, Limits, Command, Entry, Begin, Step, cause_worth, IsRun, Happens}
-use Rattle.progress.proofs.Words.{command_of, commands_after, HasFewChanges, IsDirect, is_step_of, Operation, KeepsPhases, get_take, take_past}
+use Rattle.progress.proofs.Words.{command_of, commands_after, HasFewChanges, IsDirect, is_step_of, IsOperation, IsOwnStep, Operation, KeepsPhases, get_take, take_past}
 use Rattle.op_machine.specs.theorem.Progress.{AreAmong, ChangesTree, PlacesNoRemoval, is_begin, is_end, is_step, steps_from, takes_number}
 use Rattle.progress.specs.Unhindered.{RunsAreLockFree}
 use Rattle.progress.proofs.Begun.{LastBegin, actor_below, begins_here, command_next, last_begin, one_on}
@@ -74,8 +74,10 @@ module _ (limits : Limits) (entries : List Entry) (run : IsRun limits entries) w
   one_begin k (Begin b c) at = sum_one b limits.actors (run.each k (Begin b c) at).0
   one_begin k (Step b s x r) at = sum_none (λ a. 0) limits.actors (λ i lt. refl)
 
-module _ (limits : Limits) (entries : List Entry) (run : IsRun limits entries) (keeps : KeepsPhases limits entries) (direct : IsDirect limits entries) (top : ℕ)
-    (none : PlacesNoRemoval (take top entries)) where
+-- Where hindrances pay for each operation, each of them for so many steps.
+module _ (limits : Limits) (entries : List Entry) (run : IsRun limits entries) (worth top : ℕ)
+    (pays : (op : Operation) (n : ℕ) → n ≤ top → IsOperation entries op → IsOwnStep entries op n
+    → steps_from entries op.actor op.start n ≤ worth * (tally (hinder limits entries op.actor) op.start (suc n - op.start) + 1)) where
   module _ (a : ℕ) where
     abbrev steps : ℕ → Bool
     steps = passes_in (is_step_of a) entries
@@ -101,21 +103,21 @@ module _ (limits : Limits) (entries : List Entry) (run : IsRun limits entries) (
       op = record { start = start; actor = a; command = c }
 
       span : (k : ℕ) → start + k ≤ top → ((later : ℕ) (d : Command) → start < later → later < start + k → slice_get entries later ≡ Some (Begin a d) → ⊥)
-          → tally steps start k ≤ cause_worth limits * (tally (hinder limits entries a) start k + 1)
+          → tally steps start k ≤ worth * (tally (hinder limits entries a) start k + 1)
       span zero le unended = omega arith
       span (suc k) le unended = elim (mine (start + k)) [
         | inl isnt ↦
             let rest = span k (omega arith) (λ later d after before. unended later d after (omega arith)) in
             let here : cond {A = ℕ} (steps (start + k)) 1 0 ≡ 0 = ap (λ (b : Bool). cond {A = ℕ} b 1 0) isnt in
             let more = tally_grows (hinder limits entries a) start k (suc k) (omega arith) in
-            let grown : cause_worth limits * (tally (hinder limits entries a) start k + 1) ≤ cause_worth limits * (tally (hinder limits entries a) start (suc k) + 1) = mul-le-mul_left
-            (cause_worth limits) (omega (arith, more)) in
+            let grown : worth * (tally (hinder limits entries a) start k + 1) ≤ worth * (tally (hinder limits entries a) start (suc k) + 1) = mul-le-mul_left
+            (worth) (omega (arith, more)) in
             omega (arith, rest, here, grown)
         | inr is ↦ by_step k le unended is.0 is.1 is.2
       ]
         where
           by_step : (k : ℕ) → start + suc k ≤ top → ((later : ℕ) (d : Command) → start < later → later < start + suc k → slice_get entries later ≡ Some (Begin a d) → ⊥)
-              → (e : Entry) → slice_get entries (start + k) ≡ Some e → is_step_of a e ≡ true → tally steps start (suc k) ≤ cause_worth limits * (tally (hinder limits entries a) start (suc k) + 1)
+              → (e : Entry) → slice_get entries (start + k) ≡ Some e → is_step_of a e ≡ true → tally steps start (suc k) ≤ worth * (tally (hinder limits entries a) start (suc k) + 1)
           by_step zero le unended e at is = let same : start + 0 ≡ start = omega arith in absurd (begin_steps e (sym (rw same at at) ∙ begun) is)
             where
               begin_steps : (e : Entry) → Some e ≡ Some (Begin a c) → is_step_of a e ≡ true → ⊥
@@ -125,7 +127,7 @@ module _ (limits : Limits) (entries : List Entry) (run : IsRun limits entries) (
           by_step (suc k) le unended (Step b s x r) at is =
               let same : b ≡ a = elim (eqb_tells b a) [ inl e ↦ e.1 | inr apart ↦ absurd (cc (is, apart.0)) ] in
               let entry : slice_get entries (start + suc k) ≡ Some (Step a s x r) = at ∙ ap (λ b. Some (Step b s x r)) same in
-              let paid = paid_by_hinder limits entries run keeps direct op begun (start + suc k) (none_before entries (start + suc k) top (omega arith) none)
+              let paid = pays op (start + suc k) (omega arith) begun
               (s, x, (r, record { begun = omega arith; entry = entry; not_ended = λ later d after before e. unended later d after (omega arith) e })) in
               let long : suc (start + suc k) - start ≡ suc (suc k) = omega arith in
               let counts : steps_from entries a start (start + suc k) ≡ tally steps start (suc (suc k)) = counted_range (is_step_of a) entries start
@@ -167,7 +169,7 @@ module _ (limits : Limits) (entries : List Entry) (run : IsRun limits entries) (
             never h.start h.command (omega arith) h.begins
 
     -- all steps of the actor so far, by the fuel that the place is
-    steps_paid : (fuel n : ℕ) → n ≤ fuel → n ≤ top → tally steps 0 n ≤ cause_worth limits * (tally begins 0 n + tally (hinder limits entries a) 0 n)
+    steps_paid : (fuel n : ℕ) → n ≤ fuel → n ≤ top → tally steps 0 n ≤ worth * (tally begins 0 n + tally (hinder limits entries a) 0 n)
     steps_paid zero n le within = let none : n ≡ 0 = omega arith in rw none (omega arith)
     steps_paid (suc fuel) n le within = elim (any_begin n) [
       | inr never ↦ let zero = no_steps n never in omega (arith, zero)
@@ -180,9 +182,9 @@ module _ (limits : Limits) (entries : List Entry) (run : IsRun limits entries) (
     ]
       where
         added : (n start : ℕ) (c : Command) → start < n → slice_get entries start ≡ Some (Begin a c)
-            → tally steps 0 start ≤ cause_worth limits * (tally begins 0 start + tally (hinder limits entries a) 0 start)
-            → tally steps start (n - start) ≤ cause_worth limits * (tally (hinder limits entries a) start (n - start) + 1)
-            → tally steps 0 n ≤ cause_worth limits * (tally begins 0 n + tally (hinder limits entries a) 0 n)
+            → tally steps 0 start ≤ worth * (tally begins 0 start + tally (hinder limits entries a) 0 start)
+            → tally steps start (n - start) ≤ worth * (tally (hinder limits entries a) start (n - start) + 1)
+            → tally steps 0 n ≤ worth * (tally begins 0 n + tally (hinder limits entries a) 0 n)
         added n start c low begun early here =
             let whole : start + (n - start) ≡ n = omega arith in
             let zeroed : 0 + start ≡ start = omega arith in
@@ -191,13 +193,13 @@ module _ (limits : Limits) (entries : List Entry) (run : IsRun limits entries) (
             let next : tally begins 0 (suc start) ≡ tally begins 0 start + 1 = ap (λ k. tally begins 0 start + cond {A = ℕ} (begins k) 1 0) zeroed ∙ ap
             (λ (b : Bool). tally begins 0 start + cond {A = ℕ} b 1 0) (ap (passes (begin_of a)) begun ∙ is_mine) in
             let more : tally begins 0 (suc start) ≤ tally begins 0 n = tally_grows begins 0 (suc start) n (omega arith) in
-            let joined : cause_worth limits * ((tally begins 0 start + tally (hinder limits entries a) 0 start) + (tally (hinder limits entries a) start (n - start) + 1))
-            ≡ cause_worth limits * (tally begins 0 start + tally (hinder limits entries a) 0 start) + cause_worth limits * (tally (hinder limits entries a) start (n - start) + 1)
-            = mul-add (cause_worth limits) (tally begins 0 start + tally (hinder limits entries a) 0 start) (tally (hinder limits entries a) start (n - start) + 1) in
+            let joined : worth * ((tally begins 0 start + tally (hinder limits entries a) 0 start) + (tally (hinder limits entries a) start (n - start) + 1))
+            ≡ worth * (tally begins 0 start + tally (hinder limits entries a) 0 start) + worth * (tally (hinder limits entries a) start (n - start) + 1)
+            = mul-add (worth) (tally begins 0 start + tally (hinder limits entries a) 0 start) (tally (hinder limits entries a) start (n - start) + 1) in
             let most : (tally begins 0 start + tally (hinder limits entries a) 0 start) + (tally (hinder limits entries a) start (n - start) + 1) ≤ tally begins 0 n + tally (hinder limits entries a) 0 n = omega
             (arith, split_hinder, next, more) in
-            let grown : cause_worth limits * ((tally begins 0 start + tally (hinder limits entries a) 0 start) + (tally (hinder limits entries a) start (n - start) + 1))
-            ≤ cause_worth limits * (tally begins 0 n + tally (hinder limits entries a) 0 n) = mul-le-mul_left (cause_worth limits) most in
+            let grown : worth * ((tally begins 0 start + tally (hinder limits entries a) 0 start) + (tally (hinder limits entries a) start (n - start) + 1))
+            ≤ worth * (tally begins 0 n + tally (hinder limits entries a) 0 n) = mul-le-mul_left (worth) most in
             omega (arith, early, here, split_steps, joined, grown)
           where
             is_mine : (a == a) ≡ true
@@ -224,16 +226,16 @@ module _ (limits : Limits) (entries : List Entry) (run : IsRun limits entries) (
   abbrev hindering : ℕ
   hindering = tally (is_change limits entries) 0 top + tally (passes_in takes_number entries) 0 top
 
-  each_actor : (a : ℕ) → by_actor limits entries is_step_of top a ≤ cause_worth limits * (by_actor limits entries begin_of top a + hindering)
+  each_actor : (a : ℕ) → by_actor limits entries is_step_of top a ≤ worth * (by_actor limits entries begin_of top a + hindering)
   each_actor a =
       let paid = steps_paid a top top (omega arith) (omega arith) in
       let parts = hinder_parts limits entries a 0 top in
-      let grown : cause_worth limits * (tally (begins a) 0 top + tally (hinder limits entries a) 0 top) ≤ cause_worth limits * (by_actor limits entries begin_of top a + hindering) = mul-le-mul_left
-      (cause_worth limits) (omega (arith, parts)) in
+      let grown : worth * (tally (begins a) 0 top + tally (hinder limits entries a) 0 top) ≤ worth * (by_actor limits entries begin_of top a + hindering) = mul-le-mul_left
+      (worth) (omega (arith, parts)) in
       omega (arith, paid, grown)
 
   pub all_few : HasFewChanges limits entries
-      → count_by is_step (take top entries) ≤ cause_worth limits * (count_by is_begin (take top entries) + limits.actors * (32 * count_by is_begin (take top entries) + limits.rows + limits.pids))
+      → count_by is_step (take top entries) ≤ worth * (count_by is_begin (take top entries) + limits.actors * (32 * count_by is_begin (take top entries) + limits.rows + limits.pids))
   all_few few =
       let changed = changes_most few top in
       let takes : count_by takes_number (take top entries) ≤ limits.rows + limits.pids + 24 * count_by is_begin (take top entries) = few.takes top in
@@ -244,15 +246,15 @@ module _ (limits : Limits) (entries : List Entry) (run : IsRun limits entries) (
       is_step_of is_step (one_step limits entries run) top in
       let all_begins : sum (by_actor limits entries begin_of top) limits.actors ≡ tally (passes_in is_begin entries) 0 top = sum_actors limits entries begin_of
       is_begin (one_begin limits entries run) top in
-      let less = sum_less (by_actor limits entries is_step_of top) (λ a. cause_worth limits * (by_actor limits entries begin_of top a + hindering)) limits.actors each_actor in
-      let worth : sum (λ a. cause_worth limits * (by_actor limits entries begin_of top a + hindering)) limits.actors ≡ cause_worth limits * (sum (by_actor limits entries begin_of top) limits.actors + limits.actors * hindering) = sum_worth
-      (cause_worth limits) hindering (by_actor limits entries begin_of top) limits.actors in
+      let less = sum_less (by_actor limits entries is_step_of top) (λ a. worth * (by_actor limits entries begin_of top a + hindering)) limits.actors each_actor in
+      let each_worth : sum (λ a. worth * (by_actor limits entries begin_of top a + hindering)) limits.actors ≡ worth * (sum (by_actor limits entries begin_of top) limits.actors + limits.actors * hindering) = sum_worth
+      worth hindering (by_actor limits entries begin_of top) limits.actors in
       let bound : limits.actors * hindering ≤ limits.actors * (32 * count_by is_begin (take top entries) + limits.rows + limits.pids) = mul-le-mul_left
       limits.actors (omega (arith, changed, takes, taken)) in
-      let most : cause_worth limits * (sum (by_actor limits entries begin_of top) limits.actors + limits.actors * hindering) ≤ cause_worth limits *
+      let most : worth * (sum (by_actor limits entries begin_of top) limits.actors + limits.actors * hindering) ≤ worth *
       (count_by is_begin (take top entries) + limits.actors * (32 * count_by is_begin (take top entries) + limits.rows + limits.pids))
-      = mul-le-mul_left (cause_worth limits) (omega (arith, begun, all_begins, bound)) in
-      omega (arith, stepped, all_steps, less, worth, most)
+      = mul-le-mul_left (worth) (omega (arith, begun, all_begins, bound)) in
+      omega (arith, stepped, all_steps, less, each_worth, most)
 
 -- Each actor has one operation under way at most.
 module _ (limits : Limits) (entries : List Entry) (run : IsRun limits entries) where
@@ -310,7 +312,7 @@ module _ (limits : Limits) (entries : List Entry) (run : IsRun limits entries) w
   one_end k (Step b s x None) at = sum_none (λ a. 0) limits.actors (λ i lt. refl)
   one_end k (Step b s x (Some r)) at = sum_one b limits.actors (actor_below limits entries run k b s x (Some r) at)
 
-  open_most : (n : ℕ) → count_by is_begin (take n entries) ≤ count_by is_end (take n entries) + limits.actors
+  pub open_most : (n : ℕ) → count_by is_begin (take n entries) ≤ count_by is_end (take n entries) + limits.actors
   open_most n =
       let begun : count_by is_begin (take n entries) ≡ tally (passes_in is_begin entries) 0 n = counted_taken is_begin entries n in
       let ended : count_by is_end (take n entries) ≡ tally (passes_in is_end entries) 0 n = counted_taken is_end entries n in
@@ -326,18 +328,22 @@ module _ (limits : Limits) (entries : List Entry) (run : IsRun limits entries) w
       omega (arith, begun, ended, all_begins, all_ends, less, both, ones)
 
 -- no more for each that was begun than for each that has ended and each actor
-by_ends : (limits : Limits) (steps begun ended : ℕ) → begun ≤ ended + limits.actors → steps ≤ cause_worth limits * (begun + limits.actors * (32 * begun + limits.rows + limits.pids))
-    → steps ≤ cause_worth limits * (ended + limits.actors + limits.actors * (32 * (ended + limits.actors) + limits.rows + limits.pids))
-by_ends limits steps begun ended most few =
+pub by_ends : (limits : Limits) (worth steps begun ended : ℕ) → begun ≤ ended + limits.actors → steps ≤ worth * (begun + limits.actors * (32 * begun + limits.rows + limits.pids))
+    → steps ≤ worth * (ended + limits.actors + limits.actors * (32 * (ended + limits.actors) + limits.rows + limits.pids))
+by_ends limits worth steps begun ended most few =
     let inner : limits.actors * (32 * begun + limits.rows + limits.pids) ≤ limits.actors * (32 * (ended + limits.actors) + limits.rows + limits.pids) = mul-le-mul_left limits.actors (omega arith) in
-    let outer : cause_worth limits * (begun + limits.actors * (32 * begun + limits.rows + limits.pids)) ≤ cause_worth limits * (ended + limits.actors + limits.actors * (32 * (ended + limits.actors) + limits.rows + limits.pids)) = mul-le-mul_left
-    (cause_worth limits) (omega (arith, inner)) in
+    let outer : worth * (begun + limits.actors * (32 * begun + limits.rows + limits.pids)) ≤ worth * (ended + limits.actors + limits.actors * (32 * (ended + limits.actors) + limits.rows + limits.pids)) = mul-le-mul_left
+    (worth) (omega (arith, inner)) in
     omega (arith, few, outer)
 
 pub lock_free : RunsAreLockFree
 lock_free limits entries run keeps direct changes = record {
-  few = λ n none. all_few limits entries run keeps direct n none changes;
+  few = λ n none. all_few limits entries run (cause_worth limits) n (pays n none) changes;
   ended =
-      λ n none. by_ends limits (count_by is_step (take n entries)) (count_by is_begin (take n entries)) (count_by is_end (take n entries))
-      (open_most limits entries run n) (all_few limits entries run keeps direct n none changes);
+      λ n none. by_ends limits (cause_worth limits) (count_by is_step (take n entries)) (count_by is_begin (take n entries)) (count_by is_end (take n entries))
+      (open_most limits entries run n) (all_few limits entries run (cause_worth limits) n (pays n none) changes);
 }
+  where
+    pays : (top : ℕ) → PlacesNoRemoval (take top entries) → (op : Operation) (n : ℕ) → n ≤ top → IsOperation entries op → IsOwnStep entries op n
+        → steps_from entries op.actor op.start n ≤ cause_worth limits * (tally (hinder limits entries op.actor) op.start (suc n - op.start) + 1)
+    pays top none op n le begun own = paid_by_hinder limits entries run keeps direct op begun n (none_before entries n top le none) own

@@ -6,3 +6,5 @@ pub mod ReadersAmong
 pub mod ReaderStates
 pub mod Readers
 pub mod Unhindered
+pub mod WritersAmong
+pub mod Writers

@@ -26,11 +26,11 @@ module _ (limits : Limits) (entries : List Entry) (state : IsState limits entrie
   memory = memory_of limits entries
 
   -- where a visit stands on its way
-  record OnItsWay (within : Limits) (r : Recalled) (visit : Visit) : Type 0 where
-    level : ℕ
-    low : Key
-    earlier : List ℕ
-    on_way : IsOnWay within k r visit level low earlier
+  pub record OnItsWay (within : Limits) (r : Recalled) (visit : Visit) : Type 0 where
+    pub level : ℕ
+    pub low : Key
+    pub earlier : List ℕ
+    pub on_way : IsOnWay within k r visit level low earlier
 
   way_of : (within : Limits) (key : Key) (goal : ReadGoal) (leg : Leg) (r : Recalled) (visit : Visit) → ShowsVisit within key goal leg k r visit → OnItsWay within r visit
   way_of within key goal (Down above) r visit v = record { level = v.level; low = v.low; earlier = v.earlier; on_way = v.seeks.on_way }
@@ -62,12 +62,12 @@ module _ (limits : Limits) (entries : List Entry) (state : IsState limits entrie
       first_same memory.rows w.memory.rows row is_left.0 content (subst (λ (c : List Record). IsChainFrom memory.rows row c) (sym rest) f.1) is_left.2 there
 
   -- a page that is being read
-  record Reading (visit : Visit) : Type 0 where
-    chain : List Record
-    left : ℕ
-    is_chain : IsChainOf w.memory visit.pid chain
-    is_left : IsLeft w.memory chain visit.part visit.state left
-    at_head : IsAtHead w.memory visit.pid visit.state
+  pub record Reading (visit : Visit) : Type 0 where
+    pub chain : List Record
+    pub left : ℕ
+    pub is_chain : IsChainOf w.memory visit.pid chain
+    pub is_left : IsLeft w.memory chain visit.part visit.state left
+    pub at_head : IsAtHead w.memory visit.pid visit.state
 
   at_visit : (leg : Leg) (goal : ReadGoal) (key : Key) (visit : Visit) (steps : ℕ)
       → StandsAt w leg goal key (Page visit) steps ⊎ SettledAt w leg goal (Page visit) steps → (visit.state ≡ Slot) ⊎ Reading visit
@@ -77,7 +77,7 @@ module _ (limits : Limits) (entries : List Entry) (state : IsState limits entrie
       inr (record { chain = v.page.chain; left = v.left; is_chain = subst (λ (n : ℕ). IsChainOf w.memory n v.page.chain) v.is_pid v.loose.stands.stands; is_left = v.is_left; at_head = v.at_head })
   at_visit leg goal key visit steps (inr (inr v)) = inl v.at_slot
 
-  visit_same : (within : Limits) (r : Recalled) (visit : Visit) → OnItsWay within r visit → (visit.state ≡ Slot) ⊎ Reading visit → (answer : Answer Record)
+  pub visit_same : (within : Limits) (r : Recalled) (visit : Visit) → OnItsWay within r visit → (visit.state ≡ Slot) ⊎ Reading visit → (answer : Answer Record)
       → (state : VisitState) → visit.state ≡ state → IsAnswer memory (seen.wanted_at visit.pid state) answer
       → IsAnswer w.memory (seen.wanted_at visit.pid state) answer
   visit_same within r visit o here answer Slot e is = is ∙ ap (λ (n : ℕ). Number n) (slot_same within r visit o)

@@ -109,7 +109,7 @@ module _ (limits : Limits) (entries : List Entry) (state : IsState limits entrie
     pub names : is_removed chain ≡ false → ChainNames state.owners chain
     pub stays : is_removed chain ≡ true → ((shared_part memory).slots pid ≡ Some head) ⊎ IsOut (state.owners.page pid) ((shared_part memory).slots pid)
 
-  was_read : (pid head : ℕ) → k.read.heads pid ≡ Some head → (chain : List Record) × WasRead pid head chain
+  pub was_read : (pid head : ℕ) → k.read.heads pid ≡ Some head → (chain : List Record) × WasRead pid head chain
   was_read pid head e =
       let h = subst (λ (o : Option ℕ). HeadFits state.owners (shared_part memory) (state.logs actor) pid o) e ((state.is_tree.sound actor).heads_fit pid) in
       (h.2.chain, record { is_chain = h.2.is_chain; fits = state.fitted head h.2.linked h.2.chain h.2.is_chain; reached = h.3; names = h.5; stays = h.4 })

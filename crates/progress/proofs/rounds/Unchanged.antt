@@ -123,34 +123,35 @@ module _ (limits : Limits) (entries : List Entry) (entry : Entry) (off : changes
         let before = phase_kept pid (phase_of (later.owners.page pid)) (λ e. tree_owned (later.owners.page pid) e h) (λ e. tree_free (later.owners.page pid) e h) now in
         in_tree_as (state.owners.page pid) (later.owners.page pid) (sym (state.only_phase pid (phase_of (later.owners.page pid)) before)) h
 
+    -- no exchange of the slot of a page of the tree wins
+    pub none_wins : (pid : ℕ) → IsInTree (state.owners.page pid) → (actor slot old new : ℕ) (reply : Option Reply) → entry ≡ Step actor (Exchange slot old new) (Whether true) reply → slot ≡ pid → ⊥
+    none_wins pid h actor slot old new reply is same =
+        let o = one_of limits grown later.run (length entries) actor (Exchange slot old new) (Whether true) (reply, slice_get-push entries entry ∙ ap Some is) in
+        let l = direct.links o.operation (length entries) slot old new o.begun o.took in
+        let memory : link_of (memory_of limits entries) slot old new ≡ Some l.0 = subst (λ (m : Memory). link_of m slot old new ≡ Some l.0) (memory_at_end limits entries entry) l.1 in
+        by_kind l.0 memory l.2
+      where
+        owned_not : IsInPhase limits grown (length entries) slot owned → ⊥
+        owned_not at =
+            let before = phase_before (length entries) slot owned (omega arith) at in
+            let is : owned ≡ phase_of (state.owners.page slot) = state.only_phase slot owned before in
+            tree_owned (state.owners.page slot) (sym is) (subst (λ (n : ℕ). IsInTree (state.owners.page n)) (sym same) h)
+
+        counted : (kind : Link) → link_of (memory_of limits entries) slot old new ≡ Some kind → is_change (Some kind) ≡ true → ⊥
+        counted kind at so =
+            let on : changes_tree (memory_of limits entries) entry ≡ true = ap (changes_tree (memory_of limits entries)) is ∙ ap is_change at ∙ so in
+            let both : true ≡ false = sym on ∙ off in
+            cc
+
+        by_kind : (kind : Link) → link_of (memory_of limits entries) slot old new ≡ Some kind → ((kind ≡ link.Ready) ⊎ (kind ≡ link.Undo) → IsInPhase limits grown (length entries) slot owned) → ⊥
+        by_kind link.Ready at own = owned_not (own (inl refl))
+        by_kind link.Undo at own = owned_not (own (inr refl))
+        by_kind kind at own = counted kind at refl
+
     -- the slot of a page of the tree stays
     pub slot_stays : (pid : ℕ) → IsInTree (state.owners.page pid) → 0 < pid → (memory_of limits grown).slots pid ≡ (memory_of limits entries).slots pid
     slot_stays pid h some = ap (λ (m : Memory). m.slots pid) (memory_of-push limits entries entry) ∙ by_entry entry refl
       where
-        by_won : (actor slot old new : ℕ) (reply : Option Reply) → entry ≡ Step actor (Exchange slot old new) (Whether true) reply → slot ≡ pid → ⊥
-        by_won actor slot old new reply is same =
-            let o = one_of limits grown later.run (length entries) actor (Exchange slot old new) (Whether true) (reply, slice_get-push entries entry ∙ ap Some is) in
-            let l = direct.links o.operation (length entries) slot old new o.begun o.took in
-            let memory : link_of (memory_of limits entries) slot old new ≡ Some l.0 = subst (λ (m : Memory). link_of m slot old new ≡ Some l.0) (memory_at_end limits entries entry) l.1 in
-            by_kind l.0 memory l.2
-          where
-            owned_not : IsInPhase limits grown (length entries) slot owned → ⊥
-            owned_not at =
-                let before = phase_before (length entries) slot owned (omega arith) at in
-                let is : owned ≡ phase_of (state.owners.page slot) = state.only_phase slot owned before in
-                tree_owned (state.owners.page slot) (sym is) (subst (λ (n : ℕ). IsInTree (state.owners.page n)) (sym same) h)
-
-            counted : (kind : Link) → link_of (memory_of limits entries) slot old new ≡ Some kind → is_change (Some kind) ≡ true → ⊥
-            counted kind at so =
-                let on : changes_tree (memory_of limits entries) entry ≡ true = ap (changes_tree (memory_of limits entries)) is ∙ ap is_change at ∙ so in
-                let both : true ≡ false = sym on ∙ off in
-                cc
-
-            by_kind : (kind : Link) → link_of (memory_of limits entries) slot old new ≡ Some kind → ((kind ≡ link.Ready) ⊎ (kind ≡ link.Undo) → IsInPhase limits grown (length entries) slot owned) → ⊥
-            by_kind link.Ready at own = owned_not (own (inl refl))
-            by_kind link.Undo at own = owned_not (own (inr refl))
-            by_kind kind at own = counted kind at refl
-
         by_entry : (e : Entry) → entry ≡ e → (memory_after_entry (memory_of limits entries) e).slots pid ≡ (memory_of limits entries).slots pid
         by_entry (Begin actor command) is = refl
         by_entry (Step actor (Exchange slot old new) answer reply) is = elim (eqb_tells ((memory_of limits entries).slots slot) old) [
@@ -160,7 +161,7 @@ module _ (limits : Limits) (entries : List Entry) (entry : Entry) (off : changes
             | inl same ↦
                 let told : IsNext limits entries (Step actor (Exchange slot old new) answer reply) = subst (λ (x : Entry). IsNext limits entries x) is next in
                 let yes : answer ≡ Whether true = told.2 ∙ ap Whether won.0 in
-                absurd (by_won actor slot old new reply (is ∙ ap (λ (a : Answer Record). Step actor (Exchange slot old new) a reply) yes) (sym same.1))
+                absurd (none_wins pid h actor slot old new reply (is ∙ ap (λ (a : Answer Record). Step actor (Exchange slot old new) a reply) yes) (sym same.1))
           ]
         ]
         by_entry (Step actor step answer reply) is = refl
