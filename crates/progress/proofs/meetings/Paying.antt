@@ -93,7 +93,7 @@ each_at P (c ∷ cs) d each (inl here) = subst P (sym here) each.0
 each_at P (c ∷ cs) d each (inr there) = each_at P cs d each.1 there
 
 all_of : (P : ℕ → Type 0) (cs : List ℕ) → Each P cs → All P cs
-all_of P cs each = All-from_recursion cs (by_list cs each)
+all_of P cs each = All-from_recursion P cs (by_list cs each)
   where
     by_list : (cs : List ℕ) → Each P cs → AllByRecursion P cs
     by_list [] each = tt
@@ -155,11 +155,11 @@ module _ (limits : Limits) (entries : List Entry) where
       let many = f.as_many in
       omega (arith, most, many)
     where
-      by_list : (cs : List ℕ) → All (λ place. (m ≤ place) × (place ≤ n) × Happens limits entries place ChangesTree) cs → Each (λ c. (m ≤ c) × (c ≤ n) × (is_change limits entries c ≡ true)) cs
+      by_list : (cs : List ℕ) → All (λ place. (m ≤ place) × (place ≤ n) × Happens limits entries place ChangesTree) cs → Each (λ c. (m ≤ c) × ((c ≤ n) × (is_change limits entries c ≡ true))) cs
       by_list [] all = tt
       by_list (c ∷ cs) all =
           let here = All-head (λ place. (m ≤ place) × (place ≤ n) × Happens limits entries place ChangesTree) c cs all in
-          ((here.0, here.1, happens_is c here.2), by_list cs (All-tail (λ place. (m ≤ place) × (place ≤ n) × Happens limits entries place ChangesTree) c cs all))
+          ((here.0, (here.1, happens_is c here.2)), by_list cs (All-tail (λ place. (m ≤ place) × (place ≤ n) × Happens limits entries place ChangesTree) c cs all))
 
   module _ (run : IsRun limits entries) (direct : IsDirect limits entries) (op : Operation) (begun : IsOperation entries op) (n : ℕ) where
     abbrev IsCauseBefore : ℕ → Type 0
@@ -219,8 +219,8 @@ module _ (limits : Limits) (entries : List Entry) where
     few_causes cs up all =
         let p = parted (told op.actor) IsCauseBefore cs (all_distinct cs up) all in
         let f = from_on op.start (λ c. (c ≤ n) × (told op.actor c ≡ true)) p.on p.on_apart
-        (each_mapped (λ c. IsCauseBefore c × (told op.actor c ≡ true)) (λ c. (op.start ≤ c) × (c ≤ n) × (told op.actor c ≡ true)) p.on
-        (λ c h. ((let after = begun_after c h.0.1 in omega (arith, after)), h.0.0, h.1)) p.on_each) in
+        (each_mapped (λ c. IsCauseBefore c × (told op.actor c ≡ true)) (λ c. (op.start ≤ c) × ((c ≤ n) × (told op.actor c ≡ true))) p.on
+        (λ c h. ((let after = begun_after c h.0.1 in omega (arith, after)), (h.0.0, h.1))) p.on_each) in
         let on = tally_most (told op.actor) op.start (suc n - op.start) f.js f.apart
         (each_mapped (λ j. (op.start + j ≤ n) × (told op.actor (op.start + j) ≡ true)) (λ j. (j < suc n - op.start) × (told op.actor (op.start + j) ≡ true)) f.js
         (λ j h. ((let le : op.start + j ≤ n = h.0 in omega arith), h.1)) f.each) in
@@ -260,14 +260,15 @@ module _ (limits : Limits) (entries : List Entry) where
     paid_writer seldom writer own =
         let h = direct.few op n begun own in
         let causes = writer_causes seldom writer own h.0 h.1 h.2 in
-        scaled (steps_from entries op.actor op.start n) (cause_worth limits) (length h.0 + 1) (tally (hinder limits entries op.actor) op.start (suc n - op.start) + 1) (one_memory limits + 3) causes h.3
+        scaled (steps_from entries op.actor op.start n) (cause_worth limits) (length h.0 + 1) (tally (hinder limits entries op.actor) op.start (suc n - op.start) + 1) (one_memory limits) causes h.3
       where
-        scaled : (steps worth causes hinders more : ℕ) → causes ≤ (21 + 1) * hinders → steps ≤ worth * causes → steps ≤ (worth * (21 + 1) + more) * hinders
+        scaled : (steps worth causes hinders more : ℕ) → causes ≤ (21 + 1) * hinders → steps ≤ worth * causes → steps ≤ (worth * (21 + 1) + more + 3) * hinders
         scaled steps worth causes hinders more few paid =
             let grown : worth * causes ≤ worth * ((21 + 1) * hinders) = mul-le-mul_left worth few in
             let assoc : worth * ((21 + 1) * hinders) ≡ worth * (21 + 1) * hinders = sym (mul_assoc worth (21 + 1) hinders) in
-            let parts : (worth * (21 + 1) + more) * hinders ≡ worth * (21 + 1) * hinders + more * hinders = add-mul (worth * (21 + 1)) more hinders in
-            omega (arith, paid, grown, assoc, parts)
+            let parts : (worth * (21 + 1) + more + 3) * hinders ≡ (worth * (21 + 1) + more) * hinders + 3 * hinders = add-mul (worth * (21 + 1) + more) 3 hinders in
+            let again : (worth * (21 + 1) + more) * hinders ≡ worth * (21 + 1) * hinders + more * hinders = add-mul (worth * (21 + 1)) more hinders in
+            omega (arith, paid, grown, assoc, parts, again)
 
     paid_reader : ReadersEnd limits entries → is_writer op.command ≡ false → IsOwnStep entries op n
         → steps_from entries op.actor op.start n ≤ hindrance_worth limits * (tally (hinder limits entries op.actor) op.start (suc n - op.start) + 1)
