@@ -81,11 +81,11 @@ meets (Slot slot) (Number number) = number == 0
 meets (Exchange slot old new) (Whether won) = not won
 meets step answer = false
 
--- The exchange that decides: the actor has read what it expects, last of all that it read in the slot.
+-- The exchange that decides: what it expects, if it is a row or a PID, the actor has read last in the slot.
 pub record Decides (k : Knowledge) (slot expected : ℕ) (step : StepOf Record) : Type 0 where
   pub number : ℕ
   pub is : step ≡ Exchange slot expected number
-  pub read : (slot ≡ 0) ⊎ (k.read.heads slot ≡ Some expected)
+  pub read : (slot ≡ 0) ⊎ (expected ≡ 0) ⊎ (k.read.heads slot ≡ Some expected)
 
 -- Before that exchange was taken this step is it; afterwards none loses.
 abbrev pub HasDecided : Knowledge → ℕ → ℕ → Bool → StepOf Record → Answer Record → Type 0

@@ -133,8 +133,8 @@ module _ (limits : Limits) (actor : ℕ) where
 
       -- an exchange that expects what the slot holds would change the tree
       no_loss : (slot expected : ℕ) (asked : StepOf Record) (answer : Answer Record) → entry ≡ Step actor asked answer None → w.memory.slots slot ≡ expected
-          → Decides (knows entries actor) slot expected asked → ⊥
-      no_loss slot expected asked answer is holds d = by_read d.read
+          → (slot ≡ 0) ⊎ (0 < expected) → Decides (knows entries actor) slot expected asked → ⊥
+      no_loss slot expected asked answer is holds over d = by_read d.read
         where
           entry_is : entry ≡ Step actor (Exchange slot expected d.number) answer None
           entry_is = is ∙ ap (λ (s : StepOf Record). Step actor s answer None) d.is
@@ -162,9 +162,10 @@ module _ (limits : Limits) (actor : ℕ) where
               let has : (memory_of limits entries).slots slot ≡ expected = same.slots slot some in_tree ∙ holds in
               none_wins limits entries entry off state next later direct slot in_tree actor slot expected d.number None (wins has) refl
 
-          by_read : (slot ≡ 0) ⊎ ((knows entries actor).read.heads slot ≡ Some expected) → ⊥
+          by_read : (slot ≡ 0) ⊎ (expected ≡ 0) ⊎ ((knows entries actor).read.heads slot ≡ Some expected) → ⊥
           by_read (inl zeroth) = at_root zeroth
-          by_read (inr read) = elim (eqb_tells slot 0) [ inl zeroth ↦ at_root zeroth.1 | inr apart ↦ at_page read (let ne = apart.1 in omega (arith, ne)) ]
+          by_read (inr (inl none)) = elim over [ inl zeroth ↦ at_root zeroth | inr some ↦ omega (arith, none, some) ]
+          by_read (inr (inr read)) = elim (eqb_tells slot 0) [ inl zeroth ↦ at_root zeroth.1 | inr apart ↦ at_page read (let ne = apart.1 in omega (arith, ne)) ]
 
       after_change : (new : WriterState) (most : ℕ) → 18 ≤ most → AfterChange new → Stands w new most
       after_change new most few after = elim after [
@@ -175,7 +176,7 @@ module _ (limits : Limits) (actor : ℕ) where
       decided : (slot expected : ℕ) (taken : Bool) (new : WriterState) (most : ℕ) (asked : StepOf Record) (answer : Answer Record) → entry ≡ Step actor asked answer None
           → Stands w (AtChange slot expected taken) most → HasDecided (knows entries actor) slot expected taken asked answer → AfterChange new → Left_with new most asked answer
       decided slot expected taken new most asked answer is stands on after = elim stands [
-        | inl holds ↦ absurd (no_loss slot expected asked answer is holds.1 (subst (λ (t : Bool). HasDecided (knows entries actor) slot expected t asked answer) holds.0 on))
+        | inl holds ↦ absurd (no_loss slot expected asked answer is holds.1 holds.2 (subst (λ (t : Bool). HasDecided (knows entries actor) slot expected t asked answer) holds.0 on))
         | inr more ↦ elim more [
           | inl was ↦
               let calm : meets asked answer ≡ false = subst (λ (t : Bool). HasDecided (knows entries actor) slot expected t asked answer) was.0 on in

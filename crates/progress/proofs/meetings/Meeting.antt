@@ -136,13 +136,17 @@ module _ (w : Standing) where
   abbrev pub MeetsFew : WriteRound → ℕ → Type 0
   MeetsFew round most = StandsAt round.goal round.key round.floor round.parent round.left round.state most
 
+  -- what is due is over a row, or slot 0's, as it was read
+  abbrev pub IsFresh : Plan → Type 0
+  IsFresh plan = (w.memory.slots (slot_of plan) ≡ head_of plan) × ((slot_of plan ≡ 0) ⊎ (0 < head_of plan))
+
   -- what a round makes of a page
   abbrev pub Then : WriteRound → Option WriteEnd → ℕ → Type 0
   Then new None most = MeetsFew new most
   Then new (Some end.Again) most = 18 ≤ most
   Then new (Some end.Done) most = 18 ≤ most
   Then new (Some (end.Removed removed)) most = Begins (Left removed.pid) (low_in removed.chain) (level_in removed.chain) most
-  Then new (Some (end.Due plan after)) most = w.memory.slots (slot_of plan) ≡ head_of plan
+  Then new (Some (end.Due plan after)) most = IsFresh plan
   Then new (Some (end.Leaf parent leaf)) most = (18 ≤ most) × IsAsRead leaf × IfSome parent IsAsRead
 
   -- on the way to a leaf, or to the left of a page
@@ -377,15 +381,15 @@ module _ (w : Standing) where
         let a = on_way old.goal old.key old.floor old.parent old.left level (live version) rest seeks at in
         (over_of old.goal parent a.over e).as_read
 
-    by_plan : (plan other : Plan) → plan ≡ other → w.memory.slots (slot_of other) ≡ head_of other → w.memory.slots (slot_of plan) ≡ head_of plan
-    by_plan plan other e is = subst (λ (p : Plan). w.memory.slots (slot_of p) ≡ head_of p) (sym e) is
+    by_plan : (plan other : Plan) → plan ≡ other → IsFresh other → IsFresh plan
+    by_plan plan other e is = subst IsFresh (sym e) is
 
-    due_is : (change : DueChange) (plan : Plan) (after : After) → IsPlanned change plan after → EndsBy old version change → w.memory.slots (slot_of plan) ≡ head_of plan
-    due_is (end.Consolidate page base) plan after planned due = by_plan plan _ planned.0 (as_over page due.is)
+    due_is : (change : DueChange) (plan : Plan) (after : After) → IsPlanned change plan after → EndsBy old version change → IsFresh plan
+    due_is (end.Consolidate page base) plan after planned due = by_plan plan _ planned.0 (as_over page due.is, inr page.is_row.0)
     due_is (end.Split page split) plan after planned due =
-        by_plan plan _ planned.0 (ap (λ (v : Version). w.memory.slots v.pid) due.is ∙ as_read ∙ sym due.plan_due.over)
-    due_is (end.Term parent term) plan after planned due = by_plan plan _ planned.0 (parent_read parent due.seeks due.above)
-    due_is (end.Root left root) plan after planned due = by_plan plan _ planned.0 (root_read left due.seeks due.above due.aside due.plan.can.lowest)
+        by_plan plan _ planned.0 (ap (λ (v : Version). w.memory.slots v.pid) due.is ∙ as_read ∙ sym due.plan_due.over, inr (rw due.plan_due.over version.is_row.0))
+    due_is (end.Term parent term) plan after planned due = by_plan plan _ planned.0 (parent_read parent due.seeks due.above, inr parent.is_row.0)
+    due_is (end.Root left root) plan after planned due = by_plan plan _ planned.0 (root_read left due.seeks due.above due.aside due.plan.can.lowest, inl refl)
       where
         root_read : (left : Version) → SeeksLeaf old.goal → old.parent ≡ None → old.left ≡ Some left → low_in left.chain ≡ [] → w.memory.slots 0 ≡ left.pid
         root_read left seeks above aside_is lowest =
@@ -400,15 +404,15 @@ module _ (w : Standing) where
             let same = w.tree.one w.tree.top w.tree.root.0 (live left) [] w.tree.root.1 on root first in
             sym w.tree.root.2 ∙ ap (λ (p : LivePage). p.pid) same
     due_is (end.Tend parent page upkeep) plan after planned due = elim due.due.due [
-      | inl removes ↦ by_plan plan _ (planned.0 ∙ removes.is) as_read
-      | inr holds ↦ by_plan plan _ (planned.0 ∙ holds.is) (parent_read parent due.here.seeks due.tended.above)
+      | inl removes ↦ by_plan plan _ (planned.0 ∙ removes.is) (as_read, inr version.is_row.0)
+      | inr holds ↦ by_plan plan _ (planned.0 ∙ holds.is) (parent_read parent due.here.seeks due.tended.above, inr parent.is_row.0)
     ]
     due_is (end.Merge left removed merge) plan after planned due =
         let here : At (Merge left) old.key old.floor old.parent old.left level (live version) rest = subst (λ (o : WriteGoal). At o old.key old.floor old.parent old.left level (live version) rest) due.goal at in
-        by_plan plan _ planned.0 here.0
+        by_plan plan _ planned.0 (here.0, inr left.is_row.0)
     due_is (end.Unterm parent left removed unterm) plan after planned due =
         let here : At (Unterm parent left) old.key old.floor old.parent old.left level (live version) rest = subst (λ (o : WriteGoal). At o old.key old.floor old.parent old.left level (live version) rest) due.goal at in
-        by_plan plan _ planned.0 here.0
+        by_plan plan _ planned.0 (here.0, inr parent.is_row.0)
 
     at_leaf : (parent : Option Version) (leaf : Version) → EndsFine old version parent leaf → (18 ≤ rest) × IsAsRead leaf × IfSome parent IsAsRead
     at_leaf parent leaf g =

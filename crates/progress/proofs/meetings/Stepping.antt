@@ -173,7 +173,7 @@ module _ (w : Standing) where
 
   abbrev pub Stands : WriterState → ℕ → Type 0
   Stands (InRound round) most = MeetsFew w round most ⊎ IsStale round.state most
-  Stands (AtChange slot expected taken) most = ((taken ≡ false) × (w.memory.slots slot ≡ expected)) ⊎ ((taken ≡ true) × (18 ≤ most)) ⊎ (19 ≤ most)
+  Stands (AtChange slot expected taken) most = ((taken ≡ false) × (w.memory.slots slot ≡ expected) × ((slot ≡ 0) ⊎ (0 < expected))) ⊎ ((taken ≡ true) × (18 ≤ most)) ⊎ (19 ≤ most)
 
   begun_at : (goal : WriteGoal) (key : Key) (floor : ℕ) (above aside : Option Version) (state : WayState) (most : ℕ) → goal ≡ Seek → above ≡ None → aside ≡ None → state ≡ Root → 18 ≤ most
       → StandsAt w goal key floor above aside state most
@@ -185,7 +185,7 @@ module _ (w : Standing) where
       (inl (begun_at b.round.goal b.round.key b.round.floor b.round.parent b.round.left b.round.state most b.seeks b.above b.aside b.first few))
 
   pub over_read : (version : Version) (new : WriterState) (most : ℕ) → IsAsRead w version → new ≡ AtChange version.pid version.head false → Stands new most
-  over_read version new most as_read e = subst (λ (s : WriterState). Stands s most) (sym e) (inl (refl, as_read))
+  over_read version new most as_read e = subst (λ (s : WriterState). Stands s most) (sym e) (inl (refl, as_read, inr version.is_row.0))
 
   -- what follows the end of such a round
   pub fresh_after : (next : WriteRound) (result : Option WriteEnd) (new : WriterState) (left : ℕ) → Then w next result left → AfterRound next result new → Stands new left
@@ -193,7 +193,7 @@ module _ (w : Standing) where
   fresh_after next (Some end.Again) new left t goes = begins_few new left goes t
   fresh_after next (Some end.Done) new left t goes = begins_few new left goes t
   fresh_after next (Some (end.Removed removed)) new left t goes = subst (λ (s : WriterState). Stands s left) (sym goes.1) (inl (refl, refl, t))
-  fresh_after next (Some (end.Due plan after)) new left t goes = subst (λ (s : WriterState). Stands s left) (sym goes) (inl (refl, t))
+  fresh_after next (Some (end.Due plan after)) new left t goes = subst (λ (s : WriterState). Stands s left) (sym goes) (inl (refl, t.0, t.1))
   fresh_after next (Some (end.Leaf parent leaf)) new left t goes = elim goes [
     | inl begins ↦ begins_few new left begins t.0
     | inr more ↦ elim more [
