@@ -1,5 +1,5 @@
 -- A change of the tree: the step that it wants, what its actor knows meanwhile, and how it ends.
-use Rattle.std.specs.Prelude.{◌≡◌, ◌<◌, ◌≤◌, ◌⊎◌, ℕ, length, Option, Some, None, true, false, is_some, ⊤}
+use Rattle.std.specs.Prelude.{◌≡◌, ◌<◌, ◌≤◌, ◌⊎◌, ℕ, length, Bool, Option, Some, None, true, false, is_some, ⊤}
 use Rattle.std.specs.Option.{ForSome}
 use Rattle.tree_limits.specs.declared.limits.Limits.{Limits}
 use Rattle.bw_model.specs.declared.step.Step.{Step as StepOf}
@@ -87,6 +87,23 @@ IsOfChange (step.TakeRow row) = ⊤
 IsOfChange (step.Place row content) = ⊤
 IsOfChange (step.Exchange slot old new) = ⊤
 IsOfChange asked = ⊥
+
+-- whether the exchange that decides was taken: it lost, and an own page's slot is emptied again, or it won, and a removed page's slot is emptied
+abbrev pub has_decided : State → Bool
+has_decided Undo = true
+has_decided Clear = true
+has_decided state = false
+
+-- that exchange is taken now, or was
+abbrev pub CanDecide : State → Type 0
+CanDecide state = (state ≡ Link) ⊎ (has_decided state ≡ true)
+
+-- A change comes to where that exchange was taken exactly by that exchange, and by it alone to its end but for want of a number.
+abbrev pub EndsByDeciding : State → State → Option End → Type 0
+EndsByDeciding old new None = (has_decided new ≡ true → CanDecide old) × (CanDecide old → has_decided new ≡ true)
+EndsByDeciding old new (Some Won) = CanDecide old
+EndsByDeciding old new (Some Lost) = CanDecide old
+EndsByDeciding old new (Some (Full kind)) = ⊤
 
 -- the change, gone to a state
 abbrev pub at : Change → State → Change

@@ -10,7 +10,7 @@ ghost use Rattle.traces.specs.discipline.Knowledge.{Knowledge, learn};
 ghost use Rattle.traces.specs.discipline.Recalled.{Recalled, WasHead};
 ghost use Rattle.change_machine.specs.Bounded.{IsApart, IsPidFrom, Recalls, Spends, few_steps, pid_taken, steps_left};
 ghost use Rattle.change_machine.specs.Changes.{Follows, IsMade, IsMadeAt, IsOfChange, IsSameChange, IsSoundChange, IsSpellablePlan, IsTarget, FitsChange};
-ghost use Rattle.change_machine.specs.Changes.{KeepsSpare, MayChange, Shows, at, base_row, linked_number, placed_in, wanted_step};
+ghost use Rattle.change_machine.specs.Changes.{EndsByDeciding, KeepsSpare, MayChange, Shows, has_decided, at, base_row, linked_number, placed_in, wanted_step};
 ghost use Rattle.structure_changes.specs.Plans.{head_of, slot_of};
 ghost use Rattle.change_machine.specs.Moves.{after_ready, decided_by, first_state, next_move, moved_by};
 ghost use Rattle.change_machine.specs.Outs.{TakesFresh, limbo_after};
@@ -105,6 +105,7 @@ impl Change {
         ensures plan { self.new.plan ≡ plan.old }
         ensures recalls { (r : Recalled) → WasHead r (slot_of plan.old) (head_of plan.old) → IsApart plan.old spares.now.pid → Recalls self.new spares.now r }
         ensures few { (after : ℕ) → steps_left after self.new spares.now ≤ few_steps limits.now }
+        ensures first { has_decided self.new.state ≡ false }
     {
         self.limits = *limits;
         self.state = first_state(limits, plan, spares);
@@ -163,6 +164,7 @@ impl Change {
         ensures same { IsSameChange self.old self.new }
         ensures pid { IsPidFrom spares.old.pid (pid_taken (wanted_step self.old spares.old) (answer_of told)) spares.new.pid }
         ensures spends { Spends self.old spares.old (answer_of told) self.new spares.new result }
+        ensures decides { EndsByDeciding self.old.state self.new.state result }
         ensures lowest { (kind : Kind) (word bits : ℕ) (whole : Bool) → self.old.state ≡ State.Taking (Taking.Bits kind word whole) → told ≡ Told.Number bits
             → 0 < bits → self.new.state ≡ State.Taking (Taking.Take kind (64 * word + trailing_zeros w64 bits) whole) }
         ensures again { (kind : Kind) (number : ℕ) (whole : Bool) → self.old.state ≡ State.Taking (Taking.Take kind number whole) → told ≡ Told.Whether false

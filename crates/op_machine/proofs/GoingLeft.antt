@@ -1,19 +1,19 @@
 -- An operation that has made of an answer what its round makes of it, and of the round's end what follows, goes to the left of a removed page.
-use Rattle.op_machine.proofs.Words.{◌≡◌, ◌∙◌, ◌<◌, inl, inr, ℕ, List, Bool, true, false, Option, Some, None, refl, sym, ap, subst, arith, Answer, Record, next_row, is_removed, level_in}
-use Rattle.op_machine.proofs.Words.{Version, WriteGoal, ReadEnd, Sees, DueChange, WriteEnd, is_changing, Task}
+use Rattle.op_machine.proofs.Words.{◌≡◌, ◌∙◌, inl, inr, ℕ, List, Bool, true, false, Option, Some, None, refl, sym, ap, subst, arith, Answer, Record, next_row, is_removed}
+use Rattle.op_machine.proofs.Words.{Version, WriteGoal, ReadEnd, Sees, DueChange, WriteEnd, Task}
 use Rattle.std.specs.Coded.{le_prop}
 use Rattle.bw_model.specs.declared.step.Answer.TheVariants as answer
 use Rattle.deltas.specs.Spellable.{IsPid, IsRow}
 use Rattle.round_model.specs.Courses as goal
 use Rattle.round_model.specs.Descents.{Descent, Finds, Page, Responds as Moves, Root, WayState}
 use Rattle.round_model.specs.ReadEnds as read_end
-use Rattle.round_model.specs.ReadLegs.{IsPlain, Leg, Round, above_of}
+use Rattle.round_model.specs.ReadLegs.{IsPlain, Round, above_of}
 use Rattle.round_model.specs.ReadRounds.{ReadsForTheSame, ReadRound, TreatsRead, reading}
 use Rattle.round_model.specs.Visits.{Row, Sight, Slot, Empty, Visit, VisitState, Whole}
 use Rattle.round_model.specs.WriteEnds as write_end
 use Rattle.round_model.specs.WriteResponses.{EndsBy, TreatsWrite, writing}
 use Rattle.round_model.specs.WriteRounds.{SeeksLeaf, WriteRound}
-use Rattle.op_machine.specs.machine.GoesLeft.{GoesLeft, MeetsReading, MeetsWriting, TurnsLeft, first_read, read_left_of, write_left_of}
+use Rattle.op_machine.specs.machine.GoesLeft.{GoesLeft, TurnsLeft, write_left_of}
 use Rattle.op_machine.specs.machine.RoundSteps.{AfterReading, AfterWriting, StepsInRound, StepsReading, StepsWriting}
 use Rattle.op_machine.specs.machine.States.{State, Begun, Epoch, Enter, Read, Write, Change, Leave}
 
@@ -187,13 +187,3 @@ goes_left task (Read round) told new steps = read_left task round told new steps
 goes_left task (Write round) told new steps = write_left task round told new steps
 goes_left task (Change now then) told new steps = tt
 goes_left task (Leave reply lacks) told new steps = tt
-
--- an operation whose change is under way is in no round
-pub in_change : (task : Task) (old : State) (told : Answer Record) (new : State) → is_changing old ≡ true → StepsInRound task old told new
-in_change task (Change now then) told new is = tt
-in_change task Begun told new is = cc
-in_change task Epoch told new is = cc
-in_change task (Enter epoch) told new is = cc
-in_change task (Read round) told new is = cc
-in_change task (Write round) told new is = cc
-in_change task (Leave reply lacks) told new is = cc

@@ -1,5 +1,6 @@
 pub mod ActorGoing
 pub mod ActorSpending
+pub mod ChangeSteps
 pub mod Changing
 pub mod Commands
 pub mod Dues

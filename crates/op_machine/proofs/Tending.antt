@@ -7,9 +7,11 @@ use Rattle.traces.specs.chain.Fitted.{IsPageChain}
 use Rattle.round_model.specs.WriteRounds.{IsTendEnd, IsUpper, WriteRound}
 use Rattle.change_machine.specs.Changes.{IsSpellablePlan, IsTarget, MayInstall}
 use Rattle.structure_changes.specs.Holds.{IsHoldPlan}
+use Rattle.structure_changes.specs.Plans.{head_of, slot_of}
 use Rattle.structure_changes.specs.Removals.{IsRemovePlan}
 use Rattle.structure_changes.specs.Upkeep.{IsUpkeep}
 use Rattle.op_machine.specs.machine.Errands.{tends_of}
+use Rattle.op_machine.specs.machine.RoundSteps.{IsOverLeaf}
 use Rattle.op_machine.specs.machine.Upkeep.{IsUpkeepFor, tidies}
 use Rattle.op_machine.specs.declared.then.Then.TheVariants.{After}
 use Rattle.structure_changes.specs.declared.after.After.TheVariants.{Round}
@@ -75,3 +77,11 @@ pub plans_for : (limits : Limits) (k : Knowledge) (r : Recalled) (command : Comm
     → IsUpkeepFor command parent leaf plan → IsAlive limits k r leaf → IfSome parent (IsUpper limits k r leaf) → IsTarget limits plan × IsSpellablePlan plan
 plans_for limits k r command None leaf plan h alive above = absurd h
 plans_for limits k r command (Some parent) leaf plan h alive above = plans_there limits k r parent leaf plan alive above.page h.1
+
+-- what is due at a small leaf is over it, or over the page above it
+pub upkeep_over : (command : Command) (parent : Option Version) (leaf : Version) (plan : Plan) → IsUpkeepFor command parent leaf plan → IsOverLeaf parent leaf plan
+upkeep_over command None leaf plan h = absurd h
+upkeep_over command (Some parent) leaf plan h = elim h.1.due [
+  | inl removes ↦ inl (ap slot_of removes.is, ap head_of removes.is)
+  | inr holds ↦ inr (parent, refl, (ap slot_of holds.is, ap head_of holds.is))
+]

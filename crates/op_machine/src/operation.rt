@@ -12,6 +12,7 @@ ghost use Rattle.traces.specs.discipline.Useful.{IsUseful};
 ghost use Rattle.op_machine.specs.theorem.Halves.{IsHalved};
 ghost use Rattle.traces.specs.trace.Within.{IsWithin};
 ghost use Rattle.deltas.specs.declared.record.Record.{Record as RecordOf};
+ghost use Rattle.change_machine.specs.Changes.{EndsByDeciding};
 ghost use Rattle.epochs.specs.Limbo.{Limbo as LimboSeen};
 ghost use Rattle.op_machine.specs.machine.Hands.{Hand as HandSeen};
 ghost use Rattle.op_machine.specs.machine.InPlace.{IsOpShown, Takes, Wants};
@@ -351,6 +352,8 @@ fn ended<R: Rows, A: Allocator>(
         → FitsLast task.limits k (wanted_at hand.old.spares (state_of places.old)) (answer_of told) → AreKept task.limits task.actor hand.old.limbo k.limbo
         → AreKept task.limits task.actor hand.new.limbo (learn_last k (wanted_at hand.old.spares (state_of places.old)) (answer_of told)).limbo }
     ensures only { places.new ≡ record places.old { change = places.new.change } }
+    ensures plan { places.new.change.plan ≡ places.old.change.plan }
+    ensures decides { EndsByDeciding places.old.change.state places.new.change.state result }
 {
     match places.change_next(&mut hand.spares, told) {
         None => None,

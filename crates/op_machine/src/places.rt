@@ -23,6 +23,8 @@ ghost use Rattle.round_model.specs.Descents.{Root};
 ghost use Rattle.round_model.specs.ReadGoals as goal;
 ghost use Rattle.change_machine.specs.Changes.{IsSpellablePlan, IsTarget};
 ghost use Rattle.change_machine.specs.Spares.{HaveRoom};
+ghost use Rattle.change_machine.specs.Changes.{EndsByDeciding};
+ghost use Rattle.op_machine.specs.machine.RoundSteps.{BeginsPlan};
 ghost use Rattle.op_machine.specs.machine.Bounded.{few_changes, left_at};
 ghost use Rattle.op_machine.specs.machine.Outcomes.{IsToldAt, UnlinksAfter, change_out, has_begun, is_changing, lacks_at};
 ghost use Rattle.op_machine.specs.machine.Places.{HaveLimits, ReadsOn, WritesOn, ended_with, leaf_read, left_round_of, state_of};
@@ -277,6 +279,7 @@ impl<R: Rows, A: Allocator> Places<R, A> {
         ensures asks { IsSome (wanted_at spares.now (state_of self.new)) }
         ensures reader { self.new.reader ≡ self.old.reader }
         ensures writer { self.new.writer ≡ self.old.writer }
+        ensures begins { BeginsPlan plan.old (state_of self.new) }
     {
         self.change.begin(task.limits(), spares, plan);
         self.then = then;
@@ -386,6 +389,8 @@ impl<R: Rows, A: Allocator> Places<R, A> {
             → FitsLast task.limits k (wanted_at spares.old (state_of self.old)) (answer_of told)
             → UnlinksAfter task.limits k (ended_with self.old.then result) (learn_last k (wanted_at spares.old (state_of self.old)) (answer_of told)).limbo }
         ensures only { self.new ≡ record self.old { change = self.new.change } }
+        ensures plan { self.new.change.plan ≡ self.old.change.plan }
+        ensures decides { EndsByDeciding self.old.change.state self.new.change.state result }
     {
         self.change.next(spares, told)
     }

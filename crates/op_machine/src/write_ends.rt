@@ -1,5 +1,6 @@
 //! What an operation makes of the end of a writer's round, where its pages stand, and of the end of a change.
-ghost use Rattle.std.specs.Prelude.{◌≡◌, ◌≤◌, ◌+◌, ◌-◌, [], IfSome, Option, Some, IsSome, MatchOption, length, take};
+ghost use Rattle.std.specs.Prelude.{◌≡◌, ◌≤◌, ◌+◌, ◌-◌, [], true, IfSome, Option, Some, IsSome, MatchOption, length, take};
+ghost use Rattle.bw_model.specs.Replies.{is_writer};
 ghost use Rattle.traces.specs.discipline.Knowledge.{Knowledge};
 ghost use Rattle.traces.specs.discipline.Recalled.{Recalled};
 ghost use Rattle.round_model.specs.Machines.{AreThere};
@@ -10,7 +11,7 @@ ghost use Rattle.op_machine.specs.machine.Brings.{errands_after};
 ghost use Rattle.op_machine.specs.machine.Outcomes as Outcome;
 ghost use Rattle.op_machine.specs.machine.Outcomes.{FacesChanged, FacesWritten, IsAtLeaf, IsAtLeafBelow};
 ghost use Rattle.op_machine.specs.machine.Places.{HaveLimits, state_of};
-ghost use Rattle.op_machine.specs.machine.RoundSteps.{AfterWriting};
+ghost use Rattle.op_machine.specs.machine.RoundSteps.{AfterChanging, AfterLeaf, AfterWriting, BeginsPlan};
 ghost use Rattle.op_machine.specs.machine.Shows.{ShowsState, wanted_at};
 ghost use Rattle.op_machine.specs.machine.Tasks.{IsSameTask};
 ghost use Rattle.op_machine.specs.machine.Upkeep.{IsIdleFor, IsUpkeepFor};
@@ -78,6 +79,7 @@ impl Task {
         ensures same { IsSameTask self.old self.new }
         ensures errands { self.new.errands ≡ take (length self.old.errands - 1) self.old.errands }
         ensures have { HaveLimits self.new.limits places.new }
+        ensures goes { AfterLeaf places.old.writer.round.parent places.old.writer.page (state_of places.new) }
     {
         match self.errand() {
             None => self.tend_leaf(spares, places, rows, pass),
@@ -105,6 +107,7 @@ impl Task {
         ensures few { (r : Recalled) → left_at self.now.limits r spares.now (state_of places.new) ≤ few_changes self.now.limits + 1 }
         ensures asks { IsSome (wanted_at spares.now (state_of places.new)) }
         ensures have { HaveLimits self.now.limits places.new }
+        ensures goes { AfterLeaf places.old.writer.round.parent places.old.writer.page (state_of places.new) }
     {
         plans_may_be_linked();
         match self.upkeep_at(places.writer(), rows, pass) {
@@ -157,6 +160,7 @@ impl Task {
         ensures few { (r : Recalled) → left_at self.now.limits r spares.now (state_of places.new) ≤ few_changes self.now.limits + 1 }
         ensures asks { IsSome (wanted_at spares.now (state_of places.new)) }
         ensures have { HaveLimits self.now.limits places.new }
+        ensures goes { (parent : Option Version) → AfterLeaf parent places.old.writer.page (state_of places.new) }
     {
         updates_fit();
         chains_make_pages();
@@ -188,6 +192,7 @@ impl Task {
         ensures few { (r : Recalled) → left_at self.now.limits r spares.now (state_of places.new) ≤ few_changes self.now.limits + 1 }
         ensures asks { IsSome (wanted_at spares.now (state_of places.new)) }
         ensures have { HaveLimits self.now.limits places.new }
+        ensures goes { BeginsPlan places.old.writer.plan (state_of places.new) }
     {
         plans_may_be_linked();
         let mut plan = Plan::default();
@@ -209,6 +214,7 @@ impl Task {
         ensures same { IsSameTask self.old self.new }
         ensures errands { self.new.errands ≡ errands_after end places.old.then self.old.errands }
         ensures have { HaveLimits self.new.limits places.new }
+        ensures goes { is_writer self.old.command ≡ true → AfterChanging end (state_of places.new) }
     {
         match (end, places.then()) {
             (End::Won, Then::Reply(reply)) => {

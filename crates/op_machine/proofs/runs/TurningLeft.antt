@@ -1,5 +1,5 @@
 -- What the definitions make of an insert and a lookup that meet a removed leaf, or its empty slot.
-use Rattle.op_machine.proofs.Words.{◌≡◌, inl, inr, ℕ, Option, Some, None, refl, ap, subst, arith, Answer, Record, Version, WriteGoal, ReadGoal, Descent, Finds, Moves, Sees, writing}
+use Rattle.op_machine.proofs.Words.{◌≡◌, inl, inr, ℕ, Option, Some, None, refl, ap, subst, arith, Answer, Record, WriteGoal, ReadGoal, Descent, Finds, Moves, Sees, writing}
 use Rattle.op_machine.proofs.Words.{WriteRound, AfterWriting, StepsInRound, new_leaf, small}
 use Rattle.bw_model.specs.declared.step.Answer.TheVariants.{Content, Number}
 use Rattle.round_model.specs.Courses as goal
@@ -8,7 +8,7 @@ use Rattle.round_model.specs.Visits.{Sight, Empty, Whole, to_page}
 use Rattle.round_model.specs.WriteEnds.{WriteEnd, Again}
 use Rattle.op_machine.specs.machine.GoesLeft.{GoesLeft, MeetsReading, MeetsWriting, first_read, first_write}
 use Rattle.op_machine.specs.machine.Meeting.{before_base, before_slot, inserting, looking, reading_down, reading_left, removed_version, writing_down, writing_left}
-use Rattle.op_machine.specs.machine.States.{State, Begun, Epoch, Enter, Read, Write, Change, Leave}
+use Rattle.op_machine.specs.machine.States.{State, Read, Write}
 
 insert_meets : MeetsWriting (writing_down before_base) (Content new_leaf) removed_version
 insert_meets = record {

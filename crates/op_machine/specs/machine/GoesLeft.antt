@@ -1,5 +1,5 @@
 -- Where an operation goes that meets a removed page: to the left of that page, and not from the root for its key once more.
-use Rattle.std.specs.Prelude.{◌≡◌, ◌<◌, ◌⊎◌, Option, None, Some, true, false, ⊤}
+use Rattle.std.specs.Prelude.{◌≡◌, ◌<◌, ◌⊎◌, None, true, false, ⊤}
 use Rattle.bw_model.specs.Replies.{command_key}
 use Rattle.bw_model.specs.declared.step.Answer.{Answer}
 use Rattle.tree_limits.specs.declared.limits.Limits.{Limits}

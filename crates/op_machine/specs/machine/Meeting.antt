@@ -1,5 +1,5 @@
 -- Worked steps: an insert and a lookup that meet the removed leaf of the life of a page (theorem.Examples), before it is merged.
-use Rattle.std.specs.Prelude.{codes, List, [], ◌∷◌, true, false, None, Some}
+use Rattle.std.specs.Prelude.{codes, [], ◌∷◌, false, None, Some}
 use Rattle.std.proofs.Common.{lit≤}
 use Rattle.bw_model.specs.declared.command.Command.TheVariants.{Get, Insert}
 use Rattle.structure_changes.specs.Versions.{Version}

@@ -33,3 +33,9 @@ returns-in-Some-clause-keeps g c task k r h f kept =
     let here = rw (← c.hand.view_is) at kept in
     let then_is : c.then.result.now ≡ c.args.places.now.then = c.then.ensures ∙ ap (λ (p : OpPlaces). p.then) c.change_next.ensures.only in
     rw (← c.hand.view_is) (c.unlink.ensures.keeps task.limits task.actor k _ here (rw then_is (rw c.in-Some.is at (c.change_next.ensures.unlinks task k r stands fits))))
+
+pub returns-in-None-clause-decides : goal.returns-in-None-clause-decides
+returns-in-None-clause-decides g c = rw c.in-None.is at c.change_next.ensures.decides
+
+pub returns-in-Some-clause-decides : goal.returns-in-Some-clause-decides
+returns-in-Some-clause-decides g c = rw c.in-Some.is at c.change_next.ensures.decides

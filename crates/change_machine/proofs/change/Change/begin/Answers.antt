@@ -1,10 +1,11 @@
-use Rattle.std.proofs.Common.{◌≡◌, ◌≤◌, ℕ, ◌∙◌, sym, subst}
+use Rattle.std.proofs.Common.{◌≡◌, ◌≤◌, ℕ, ap, ◌∙◌, sym, subst}
 use Rattle.tree_limits.specs.declared.limits.Limits.{Limits}
 use Rattle.change_machine.specs.Bounded.{Recalls, few_steps, steps_left}
-use Rattle.change_machine.specs.Changes.{Change, IsSoundChange, Shows}
+use Rattle.change_machine.specs.Changes.{Change, IsSoundChange, Shows, has_decided}
 use Rattle.change_machine.specs.Moves.{first_state}
 use Rattle.change_machine.specs.declared.change.State.{State}
 use Rattle.structure_changes.specs.declared.plan.Plan.{Plan}
+use Rattle.change_machine.proofs.Deciding.{first_open}
 use Rattle.change_machine.proofs.Making.{bare, bare_at}
 use Rattle.change_machine.proofs.Sound.{first_sound}
 use Rattle.change_machine.proofs.Spending.{few_first, recalls_first}
@@ -52,3 +53,6 @@ returns-clause-few c after =
     let spares = c.args.spares.now in
     let is = is_bare c.make.new.self limits plan (first_state limits plan spares) c.make.ensures.same.limits (c.make.ensures.same.plan ∙ c.swap.ensures.x_after) (c.make.ensures.state ∙ c.first_state-self-inside.ensures) in
     subst (λ (change : Change). steps_left after change spares ≤ few_steps limits) is (few_first limits after plan spares)
+
+pub returns-clause-first : goal.returns-clause-first
+returns-clause-first c = ap has_decided (c.make.ensures.state ∙ c.first_state-self-inside.ensures) ∙ first_open c.args.limits.now c.args.plan.now c.args.spares.now

@@ -1,5 +1,9 @@
+use Rattle.std.proofs.Common.{subst}
 use Rattle.bw_model.specs.Answers.{answer_of}
+use Rattle.change_machine.specs.Changes.{EndsByDeciding}
+use Rattle.change_machine.specs.Moves.{Moved}
 use Rattle.change_machine.proofs.Answered.{follows}
+use Rattle.change_machine.proofs.Deciding.{turns}
 use Rattle.change_machine.proofs.Outs.{outs}
 use Rattle.change_machine.proofs.Sound.{room_stays, sound_stays}
 use Rattle.change_machine.proofs.SparePid.{pid_from}
@@ -39,3 +43,8 @@ returns-clause-sound c =
 pub returns-clause-pid : goal.returns-clause-pid
 returns-clause-pid c =
     pid_from c.args.self.now c.args.spares.now (answer_of c.args.told) (record { state = c.move_on.new.self.state; spares = c.move_on.new.spares; end = c.move_on.result }) c.move_on.ensures.moved
+
+pub returns-clause-decides : goal.returns-clause-decides
+returns-clause-decides c =
+    subst (λ (m : Moved). EndsByDeciding c.args.self.now.state m.state m.end) c.move_on.ensures.moved
+    (turns c.args.self.now.limits c.args.self.now.plan c.args.spares.now c.args.self.now.state (answer_of c.args.told))

@@ -1,4 +1,4 @@
-use Rattle.op_machine.proofs.Words.{◌∙◌, one_round}
+use Rattle.op_machine.proofs.Words.{◌∙◌, refl, one_round}
 use Rattle.op_machine.proofs.Changing.{begins_apart}
 use Rattle.op_machine.proofs.Plans.{one_more}
 use Rattle.op_machine.proofs.places.Places.begin_change.Goals as goal
@@ -25,3 +25,6 @@ begin-requires g c = record { target = rw c.limits.ensures c.requires.target; sp
 
 pub returns-clause-few : goal.returns-clause-few
 returns-clause-few g c r = one_more _ _ (rw c.limits.ensures at (c.begin.ensures.few (one_round c.args.task.now.limits)))
+
+pub returns-clause-begins : goal.returns-clause-begins
+returns-clause-begins g c = (_, _, refl, c.begin.ensures.plan, c.begin.ensures.first)

@@ -18,3 +18,9 @@ returns-clause-unlinks g c task k r h f =
     let fits = rw (← c.self.view_is, is) at f in
     rw (← c.self.view_is, is)
     (unlinks_into c.self.inside.change c.next.new.self c.self.inside.then c.args.spares.now c.next.new.spares (answer_of c.args.told) c.next.result next.limbo next.fresh task k r shows fits)
+
+pub returns-clause-plan : goal.returns-clause-plan
+returns-clause-plan g c = rw (← c.self.view_is) c.next.ensures.same.plan
+
+pub returns-clause-decides : goal.returns-clause-decides
+returns-clause-decides g c = rw (← c.self.view_is) c.next.ensures.decides

@@ -76,3 +76,6 @@ returns-clause-have g c = record {
   writer = rw
       (c.begin_change.ensures.writer, c.take_due-after.ensures.only) c.requires.have.writer;
 }
+
+pub returns-clause-goes : goal.returns-clause-goes
+returns-clause-goes g c = rw c.take_due-after.ensures.plan at c.begin_change.ensures.begins

@@ -1,4 +1,4 @@
-use Rattle.std.proofs.Common.{◌≡◌, [], sym, refl}
+use Rattle.std.proofs.Common.{◌≡◌, [], sym, refl, inl, inr}
 use Rattle.op_machine.proofs.Plans.{errand_less, errands_same, none_left, without_errand}
 use Rattle.op_machine.proofs.task.Task.end_at_sought_leaf.Goals as goal
 
@@ -46,3 +46,11 @@ returns-in-Some-clause-errands g c = rw c.finish_errand.ensures refl
 
 pub returns-in-Some-clause-have : goal.returns-in-Some-clause-have
 returns-in-Some-clause-have g c = c.begin_round.ensures.have
+
+pub returns-in-None-clause-goes : goal.returns-in-None-clause-goes
+returns-in-None-clause-goes g c = c.tend_leaf.ensures.goes
+
+pub returns-in-Some-clause-goes : goal.returns-in-Some-clause-goes
+returns-in-Some-clause-goes g c =
+    let (k, r, h, there) = c.requires.faced in
+    inr (inl (c.finish_errand.new.self, c.begin_round.ensures.writes (rw c.finish_errand.ensures h.at.writer)))

@@ -2,9 +2,12 @@ use Rattle.op_machine.proofs.Words.{◌≡◌, ◌≤◌, inl, inr, refl, ap, su
 use Rattle.traces.specs.discipline.Discipline.{LacksRoom}
 use Rattle.change_machine.specs.Taking.{AllFull}
 use Rattle.op_machine.specs.declared.then.Then.TheVariants.{After}
+use Rattle.op_machine.specs.machine.RoundSteps.{BeginsAnew}
+use Rattle.change_machine.specs.declared.change.End.TheVariants.{Lost, Won}
 use Rattle.change_machine.specs.declared.taking.Kind.TheVariants.{Pid, Row}
 use Rattle.op_machine.proofs.Plans.{errand_more, errands_same}
 use Rattle.op_machine.proofs.task.Task.end_changing.Goals as goal
+use Rattle.op_machine.proofs.task.Task.end_changing.Goals.{in-Won+in-After+in-Round-1, in-Lost-1}
 
 -- nothing of a kind is free, so there is no room
 lacks_room : (limits : Limits) (k : Knowledge) (kind : Kind) → AllFull limits k.asked kind → LacksRoom limits k
@@ -56,3 +59,20 @@ returns-in-Won-After-Errand-clause-few g c spares r =
     let few = subst (λ (limits : Limits). left_at limits r spares (state_of c.begin_round.new.places) ≤ one_round limits) own (c.begin_round.ensures.few spares r) in
     let is : c.args.places.now.then ≡ After (Errand c.in-Won-After-Errand.separator) = search rules in
     rw (c.add_errand.ensures, c.in-Won-After-Errand.is-0, is) (errand_more c.args.self.now.limits c.args.self.now.errands c.copied-separator.result _ few)
+
+pub returns-in-Full-default-clause-goes : goal.returns-in-Full-default-clause-goes
+returns-in-Full-default-clause-goes g c writer = rw (c.in-Full-default.is-0, c.give_up.ensures) refl
+
+pub returns-in-Won-Reply-clause-goes : goal.returns-in-Won-Reply-clause-goes
+returns-in-Won-Reply-clause-goes g c writer = rw (c.in-Won-Reply.is-0, c.leave.ensures) (inl refl)
+
+pub returns-in-Won-After-Errand-clause-goes : goal.returns-in-Won-After-Errand-clause-goes
+returns-in-Won-After-Errand-clause-goes g c writer = rw c.in-Won-After-Errand.is-0 (inr (c.add_errand.new.self, c.begin_round.ensures.writes (rw c.add_errand.ensures writer)))
+
+pub returns-in-Won-After-Round-clause-goes : goal.returns-in-Won-After-Round-clause-goes
+returns-in-Won-After-Round-clause-goes g c writer =
+    let anew : BeginsAnew (state_of c.begin_round-in-Won-After-Round.new.places) = (c.args.self.now, c.begin_round-in-Won-After-Round.ensures.writes writer) in
+    elim c.in-Won-After-Round-1.branch [
+      | in-Won+in-After+in-Round-1 w ↦ (let is : c.args.end ≡ Won = search rules in rw is (inr anew))
+      | in-Lost-1 w ↦ (let is : c.args.end ≡ Lost = search rules in rw is (inr anew))
+    ]

@@ -1,4 +1,4 @@
-use Rattle.op_machine.proofs.Words.{◌≡◌, ◌<◌, ◌∙◌, Some, true, false, length, refl, sym, ap, is_some, arith, command_key, reply_of, update_of, content_in, chain_value, PlacedWrite, of_made}
+use Rattle.op_machine.proofs.Words.{◌≡◌, ◌<◌, ◌∙◌, inl, inr, Some, true, false, length, refl, sym, ap, is_some, arith, command_key, reply_of, update_of, content_in, chain_value, PlacedWrite, of_made}
 use Rattle.op_machine.proofs.Words.{update_over, seen_is_read}
 use Rattle.structure_changes.specs.Reads.{chain_of}
 use Rattle.op_machine.proofs.Commands.{change_is, over_fits, over_kept, over_links, over_next, over_spells, over_useful, update_due, value_same}
@@ -142,3 +142,14 @@ returns-in_default-clause-asks g c = rw c.leave.ensures refl
 
 pub returns-in_default-clause-have : goal.returns-in_default-clause-have
 returns-in_default-clause-have g c = rw c.leave.ensures (record { reader = c.requires.have.reader; writer = c.requires.have.writer })
+
+pub returns-clause-goes : goal.returns-clause-goes
+returns-clause-goes g c parent =
+    let leaf_is : c.page-leaf.result.now ≡ c.args.places.now.writer.page = c.page-leaf.ensures ∙ ap (λ (w : PlacedWrite). w.page) c.writer.ensures in
+    inr (inr (_, c.begin_change.ensures.begins, inl (rw (c.pid.ensures, leaf_is) refl, rw (c.head.ensures, leaf_is) refl)))
+
+pub returns-then-not-changes-clause-goes : goal.returns-then-not-changes-clause-goes
+returns-then-not-changes-clause-goes g c parent = rw c.leave-then-not-changes.ensures (inl refl)
+
+pub returns-in_default-clause-goes : goal.returns-in_default-clause-goes
+returns-in_default-clause-goes g c parent = rw c.leave.ensures (inl refl)

@@ -1,6 +1,7 @@
 use Rattle.round_model.proofs.SeenPages.{seen_is_read}
 use Rattle.op_machine.proofs.ReadPages.{read_above}
-use Rattle.op_machine.proofs.Tending.{may_tend, plans_for}
+use Rattle.op_machine.proofs.Tending.{may_tend, plans_for, upkeep_over}
+use Rattle.std.proofs.Common.{inr}
 use Rattle.op_machine.proofs.task.Task.tend_leaf.Goals as goal
 
 pub upkeep_at-requires : goal.upkeep_at-requires
@@ -50,3 +51,11 @@ returns-in-None-clause-asks g c = c.execute_at_leaf.ensures.asks
 
 pub returns-in-None-clause-have : goal.returns-in-None-clause-have
 returns-in-None-clause-have g c = c.execute_at_leaf.ensures.have
+
+pub returns-in-Some-clause-goes : goal.returns-in-Some-clause-goes
+returns-in-Some-clause-goes g c =
+    let writer = c.args.places.now.writer in
+    inr (inr (_, c.begin_change.ensures.begins, upkeep_over c.args.self.now.command writer.round.parent writer.page c.in-Some.plan (rw c.writer.ensures at c.in-Some.ensures.due)))
+
+pub returns-in-None-clause-goes : goal.returns-in-None-clause-goes
+returns-in-None-clause-goes g c = c.execute_at_leaf.ensures.goes c.args.places.now.writer.round.parent

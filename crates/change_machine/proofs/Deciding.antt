@@ -1,0 +1,77 @@
+-- By which step a change comes to its end, or to where its exchange was taken.
+use Rattle.std.proofs.Common.{◌≡◌, inl, inr, Bool, true, false, Option, None, Some, refl, sym, ap, subst, ◌∙◌}
+use Rattle.std.specs.Prelude.{if◌then◌else◌, ◌&&◌, not, is_some, length, ltb}
+use Rattle.tree_limits.specs.declared.limits.Limits.{Limits}
+use Rattle.bw_model.specs.declared.step.Answer.{Answer}
+use Rattle.deltas.specs.declared.record.Record.{Record}
+use Rattle.structure_changes.specs.Plans.{clears, head_of, needs_pid, rows_needed}
+use Rattle.structure_changes.specs.declared.plan.Plan.{Plan}
+use Rattle.structure_changes.specs.declared.plan.Plan.TheVariants.{Install, Split, Root, Unlink}
+use Rattle.change_machine.specs.Changes.{CanDecide, EndsByDeciding, has_decided}
+use Rattle.change_machine.specs.Moves.{Moved, after_ready, after_taking, decided_by, first_state, moved_by, next_move, spares_left, whether_in, with_number}
+use Rattle.change_machine.specs.Spares.{Spares}
+use Rattle.change_machine.specs.Taking.{begun_at, found_after}
+use Rattle.change_machine.specs.declared.change.End.{End}
+use Rattle.change_machine.specs.declared.change.End.TheVariants as end
+use Rattle.change_machine.specs.declared.change.State.{State}
+use Rattle.change_machine.specs.declared.change.State.TheVariants.{Taking, Base, Ready, Place, Link, Undo, Clear}
+use Rattle.change_machine.specs.declared.taking.Found.{Found}
+use Rattle.change_machine.specs.declared.taking.Found.TheVariants as found
+use Rattle.change_machine.specs.declared.taking.Kind.{Kind}
+use Rattle.change_machine.specs.declared.taking.Kind.TheVariants.{Pid, Row}
+use Rattle.change_machine.specs.declared.taking.Taking.{Taking as TakingOf}
+
+after_open : (plan : Plan) → has_decided (after_taking plan) ≡ false
+after_open (Install pid head content) = refl
+after_open (Split pid plan) = refl
+after_open (Root left root) = refl
+after_open (Unlink pid head unterm removal) = refl
+
+ready_open : (plan : Plan) → has_decided (after_ready plan) ≡ false
+ready_open (Install pid head content) = refl
+ready_open (Split pid plan) = refl
+ready_open (Root left root) = refl
+ready_open (Unlink pid head unterm removal) = refl
+
+either_open : (b c : Bool) (one two : TakingOf) (rest : State) → has_decided rest ≡ false → has_decided (if b then Taking one else if c then Taking two else rest) ≡ false
+either_open true c one two rest opens = refl
+either_open false true one two rest opens = refl
+either_open false false one two rest opens = opens
+
+-- a change begins before that exchange
+pub first_open : (limits : Limits) (plan : Plan) (spares : Spares) → has_decided (first_state limits plan spares) ≡ false
+first_open limits plan spares = either_open (needs_pid plan && not (is_some spares.pid)) (ltb (length spares.rows) (rows_needed plan)) (begun_at limits Pid (head_of plan)) (begun_at limits Row (head_of plan))
+    (after_taking plan) (after_open plan)
+
+-- what goes on before it hasn't decided
+open_yet : (old new : State) → (CanDecide old → ⊥) → has_decided new ≡ false → (has_decided new ≡ true → CanDecide old) × (CanDecide old → has_decided new ≡ true)
+open_yet old new none opens = ((λ e. let both : true ≡ false = sym e ∙ opens in absurd cc), (λ can. absurd (none can)))
+
+taken_on : (limits : Limits) (plan : Plan) (spares : Spares) (taking : TakingOf) (f : Found) → EndsByDeciding (Taking taking) (moved_by limits plan spares (Taking taking) f).state (moved_by limits plan spares (Taking taking) f).end
+taken_on limits plan spares taking (found.Not next) = open_yet (Taking taking) (Taking next) (λ can. elim can [ inl e ↦ cc e | inr e ↦ cc e ]) refl
+taken_on limits plan spares taking (found.Taken kind number) = open_yet (Taking taking) (first_state limits plan (with_number kind number spares)) (λ can. elim can [ inl e ↦ cc e | inr e ↦ cc e ]) (first_open limits plan (with_number kind number spares))
+taken_on limits plan spares taking (found.Full kind) = tt
+
+abbrev EndsAt : State → Moved → Type 0
+EndsAt old moved = EndsByDeciding old moved.state moved.end
+
+decided_on : (plan : Plan) (spares : Spares) (won : Bool) → EndsAt Link (decided_by plan spares won)
+decided_on plan spares true = by_clears (clears plan)
+  where
+    by_clears : (b : Bool) → EndsAt Link (if b then record { state = Clear; spares = spares_left plan spares; end = None } else record { state = Link; spares = spares_left plan spares; end = Some end.Won })
+    by_clears true = ((λ e. inl refl), (λ can. refl))
+    by_clears false = inl refl
+decided_on plan spares false = by_pid (needs_pid plan)
+  where
+    by_pid : (b : Bool) → EndsAt Link (if b then record { state = Undo; spares = spares; end = None } else record { state = Link; spares = spares; end = Some end.Lost })
+    by_pid true = ((λ e. inl refl), (λ can. refl))
+    by_pid false = inl refl
+
+pub turns : (limits : Limits) (plan : Plan) (spares : Spares) (state : State) (told : Answer Record) → EndsByDeciding state (next_move limits plan spares state told).state (next_move limits plan spares state told).end
+turns limits plan spares (Taking taking) told = taken_on limits plan spares taking (found_after limits taking told)
+turns limits plan spares Base told = open_yet Base Ready (λ can. elim can [ inl e ↦ cc e | inr e ↦ cc e ]) refl
+turns limits plan spares Ready told = open_yet Ready (after_ready plan) (λ can. elim can [ inl e ↦ cc e | inr e ↦ cc e ]) (ready_open plan)
+turns limits plan spares Place told = open_yet Place Link (λ can. elim can [ inl e ↦ cc e | inr e ↦ cc e ]) refl
+turns limits plan spares Link told = decided_on plan spares (whether_in told)
+turns limits plan spares Undo told = inr refl
+turns limits plan spares Clear told = inr refl
