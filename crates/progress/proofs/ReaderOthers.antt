@@ -13,7 +13,7 @@ use Rattle.progress.proofs.ReaderPays.{change_is, pays_end, pays_kept, pays_more
 use Rattle.progress.proofs.ReaderRounds.{few_on, last_begun, last_cases, moment_of, next_of, round_fresh}
 use Rattle.progress.proofs.rounds.Among.{others_no_step}
 
-others : (actor : ℕ) (entry : Entry) → is_entry_of actor entry ≡ false → IsOthers actor entry
+pub others : (actor : ℕ) (entry : Entry) → is_entry_of actor entry ≡ false → IsOthers actor entry
 others actor (Begin other command) e = λ same. eqb_false actor other e (sym same)
 others actor (Step other step answer reply) e = λ same. eqb_false actor other e (sym same)
 
@@ -87,7 +87,7 @@ module _ (limits : Limits) (entries : List Entry) (entry : Entry) (state : IsSta
   stays_paid (Change now next) hand old r shows pays m after within = absurd (pays (length entries) begun (omega arith))
   stays_paid (Leave reply lacks) hand old r shows pays m after within = from_each 1 m within (omega arith) (pays m after)
 
-begins_nothing : (actor : ℕ) (entry : Entry) (command : Command) → is_entry_of actor entry ≡ false → entry ≡ Begin actor command → ⊥
+pub begins_nothing : (actor : ℕ) (entry : Entry) (command : Command) → is_entry_of actor entry ≡ false → entry ≡ Begin actor command → ⊥
 begins_nothing actor entry command other is =
     let own : is_entry_of actor (Begin actor command) ≡ false = ap (is_entry_of actor) (sym is) ∙ other in
     eqb_false actor actor own refl

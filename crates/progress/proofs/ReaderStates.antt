@@ -15,7 +15,7 @@ use Rattle.progress.proofs.ReaderPays.{pays_kept}
 use Rattle.progress.proofs.Tallies.{counted_range, one_at_most, passes, passes_in, tally, tally_none, tally_split}
 
 -- a part of the shorter list is the same part of the longer one
-range_kept : {X : Type 0} (xs : List X) (x : X) (a b : ℕ) → a ≤ b → b ≤ length xs → slice_range (xs ++ x ∷ []) a b ≡ slice_range xs a b
+pub range_kept : {X : Type 0} (xs : List X) (x : X) (a b : ℕ) → a ≤ b → b ≤ length xs → slice_range (xs ++ x ∷ []) a b ≡ slice_range xs a b
 range_kept xs x a b le within =
     let rest : length (drop a xs) ≡ length xs - a = length-drop a xs in
     ap (take (b - a)) (drop-append-le a xs (x ∷ []) (omega arith)) ∙ take-append-le (b - a) (drop a xs) (x ∷ []) (omega arith)

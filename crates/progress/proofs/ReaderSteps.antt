@@ -19,7 +19,7 @@ use Rattle.progress.proofs.Tallies.{one_at_most}
 use Rattle.progress.proofs.rounds.Among.{is_read, read_no_change}
 
 -- the command that an operation shows
-going : (task : Task) (hand : Hand) (k : Knowledge) (r : Recalled) (s : State) → ShowsState task hand.spares k r s → k.asked.command ≡ Some task.command
+pub going : (task : Task) (hand : Hand) (k : Knowledge) (r : Recalled) (s : State) → ShowsState task hand.spares k r s → k.asked.command ≡ Some task.command
 going task hand k r Begun h = h.asked.going
 going task hand k r Epoch h = h.asked.going
 going task hand k r (Enter epoch) h = h.0.asked.going
@@ -29,7 +29,7 @@ going task hand k r (Change now next) h = h.asked.going
 going task hand k r (Leave reply lacks) h = h.0.going
 
 -- it is the one that the actor's last operation was asked
-asked_last : (limits : Limits) (entries : List Entry) → IsState limits entries → (start actor : ℕ) (command shown : Command)
+pub asked_last : (limits : Limits) (entries : List Entry) → IsState limits entries → (start actor : ℕ) (command shown : Command)
     → IsLast entries (operation_from start actor command) → (knows entries actor).asked.command ≡ Some shown → shown ≡ command
 asked_last limits entries state start actor command shown latest shows =
     let t = state.tells actor shown (sym (state.named.commands actor) ∙ shows) in
@@ -38,7 +38,7 @@ asked_last limits entries state start actor command shown latest shows =
     cc
 
 -- who isn't at the begin sweeps nothing
-no_sweep : (op : Op) (hand : Hand) (k : Knowledge) (asked : StepOf Record) → (op.state ≡ Begun → ⊥) → HoldsLimbo op.task op.state hand.limbo k op.sweep
+pub no_sweep : (op : Op) (hand : Hand) (k : Knowledge) (asked : StepOf Record) → (op.state ≡ Begun → ⊥) → HoldsLimbo op.task op.state hand.limbo k op.sweep
     → wanted_of op hand ≡ Some asked → wanted_at hand.spares op.state ≡ Some asked
 no_sweep op hand k asked other holds is = (elim (op.sweep) as
     (λ o. HoldsLimbo op.task op.state hand.limbo k o → asked_by o (wanted_at hand.spares op.state) ≡ Some asked → wanted_at hand.spares op.state ≡ Some asked) [

@@ -1,7 +1,7 @@
 -- All operations together take few steps, where nobody has placed a removal.
 use Rattle.std.proofs.Common.{◌≡◌, ◌<◌, ◌≤◌, ◌+◌, ◌-◌, ◌*◌, ◌⊎◌, ℕ, zero, suc, List, [], ◌∷◌, Option, None, Some, Bool, true, false, cond, take, refl, sym, ap, ◌∙◌, inl, inr, arith}
 use Rattle.progress.proofs.Words.{mul-add, mul-le-mul_left, cases_lt, eqb_tells, All-weaker, count_by, ◌==◌, slice_get, Limits, Command, Entry, Begin, Step, cause_worth, IsRun, Happens}
-use Rattle.progress.proofs.Words.{command_of, commands_after, HasFewChanges, IsDirect, is_step_of, IsOperation, IsOwnStep, Operation, KeepsPhases, get_take, take_past}
+use Rattle.progress.proofs.Words.{command_of, commands_after, HasFewChanges, is_step_of, IsOperation, IsOwnStep, Operation, get_take, take_past}
 use Rattle.op_machine.specs.theorem.Progress.{AreAmong, ChangesTree, PlacesNoRemoval, is_begin, is_end, is_step, steps_from, takes_number}
 use Rattle.progress.specs.Unhindered.{RunsAreLockFree}
 use Rattle.progress.proofs.Begun.{LastBegin, actor_below, begins_here, command_next, last_begin, one_on}

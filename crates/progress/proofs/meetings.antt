@@ -5,3 +5,9 @@ pub mod Stepping
 pub mod Among
 pub mod Paying
 pub mod Whole
+pub mod Shapes
+pub mod Pays
+pub mod Turns
+pub mod Own
+pub mod Others
+pub mod Seldom

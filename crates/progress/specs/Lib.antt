@@ -8,3 +8,4 @@ pub mod Readers
 pub mod Unhindered
 pub mod WritersAmong
 pub mod Writers
+pub mod WriterStates

@@ -15,7 +15,6 @@ use Rattle.traces.specs.trace.Run.{IsNext}
 use Rattle.traces.specs.trace.Trace.{memory_of}
 use Rattle.structure_changes.specs.Plans.{head_of, slot_of}
 use Rattle.structure_changes.specs.Versions.{Version}
-use Rattle.structure_changes.specs.declared.plan.Plan.{Plan}
 use Rattle.round_model.specs.Courses.{Seek}
 use Rattle.round_model.specs.Descents.{Root}
 use Rattle.round_model.specs.Rounds.{Responds}

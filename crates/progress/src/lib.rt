@@ -18,6 +18,7 @@ mod one_memory;
 mod reader_states;
 mod readers;
 mod unhindered;
+mod writer_states;
 mod writers;
 
 pub use examples::{changes_are_told, fills_hinder_nobody, lookups_go_left, removals_are_seen};
@@ -25,4 +26,5 @@ pub use one_memory::{readers_end_alone, readers_end_among_changes, rounds_end};
 pub use reader_states::{opens_with_readers, readers_go_on};
 pub use readers::readers_read_at_once;
 pub use unhindered::runs_make_progress;
+pub use writer_states::{opens_with_writers, writers_go_on};
 pub use writers::{runs_are_whole, writers_meet_few};

@@ -1,9 +1,8 @@
 -- A writer's meetings among the entries of others, and its own, that change the tree.
-use Rattle.std.proofs.Common.{◌≡◌, ◌<◌, ◌≤◌, ◌+◌, ◌*◌, ◌⊎◌, ◌++◌, ℕ, zero, suc, List, [], ◌∷◌, Bool, true, false, cond, Option, Some, None, refl, sym, ap, subst, ◌∙◌, inl, inr, arith}
-use Rattle.progress.proofs.Words.{⊤, add-mul, eqb_tells, if◌then◌else◌, ◌==◌, Limits, Answer, Number, Whether, Exchange, StepOf, Memory, Record, Entry, Begin, Step, Knowledge, knows, Recalled, IsNext}
-use Rattle.progress.proofs.Words.{IsAnswer, IsChainOf, IsTrue, memory_of, WayState, Root, Page, Version, Visit, VisitState, is_below, low_in, IsState, IsInTree, Key, either, changes_tree}
-use Rattle.std.specs.Prelude.{◌&&◌, not}
-use Rattle.bw_model.specs.declared.step.Step.TheVariants as step
+use Rattle.std.proofs.Common.{◌≡◌, ◌<◌, ◌≤◌, ◌+◌, ◌*◌, ◌⊎◌, ◌++◌, ℕ, List, [], ◌∷◌, Bool, true, false, cond, Some, None, refl, sym, ap, subst, ◌∙◌, inl, inr, arith}
+use Rattle.progress.proofs.Words.{add-mul, eqb_tells, if◌then◌else◌, ◌==◌, Limits, Answer, Number, Whether, Exchange, StepOf, Memory, Record, Entry, Begin, Step, knows, Recalled, IsNext}
+use Rattle.progress.proofs.Words.{IsAnswer, IsChainOf, IsTrue, memory_of, WayState, Root, Page, Visit, VisitState, is_below, low_in, IsState, IsInTree, Key, either, changes_tree}
+use Rattle.std.specs.Prelude.{◌&&◌}
 use Rattle.op_machine.specs.theorem.Direct.{IsDirect}
 use Rattle.round_model.specs.Courses.{WriteGoal, Seek, Left, Merge, Unterm}
 use Rattle.round_model.specs.Descents as way
@@ -13,18 +12,18 @@ use Rattle.round_model.specs.WriteRounds.{BeginsToWrite, VisitsToWrite, WriteRou
 use Rattle.round_model.specs.WriteRounds as write
 use Rattle.round_model.proofs.PageLaws.{above_empty}
 use Rattle.traces.specs.chain.Chains.{level_in}
-use Rattle.progress.specs.WritersAmong.{AfterChange, AreLawfulWritings, AtChange, BeginsRound, Decides, HasDecided, InRound, IsLawfulWriting, IsOtherWriting, IsOwnWriting}
-use Rattle.progress.specs.WritersAmong.{ShowsWriter, StepsAtChange, StepsInRound, StepsOn, WriterMoment, WriterState, WritersMeetFew, changes_among, meets, meets_at, most_meets, own_meets}
+use Rattle.progress.specs.WritersAmong.{AfterChange, AreLawfulWritings, AtChange, Decides, HasDecided, InRound, IsLawfulWriting, IsOtherWriting, IsOwnWriting}
+use Rattle.progress.specs.WritersAmong.{ShowsWriter, StepsAtChange, StepsInRound, StepsOn, WriterMoment, WriterState, WritersMeetFew, changes_among, meets, meets_at, most_meets}
 use Rattle.progress.specs.ReadersAmong.{IsOthers}
 use Rattle.round_model.specs.Walks.{HasNoneRead}
-use Rattle.progress.proofs.rounds.Agreeing.{OnItsWay, Reading, visit_same}
+use Rattle.progress.proofs.rounds.Agreeing.{visit_same}
 use Rattle.progress.proofs.rounds.Counts.{many}
 use Rattle.progress.proofs.rounds.Ending.{many_is_count}
 use Rattle.progress.proofs.rounds.Known.{read_front, tree, was_read}
 use Rattle.progress.proofs.rounds.Pages.{Standing}
 use Rattle.progress.proofs.rounds.Unchanged.{IsSame, none_wins, reached_in, same_next}
 use Rattle.progress.proofs.meetings.Gone.{has_removal}
-use Rattle.progress.proofs.meetings.Meeting.{Begins, MeetsFew, StandsAt, Visits}
+use Rattle.progress.proofs.meetings.Meeting.{Begins, MeetsFew, StandsAt}
 use Rattle.progress.proofs.meetings.Stepping.{FitsAt, FitsRound, IsStale, Stands, begins_few, fresh_after, fresh_responds, meets_now, stale_after, stale_responds}
 
 -- a change of the tree meets nothing

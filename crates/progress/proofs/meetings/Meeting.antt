@@ -1,28 +1,25 @@
 -- How often a writer's round meets pages that are gone, while nobody changes the tree: by what it makes of a page of the tree.
-use Rattle.std.proofs.Common.{◌≡◌, ◌≢◌, ◌<◌, ◌≤◌, ◌+◌, ◌-◌, ◌⊎◌, ℕ, zero, suc, List, [], ◌∷◌, length, Bool, true, false, Option, None, Some, refl, sym, ap, subst, ◌∙◌, inl, inr, arith}
-use Rattle.progress.proofs.Words.{⊤, IsTrue, is_below, Limits, Child, Record, content_in, is_removed, level_in, low_in, right_in, LivePage, Version, WayState, Root, Page, Visit, to_page}
-use Rattle.progress.proofs.Words.{LeadsDown, LeadsRight, StaysLeft, precedes, reaches, Key, IsPageOn, IsChildAt, IsPageChain, covers, either, cases_lt}
+use Rattle.std.proofs.Common.{◌≡◌, ◌≢◌, ◌<◌, ◌≤◌, ◌+◌, ◌-◌, ◌⊎◌, ℕ, zero, suc, [], length, Bool, true, false, Option, None, Some, refl, sym, ap, subst, ◌∙◌, inl, inr, arith}
+use Rattle.progress.proofs.Words.{⊤, IsTrue, is_below, Limits, Child, content_in, is_removed, level_in, low_in, LivePage, Version, WayState, Root, Page, Visit, to_page}
+use Rattle.progress.proofs.Words.{StaysLeft, precedes, Key, IsPageOn, IsPageChain, covers, cases_lt}
 use Rattle.std.specs.Prelude.{IfSome}
 use Rattle.tree_law.proofs.shape.KeyOrder.{covers_to, upto_refl}
-use Rattle.base_page.specs.Pages.{Page as PageOf}
 use Rattle.structure_changes.proofs.Few.{few_many}
 use Rattle.structure_changes.specs.Plans.{head_of, slot_of}
 use Rattle.structure_changes.specs.Sizes.{HasFewDeltas, HasFewItems, HasManyItems, many_of}
-use Rattle.structure_changes.specs.Splits.{CanSplit}
 use Rattle.structure_changes.specs.Merges.{CanMerge}
 use Rattle.structure_changes.specs.Unterms.{CanUnterm}
-use Rattle.structure_changes.specs.Upkeep.{IsUpkeep}
 use Rattle.structure_changes.specs.declared.after.After.{After}
 use Rattle.structure_changes.specs.declared.plan.Plan.{Plan}
 use Rattle.structure_changes.proofs.Places.{from_made, made}
 use Rattle.round_model.specs.Courses.{WriteGoal, Seek, Left, Merge, Unterm}
 use Rattle.round_model.specs.WriteEnds.{DueChange, IsPlanned, WriteEnd}
 use Rattle.round_model.specs.WriteEnds as end
-use Rattle.round_model.specs.WriteResponses.{EndsBelow, EndsBy, EndsClean, EndsDue, EndsFine, EndsRemoved, EndsUncut, EndsUnmerged, GoesAside, GoesBelow, GoesToMerge, GoesToUnterm, IsAtLeft, IsFine, IsHere, TreatsWrite}
+use Rattle.round_model.specs.WriteResponses.{EndsBelow, EndsBy, EndsClean, EndsFine, EndsRemoved, EndsUncut, EndsUnmerged, GoesAside, GoesBelow, GoesToMerge, GoesToUnterm, IsAtLeft, IsFine, TreatsWrite}
 use Rattle.round_model.specs.WriteRounds.{SeeksLeaf, WriteRound, ends_at, write_way}
 use Rattle.round_model.specs.Walks.{HasNoneRead}
 use Rattle.progress.proofs.rounds.KeyWays.{IsWay, precedes_is_way, reaches_is_way}
-use Rattle.progress.proofs.rounds.Pages.{Below, Clear, On, Standing, Under, chain_on, down, live, low_of, right, right_clear, root_clear}
+use Rattle.progress.proofs.rounds.Pages.{Below, Clear, On, Standing, Under, down, live, low_of, right, right_clear}
 use Rattle.progress.proofs.rounds.Tops.{top_of}
 use Rattle.progress.proofs.rounds.Visiting.{IsAtHead, IsLeft}
 use Rattle.progress.proofs.meetings.Gone.{has_removal, owed, owed_one}

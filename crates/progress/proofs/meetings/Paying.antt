@@ -1,24 +1,23 @@
 -- Whatever was removed, what hinders an operation pays for its steps, where writers meet what is gone seldom.
-use Rattle.std.proofs.Common.{◌≡◌, ◌≢◌, ◌<◌, ◌≤◌, ◌+◌, ◌-◌, ◌*◌, ◌⊎◌, ℕ, zero, suc, List, [], ◌∷◌, Option, None, Some, Bool, true, false, cond, length, refl, sym, ap, subst, ◌∙◌, inl, inr, arith}
-use Rattle.progress.proofs.Words.{⊤, ◌||◌, mul-add, add-mul, mul-le-mul_left, cases_lt, eqb_tells, All, IsStrictlyIncreasing, count_by, slice_get, slice_range, Limits, is_writer, Answer, StepOf, Number, Whether, Link, either}
-use Rattle.progress.proofs.Words.{Memory, Record, Entry, Begin, Step, cause_worth, IsRun, Happens, TakesStep, memory_at, link_of, IsCause, IsDirect, IsOperation, IsOwnStep, Operation, TakesOwnStep}
-use Rattle.progress.proofs.Words.{AreAmong, ChangesTree, steps_from, Hinders, one_memory, ◌==◌}
+use Rattle.std.proofs.Common.{◌≡◌, ◌<◌, ◌≤◌, ◌+◌, ◌-◌, ◌*◌, ℕ, zero, suc, List, [], ◌∷◌, Option, Some, Bool, true, false, cond, length, refl, sym, ap, subst, ◌∙◌, inl, inr, arith}
+use Rattle.progress.proofs.Words.{◌||◌, add-mul, mul-le-mul_left, eqb_tells, All, IsStrictlyIncreasing, count_by, slice_get, slice_range, Limits, is_writer, Answer, StepOf, Number, Whether, either}
+use Rattle.progress.proofs.Words.{Memory, Record, Entry, Step, cause_worth, IsRun, Happens, memory_at, IsCause, IsDirect, IsOperation, IsOwnStep, Operation, TakesOwnStep}
+use Rattle.progress.proofs.Words.{AreAmong, ChangesTree, steps_from, one_memory, ◌==◌}
 use Rattle.std.proofs.Math.Nat.{mul_assoc}
 use Rattle.std.proofs.lemmas.List.Elements.{All-from_recursion, All-head, All-tail}
 use Rattle.std.specs.List.{AllByRecursion}
-use Rattle.std.specs.Prelude.{◌&&◌, not}
+use Rattle.std.specs.Prelude.{◌&&◌}
 use Rattle.bw_model.specs.declared.step.Answer.TheVariants.{Content}
-use Rattle.bw_model.specs.declared.step.Link.TheVariants as link
-use Rattle.bw_model.specs.declared.step.Step.TheVariants.{Exchange, Row, Slot, TakePid, TakeRow}
+use Rattle.bw_model.specs.declared.step.Step.TheVariants.{Exchange, Row, Slot}
 use Rattle.deltas.specs.declared.record.Record.TheVariants as delta
 use Rattle.op_machine.specs.theorem.ReadersEnd.{ReadersEnd}
-use Rattle.progress.specs.Writers.{MeetsSeldom, OperationsEnd, RunsEnd, hindrance_worth}
+use Rattle.progress.specs.Writers.{MeetsSeldom, RunsEnd, hindrance_worth}
 use Rattle.progress.specs.WritersAmong.{meets, meets_at, most_meets}
 use Rattle.progress.proofs.Counted.{AreDistinct, Each, IsNotAmong}
 use Rattle.progress.proofs.Hindering.{among_hinder, beside, changes_at, changes_by, beside_by, hinder, is_change, takes_beside}
 use Rattle.progress.proofs.Payers.{IsIn, Pays, all_distinct, paid_by}
 use Rattle.progress.proofs.Spans.{missed_by_take, of_own}
-use Rattle.progress.proofs.Tallies.{counted_range, listed, one_at_most, passes, passes_in, tally, tally_either, tally_most}
+use Rattle.progress.proofs.Tallies.{counted_range, listed, passes, passes_in, tally, tally_either, tally_most}
 
 -- a list of places, by a test
 record Parted (t : ℕ → Bool) (P : ℕ → Type 0) (cs : List ℕ) : Type 0 where

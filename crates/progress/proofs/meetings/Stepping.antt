@@ -1,14 +1,12 @@
 -- A step of a writer while nobody changes the tree: how often it meets pages that are gone from there on.
-use Rattle.std.proofs.Common.{◌≡◌, ◌<◌, ◌≤◌, ◌+◌, ◌-◌, ◌⊎◌, ◌++◌, append_assoc, ℕ, zero, suc, List, [], ◌∷◌, length, Bool, true, false, cond, Option, None, Some, refl, sym, ap, subst, ◌∙◌, inl, inr, arith}
-use Rattle.progress.proofs.Words.{⊤, IsTrue, ◌==◌, Limits, Answer, Number, StepOf, Record, IsChainFrom, IsChainOf, IsPageChain, is_below, is_removed, level_in, low_in, LivePage, Version, Key}
+use Rattle.std.proofs.Common.{◌≡◌, ◌<◌, ◌≤◌, ◌+◌, ◌-◌, ◌⊎◌, ◌++◌, append_assoc, ℕ, suc, List, [], ◌∷◌, length, Bool, true, false, cond, Option, None, Some, refl, sym, ap, subst, ◌∙◌, inl, inr, arith}
+use Rattle.progress.proofs.Words.{⊤, IsTrue, ◌==◌, Answer, Number, StepOf, Record, IsChainFrom, IsChainOf, IsPageChain, is_below, is_removed, low_in, LivePage, Version, Key}
 use Rattle.progress.proofs.Words.{IsAnswer, Memory, WayState, Root, Page, Visit, VisitState, Sight, Empty, Whole, to_page, by_step, same_page, IsPageOn, eqb_tells, either}
 use Rattle.std.specs.Prelude.{IfSome}
 use Rattle.bw_model.specs.declared.step.Answer.TheVariants.{Content}
 use Rattle.bw_model.specs.declared.step.Step.TheVariants as step
-use Rattle.deltas.specs.Records.{next_row}
 use Rattle.traces.specs.chain.Fitted.{IsFitted}
 use Rattle.traces.specs.discipline.Recalled.{is_removal}
-use Rattle.structure_changes.specs.Plans.{head_of, slot_of}
 use Rattle.round_model.specs.Courses.{WriteGoal, Seek, Left, Merge, Unterm}
 use Rattle.round_model.specs.Rounds.{Responds, Sees}
 use Rattle.round_model.specs.Visits.{Completes, Continues, FindsHead, Slot, Row}
@@ -20,13 +18,11 @@ use Rattle.round_model.specs.WriteResponses.{TreatsWrite, writing}
 use Rattle.round_model.specs.WriteRounds.{WriteRound, at, wanted_step, write_way}
 use Rattle.round_model.proofs.PageLaws.{above_empty}
 use Rattle.round_model.proofs.WayLaws.{lowest}
-use Rattle.op_machine.specs.machine.GoesLeft.{write_left_of}
-use Rattle.progress.specs.WritersAmong.{AfterLeaf, AfterRound, AtChange, BeginsRound, InRound, WriterState, meets}
-use Rattle.progress.proofs.rounds.Pages.{On, Standing, live, low_of, root_clear}
+use Rattle.progress.specs.WritersAmong.{AfterRound, AtChange, BeginsRound, InRound, WriterState, meets}
+use Rattle.progress.proofs.rounds.Pages.{Standing, live, root_clear}
 use Rattle.progress.proofs.rounds.Visiting.{GoesOn, IsAtHead, IsLeft, finds, goes_on, heads, not_empty, visits}
 use Rattle.progress.proofs.meetings.Gone.{gone_read, has_removal, last_stands, once_next, owed, owed_next}
-use Rattle.progress.proofs.meetings.Held.{IsHeld}
-use Rattle.progress.proofs.meetings.Meeting.{At, Begins, IsAbove, IsAsRead, IsAside, IsOnWay, MeetsFew, Spares, StandsAt, Then, Visits, treats}
+use Rattle.progress.proofs.meetings.Meeting.{At, Begins, IsAsRead, MeetsFew, StandsAt, Then, Visits, treats}
 
 -- how often a step meets a page that is gone
 abbrev pub meets_now : StepOf Record → Answer Record → ℕ

@@ -1,0 +1,179 @@
+-- Writers have met what is gone seldom still with one entry more.
+use Rattle.std.proofs.Common.{◌≡◌, ◌<◌, ◌≤◌, ◌+◌, ◌-◌, ◌*◌, ◌++◌, ℕ, suc, List, [], ◌∷◌, length, drop, take, Bool, true, false, cond, Option, None, Some, refl, sym, ap, subst, ◌∙◌, inl, inr, arith}
+use Rattle.progress.proofs.Words.{cases_lt, All-weaker, count_by, slice_get, slice_range, Limits, is_writer, Reply, Answer, StepOf, Record, Entry, Begin, Step, Happens}
+use Rattle.progress.proofs.Words.{Happens-kept, wanted_by, knows, UnderWay, command_at, IsDirect, IsOperation, IsOwnStep, Operation, AreAmong, ChangesTree, IsLast, IsState}
+use Rattle.std.proofs.lemmas.List.{take_all, take_rest}
+use Rattle.traces.proofs.Pushes.{pushed_length, slice_get-push_cases, slice_get_below, slice_get_kept, take-push}
+use Rattle.std.specs.Prelude.{IfSome}
+use Rattle.traces.specs.discipline.Discipline.{MayReply}
+use Rattle.bw_model.specs.declared.step.Step.TheVariants as step_of
+use Rattle.op_machine.specs.machine.Actors.{command_left}
+use Rattle.tree_law.specs.TraceLaws.{AnswersFit, Opens}
+use Rattle.tree_law.proofs.trace.Owned.{operation_old, step_below, step_cases}
+use Rattle.tree_law.specs.Direct.{IsDirectState}
+use Rattle.progress.specs.WriterStates.{BeginsKeepWriters, IsWritersState, PaysMeets, PaysWriter, StepsKeepWriters}
+use Rattle.progress.specs.Writers.{MeetsSeldom}
+use Rattle.progress.specs.WritersAmong.{meets, meets_at, most_meets}
+use Rattle.progress.proofs.ReaderStates.{range_kept}
+use Rattle.progress.proofs.Tallies.{counted_range, passes, passes_in, tally, tally_none, tally_split}
+use Rattle.progress.proofs.meetings.Own.{meets_none, paid_some, writer_steps_paid}
+use Rattle.progress.proofs.meetings.Pays.{pays_kept}
+
+abbrev meets_from : List Entry → ℕ → ℕ → ℕ → ℕ
+meets_from entries actor m n = count_by (meets_at actor) (slice_range entries m (suc n))
+
+-- the changes since entry m pay for what is met until entry n
+abbrev Since : Limits → List Entry → ℕ → ℕ → ℕ → Type 0
+Since limits entries actor m n = (changes : List ℕ) × AreAmong limits entries m n ChangesTree changes × (meets_from entries actor m n ≤ (1 + length changes) * most_meets)
+
+-- what pays for more has paid for the last one
+since_last : (limits : Limits) (entries : List Entry) (actor m n left : ℕ) → suc n ≡ length entries → PaysMeets limits entries actor m left → Since limits entries actor m n
+since_last limits entries actor m n left whole h = (
+  h.changes,
+  record {
+    increasing = h.increasing;
+    each = All-weaker (λ place. (m ≤ place) × (place < length entries) × Happens limits entries place ChangesTree) (λ place. (m ≤ place) × (place ≤ n) × Happens limits entries place ChangesTree)
+        (λ place g. let below : place < length entries = g.1 in (g.0, omega arith, g.2)) h.changes h.each;
+  },
+  (
+      let same : slice_range entries m (suc n) ≡ drop m entries = ap (λ end. take (end - m) (drop m entries)) whole ∙ take_rest entries m in
+      let counted : meets_from entries actor m n ≡ count_by (meets_at actor) (drop m entries) = ap (count_by (meets_at actor)) same in
+      less (meets_from entries actor m n) (count_by (meets_at actor) (drop m entries)) left ((1 + length h.changes) * most_meets) counted h.paid
+      ),
+)
+  where
+    less : (met count left bound : ℕ) → met ≡ count → count + left ≤ bound → met ≤ bound
+    less met count left bound same paid = omega (arith, same, paid)
+
+module _ (limits : Limits) (entries : List Entry) where
+  -- a begin meets nothing
+  first_none : (op : Operation) → IsOperation entries op → tally (passes_in (meets_at op.actor) entries) op.start 1 ≡ 0
+  first_none op begun = tally_none (passes_in (meets_at op.actor) entries) op.start 1
+      (λ i lt. let at : op.start + i ≡ op.start = omega (arith, lt) in ap (λ k. passes (meets_at op.actor) (slice_get entries k)) at ∙ ap (passes (meets_at op.actor)) begun)
+
+  from_begin : (op : Operation) (n : ℕ) → IsOperation entries op → op.start < n → meets_from entries op.actor op.start n ≡ meets_from entries op.actor (suc op.start) n
+  from_begin op n begun after =
+      let met : ℕ → Bool = passes_in (meets_at op.actor) entries in
+      let parts : suc n - op.start ≡ 1 + (suc n - suc op.start) = omega (arith, after) in
+      let next : op.start + 1 ≡ suc op.start = omega arith in
+      let whole : meets_from entries op.actor op.start n ≡ tally met op.start (suc n - op.start) = counted_range (meets_at op.actor) entries op.start (suc n - op.start) in
+      let rest : meets_from entries op.actor (suc op.start) n ≡ tally met (suc op.start) (suc n - suc op.start) = counted_range (meets_at op.actor) entries (suc op.start) (suc n - suc op.start) in
+      let split : tally met op.start (suc n - op.start) ≡ tally met op.start 1 + tally met (suc op.start) (suc n - suc op.start) =
+      ap (tally met op.start) parts ∙ tally_split met op.start 1 (suc n - suc op.start) ∙ ap (λ k. tally met op.start 1 + tally met k (suc n - suc op.start)) next in
+      let none = first_none op begun in
+      omega (arith, whole, rest, split, none)
+
+  -- where the changes since each begin pay, all is so
+  all_since : ((op : Operation) (n : ℕ) → IsOperation entries op → is_writer op.command ≡ true → IsOwnStep entries op n → Since limits entries op.actor op.start n) → MeetsSeldom limits entries
+  all_since since = record { few = λ op n begun writer own. since op n begun writer own }
+
+  -- from the entry after the begin on
+  at_start : (op : Operation) (n : ℕ) → IsOperation entries op → op.start < n → Since limits entries op.actor (suc op.start) n → Since limits entries op.actor op.start n
+  at_start op n begun after h = (
+    h.0,
+    record {
+      increasing = h.1.increasing;
+      each =
+          All-weaker (λ place. (suc op.start ≤ place) × (place ≤ n) × Happens limits entries place ChangesTree)
+          (λ place. (op.start ≤ place) × (place ≤ n) × Happens limits entries place ChangesTree)
+          (λ place g. let low : suc op.start ≤ place = g.0 in (omega (arith, low), g.1, g.2)) h.0 h.1.each;
+    },
+    subst (λ (met : ℕ). met ≤ (1 + length h.0) * most_meets) (sym (from_begin op n begun after)) h.2,
+  )
+
+module _ (limits : Limits) (entries : List Entry) (last : Entry) (kept : IsWritersState limits entries) (later : IsState limits (entries ++ last ∷ []))
+    (direct : IsDirect limits (entries ++ last ∷ [])) where
+  abbrev longer : List Entry
+  longer = entries ++ last ∷ []
+
+  since_kept : (op : Operation) (n : ℕ) → IsOperation entries op → is_writer op.command ≡ true → IsOwnStep entries op n → Since limits longer op.actor op.start n
+  since_kept op n begun writer own =
+      let h = kept.seldom.few op n begun writer own in
+      let after : op.start < n = own.2.1.begun in
+      let below : n < length entries = step_below entries last op n own in (
+        h.0,
+        record {
+          increasing = h.1.increasing;
+          each = All-weaker (λ place. (op.start ≤ place) × (place ≤ n) × Happens limits entries place ChangesTree) (λ place. (op.start ≤ place) × (place ≤ n) × Happens limits longer place ChangesTree)
+              (λ place g. (g.0, g.1, Happens-kept (last ∷ []) g.2)) h.0 h.1.each;
+        },
+        subst (λ (met : ℕ). met ≤ (1 + length h.0) * most_meets)
+            (sym (ap (count_by (meets_at op.actor)) (range_kept entries last op.start (suc n) (omega (arith, after)) (omega (arith, below))))) h.2,
+      )
+
+  -- where the last entry is paid for
+  pub grown : ((op : Operation) (s : StepOf Record) (x : Answer Record) (reply : Option Reply) (m : ℕ) → IsLast entries op → is_writer op.command ≡ true → last ≡ Step op.actor s x reply
+      → op.start < m → m ≤ length entries → PaysMeets limits longer op.actor m 0) → IsWritersState limits longer
+  grown paid = record {
+    seldom = all_since limits longer (λ op n begun writer own.
+        let before : IsOperation entries op = operation_old entries last op n begun own in
+        elim (step_cases entries last op n own) [
+          | inl old ↦ since_kept op n before writer old
+          | inr at ↦
+              let same : n ≡ length entries = at.0 in
+              let after : op.start < n = own.2.1.begun in
+              let long : length longer ≡ suc (length entries) = pushed_length entries last in
+              let h = paid op at.1.0 at.1.1 at.1.2 (suc op.start) (record { begun = before; unended = at.2 }) writer at.1.3 (omega arith) (omega (arith, after, same)) in
+              at_start limits longer op n begun after (since_last limits longer op.actor (suc op.start) n 0 (omega (arith, same, long)) h)
+        ]);
+    states = λ n. elim (cases_lt (length entries) n) [
+      | inl past ↦ let long = pushed_length entries last in subst (IsState limits) (sym (take_all n longer (omega (arith, past, long)))) later
+      | inr le ↦ subst (IsState limits) (sym (take-push entries (last ∷ []) n le)) (kept.states n)
+    ];
+    directs = λ n. elim (cases_lt (length entries) n) [
+      | inl past ↦ let long = pushed_length entries last in subst (IsDirect limits) (sym (take_all n longer (omega (arith, past, long)))) direct
+      | inr le ↦ subst (IsDirect limits) (sym (take-push entries (last ∷ []) n le)) (kept.directs n)
+    ];
+  }
+
+pub opens : Opens IsState → Opens IsDirectState → Opens IsWritersState
+opens states directs limits = record {
+  seldom = all_since limits [] (λ op n begun writer own. absurd (let below = slice_get_below [] n _ own.2.1.entry in omega (arith, below)));
+  states = λ n. subst (IsState limits) (sym (take_all n [] (omega arith))) (states limits);
+  directs = λ n. subst (IsDirect limits) (sym (take_all n [] (omega arith))) (directs limits).direct;
+}
+
+pub begins_keep : BeginsKeepWriters
+begins_keep limits entries actor command kept later direct = grown limits entries (Begin actor command) kept later direct (λ op s x reply m latest writer is after within. absurd (cc is))
+
+-- with a step more it is the last still
+last_still : (entries : List Entry) (actor : ℕ) (step : StepOf Record) (answer : Answer Record) (reply : Option Reply) (op : Operation) → IsLast entries op → IsLast (entries ++ Step actor step answer reply ∷ []) op
+last_still entries actor step answer reply op latest = record {
+  begun = slice_get_kept entries (Step actor step answer reply ∷ []) op.start _ latest.begun;
+  unended = λ later other low e. elim (slice_get-push_cases entries (Step actor step answer reply) later _ e) [
+    | inl before ↦ latest.unended later other low before
+    | inr at ↦ absurd (let is = at.1 in cc is)
+  ];
+}
+
+-- A writer whose operation has ended met nothing by its leave, and any other is paid for still.
+pub steps_keep : AnswersFit → StepsKeepWriters
+steps_keep fit limits entries actor step answer reply old new kept shown pays wants later direct acts command =
+    grown limits entries (Step actor step answer reply) kept later direct
+    (λ op s x given m latest writer is after within. by_running old.running new.running reply pays wants acts.allowed.replied command
+    (writer_steps_paid fit limits entries actor step answer reply old new state shown pays wants later direct acts command) op s x given m latest writer is after within)
+  where
+    state : IsState limits entries
+    state = subst (IsState limits) (take_all (length entries) entries (omega arith)) (kept.states (length entries))
+
+    by_running : (o n : Option UnderWay) (told : Option Reply) → PaysWriter limits entries actor o → wanted_by o ≡ Some step → IfSome told (λ given. (step ≡ step_of.Leave) × MayReply limits actor (knows entries actor) given)
+        → command_at n ≡ command_left told (command_at o) → PaysWriter limits (entries ++ Step actor step answer told ∷ []) actor n
+        → (op : Operation) (s : StepOf Record) (x : Answer Record) (given : Option Reply) (m : ℕ) → IsLast entries op → is_writer op.command ≡ true
+        → Step actor step answer told ≡ Step op.actor s x given → op.start < m → m ≤ length entries → PaysMeets limits (entries ++ Step actor step answer told ∷ []) op.actor m 0
+    by_running None n told pays wants replied command paid op s x given m latest writer is after within = absurd (cc wants)
+    by_running (Some running) n (Some reply) pays wants replied command paid op s x given m latest writer is after within =
+        let mine : actor ≡ op.actor = cc in
+        let theirs : PaysWriter limits entries op.actor (Some running) = subst (λ (a : ℕ). PaysWriter limits entries a (Some running)) mine pays in
+        let had = paid_some limits entries op.actor m running.op.state (theirs op.start m op.command latest writer after within) in
+        let calm : meets step answer ≡ false = rw replied.0 refl in
+        let none : cond {A = ℕ} (meets_at op.actor (Step actor step answer (Some reply))) 1 0 ≡ 0 =
+        ap (λ (b : Bool). cond {A = ℕ} b 1 0) (meets_none op.actor actor step answer (Some reply) calm) in
+        pays_kept limits entries (Step actor step answer (Some reply)) op.actor m 0 0 within (omega (arith, none)) had
+    by_running (Some running) None None pays wants replied command paid op s x given m latest writer is after within = absurd (cc command)
+    by_running (Some running) (Some now) None pays wants replied command paid op s x given m latest writer is after within =
+        let mine : actor ≡ op.actor = cc in
+        let theirs : PaysWriter limits (entries ++ Step actor step answer None ∷ []) op.actor (Some now) =
+        subst (λ (a : ℕ). PaysWriter limits (entries ++ Step actor step answer None ∷ []) a (Some now)) mine paid in
+        let long = pushed_length entries (Step actor step answer None) in
+        paid_some limits (entries ++ Step actor step answer None ∷ []) op.actor m now.op.state
+        (theirs op.start m op.command (last_still entries actor step answer None op latest) writer after (omega (arith, within, long)))
