@@ -16,4 +16,5 @@ pub mod Linearized
 pub mod Examples
 pub mod Unhindered
 pub mod ReadersEnd
+pub mod Whole
 pub mod Updates

@@ -25,19 +25,19 @@ use Rattle.op_machine.specs.theorem.Progress.{ChangesTree}
 use Rattle.tree_law.specs.Direct.{IsLast}
 use Rattle.tree_law.specs.State.{IsState, operation_from}
 use Rattle.progress.specs.Writers.{MeetsSeldom}
-use Rattle.progress.specs.WritersAmong.{AreLawfulWritings, AtChange, InRound, WriterMoment, WriterState, changes_among, meets_at, most_meets, own_meets}
+use Rattle.progress.specs.WritersAmong.{few_meets, AreLawfulWritings, AtChange, InRound, WriterMoment, WriterState, changes_among, meets_at, own_meets}
 
 -- The changes of the tree from entry m on pay for what the actor has met since that was gone, and for this many times more.
 pub record PaysMeets (limits : Limits) (entries : List Entry) (actor m left : ℕ) : Type 0 where
   pub changes : List ℕ
   pub increasing : IsStrictlyIncreasing changes
   pub each : All (λ place. (m ≤ place) × (place < length entries) × Happens limits entries place ChangesTree) changes
-  pub paid : count_by (meets_at actor) (drop m entries) + left ≤ (1 + length changes) * most_meets
+  pub paid : count_by (meets_at actor) (drop m entries) + left ≤ (1 + length changes) * few_meets
 
 -- Among whatever lawful moments follow the writer meets what is gone at most so often, and as many times more for each change of the tree as in one memory.
 abbrev pub MeetsFewer : Limits → ℕ → List Entry → WriterState → ℕ → Type 0
 MeetsFewer limits actor entries state left = (moments : List WriterMoment) → AreLawfulWritings limits actor entries state moments
-    → own_meets actor moments ≤ left + changes_among limits entries moments * most_meets
+    → own_meets actor moments ≤ left + changes_among limits entries moments * few_meets
 
 -- They pay for what a writer may meet yet.
 pub record PaysForWriter (limits : Limits) (entries : List Entry) (actor : ℕ) (state : WriterState) (m : ℕ) : Type 0 where
@@ -47,9 +47,9 @@ pub record PaysForWriter (limits : Limits) (entries : List Entry) (actor : ℕ) 
 
 -- by where a writer stands: before its first round, in one, at a change, or at its leave
 abbrev pub MeetsAt : Limits → List Entry → ℕ → ℕ → State → Type 0
-MeetsAt limits entries actor m Begun = PaysMeets limits entries actor m most_meets
-MeetsAt limits entries actor m Epoch = PaysMeets limits entries actor m most_meets
-MeetsAt limits entries actor m (Enter epoch) = PaysMeets limits entries actor m most_meets
+MeetsAt limits entries actor m Begun = PaysMeets limits entries actor m few_meets
+MeetsAt limits entries actor m Epoch = PaysMeets limits entries actor m few_meets
+MeetsAt limits entries actor m (Enter epoch) = PaysMeets limits entries actor m few_meets
 MeetsAt limits entries actor m (Read round) = ⊥
 MeetsAt limits entries actor m (Write round) = PaysForWriter limits entries actor (InRound round) m
 MeetsAt limits entries actor m (Change now after) = PaysForWriter limits entries actor (AtChange (slot_of now.plan) (head_of now.plan) (has_decided now.state)) m
@@ -77,13 +77,11 @@ abbrev pub BegunWritersArePaid : Type 0
 BegunWritersArePaid = (limits : Limits) (entries : List Entry) (actor : ℕ) (command : Command) (k : Knowledge) (r : Recalled) (new : Actor) → IsActor limits actor k r new → k.inside ≡ false
     → running_command new ≡ Some command → PaysWriter limits (entries ++ Begin actor command ∷ []) actor new.running
 
--- A step of a writer that is paid for keeps it,
+-- A step of a writer that is paid for keeps it, whatever the answer,
 abbrev pub StepsKeepWriters : Type 0
-StepsKeepWriters = (limits : Limits) (entries : List Entry) (actor : ℕ) (step : StepOf Record) (answer : Answer Record) (reply : Option Reply) (old new : Actor) → IsWritersState limits entries
-    → IsActor limits actor (knows entries actor) (recalls entries actor) old → PaysWriter limits entries actor old.running → wanted_by old.running ≡ Some step
-    → IsState limits (entries ++ Step actor step answer reply ∷ []) → IsDirect limits (entries ++ Step actor step answer reply ∷ [])
-    → ActsOn limits actor (knows entries actor) (recalls entries actor) old step answer reply new → running_command new ≡ command_left reply (running_command old)
-    → IsWritersState limits (entries ++ Step actor step answer reply ∷ [])
+StepsKeepWriters = (limits : Limits) (entries : List Entry) (actor : ℕ) (step : StepOf Record) (answer : Answer Record) (reply : Option Reply) (old : Actor) → IsWritersState limits entries
+    → PaysWriter limits entries actor old.running → wanted_by old.running ≡ Some step → IsState limits (entries ++ Step actor step answer reply ∷ [])
+    → IsDirect limits (entries ++ Step actor step answer reply ∷ []) → IsWritersState limits (entries ++ Step actor step answer reply ∷ [])
 
 -- and the writer is paid for still, once it has made of the answer what it makes of it.
 abbrev pub WriterStepsArePaid : Type 0

@@ -151,10 +151,10 @@ changes_among limits entries (moment ∷ moments) = (if changes_tree (memory_of 
 
 -- how often at most while nobody changes the tree: twice by what it had read before, once by a page to whose left it goes that may have
 -- gone since, and then once on each level, and twice besides
-abbrev pub most_meets : ℕ
-most_meets = 21
+abbrev pub few_meets : ℕ
+few_meets = 21
 
 -- Wherever a writer stands, beside whatever was removed: it meets what is gone at most so often for each change of the tree, and once more.
 abbrev pub WritersMeetFew : Type 0
 WritersMeetFew = (limits : Limits) (actor : ℕ) (entries : List Entry) (state : WriterState) (moments : List WriterMoment) → IsState limits entries
-    → AreLawfulWritings limits actor entries state moments → own_meets actor moments ≤ (1 + changes_among limits entries moments) * most_meets
+    → AreLawfulWritings limits actor entries state moments → own_meets actor moments ≤ (1 + changes_among limits entries moments) * few_meets

@@ -8,7 +8,10 @@
 //! what `readers_end_among_changes` says of the entries to come: in one memory a reader's rounds come to an end, wherever they stand
 //! (`readers_end_alone`, `rounds_end`).
 //!
-//! Called by `step_core` and `running_tree`, which say the first three of their runs; the others are there for who concludes them. It knows what
+//! At last look at `writers_go_on` and `runs_are_whole`: a writer meets what is gone seldom, by the changes of the tree (`writers_meet_few`), so that in
+//! every run changes, and the numbers that others take, pay for all steps.
+//!
+//! Called by `step_core` and `running_tree`, which say of their runs what comes of it; the others are there for who concludes them. It knows what
 //! the theorem says of a trace (`op_machine`, specs/theorem), and, for readers beside removals, the invariant of the law, what an actor keeps, and
 //! what a reader's rounds make of an answer.
 #![tactic(auto)]

@@ -1,5 +1,5 @@
 -- A seat whose operation begins with its first step.
-use Rattle.std.proofs.Common.{◌≡◌, ◌≢◌, ◌<◌, ◌^◌, ℕ, List, [], ◌∷◌, ◌++◌, Option, Bool, true, false, refl, sym, ap, ◌∙◌, subst, arith}
+use Rattle.std.proofs.Common.{◌≡◌, ◌≢◌, ◌<◌, ℕ, List, [], ◌∷◌, ◌++◌, Option, Bool, true, false, refl, sym, ap, ◌∙◌, subst, arith}
 use Rattle.running_tree.proofs.Words.{same_Some, Actor, IsActor, IsActorWith, IsToldActor, command_at, command_left, running_command, wanted_by, UnderWay, steps_due, Command, Reply, Limits}
 use Rattle.running_tree.proofs.Words.{Answer, StepOf, Record, Begin, May, Extends, Recalled, blank, cause_worth, recalls, IsAnswer, command_of, memory_of, IsWithin, Hand, IsLawfulStep, Took}
 use Rattle.running_tree.proofs.Words.{Accounts, HasWord, HaveLaws, IsLawfulRun, IsSeated, Seat, unfinished_command, replaced_same, extends_self}
@@ -69,12 +69,15 @@ module _ (laws : HaveLaws) (limits : Limits) (a : ℕ) (seen : List Entry) (now 
           paid = laws.begins_paid limits run a command legal.paid there (lasts.command ∙ free);
           readers =
               laws.readers.begins limits run a command legal.readers later direct.state.direct;
+          writers =
+              laws.writers.begins limits run a command legal.writers later direct.state.direct;
         };
         shows = subst (λ q. IsActorWith limits a q (recalls (run ++ Begin a command ∷ []) a) new.hand new.running) known
             (subst (λ q. IsActorWith limits a (after_begin (knows seen a) command) q new.hand new.running) recalled shows);
         runs = has ∙ sym (ap (λ (cs : ℕ → Option Command). cs a) grows.commands ∙ replaced_same a (Some command) (command_of run));
         pays = subst (λ q. Accounts limits (run ++ Begin a command ∷ []) a (steps_due q new.hand new.running)) recalled direct.account;
         reads = laws.readers.begun limits run a command (after_begin (knows seen a) command) blank new shows (idle_outside limits a (knows seen a) (recalls seen a) now.hand now.running idle h.shows) has;
+        writes = laws.writers.begun limits run a command (after_begin (knows seen a) command) blank new shows (idle_outside limits a (knows seen a) (recalls seen a) now.hand now.running idle h.shows) has;
         lacks = lack_begun limits a run command new.lacks quiet;
       }
 

@@ -18,6 +18,7 @@ seated_extends own limits number seen run at seated legal extends =
       runs = seated.runs ∙ sym lasts.command;
       pays = subst (λ r. Accounts limits run number (steps_due r at.hand at.running)) (sym lasts.recalled) (lasts.affords (steps_due (recalls seen number) at.hand at.running) seated.pays);
       reads = own.readers limits number seen run at extends legal.readers seated.shows seated.reads;
+      writes = own.writers limits number seen run at extends legal.writers seated.shows seated.writes;
       lacks = lack_extends limits number seen run at.lacks extends lasts.known lasts.command seated.lacks;
     }
 

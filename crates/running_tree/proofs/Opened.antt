@@ -25,7 +25,7 @@ fresh_idle limits number me rest legal there is =
       there = there;
       place = refl;
       begins = tt;
-      seated = record { lawful = legal; shows = rest limits number blank; runs = refl; pays = λ operation last own. cc; reads = tt; lacks = record { told = refl; pending = λ busy. cc } };
+      seated = record { lawful = legal; shows = rest limits number blank; runs = refl; pays = λ operation last own. cc; reads = tt; writes = tt; lacks = record { told = refl; pending = λ busy. cc } };
     }
 
 pub fresh : (limits : Limits) (number : ℕ) (me : Mine) (actor : Actor) → IdleRest → IsLawfulRun limits [] → number < limits.actors

@@ -23,6 +23,7 @@ use Rattle.op_machine.specs.machine.States.{State}
 use Rattle.op_machine.specs.machine.States as state
 use Rattle.table_rule.specs.Steps.{IsLawfulStep, Took, with_step}
 use Rattle.progress.specs.ReaderStates.{PaysReader}
+use Rattle.progress.specs.WriterStates.{PaysWriter}
 use Rattle.tree_law.specs.Direct.{Accounts, StaysDirect}
 use Rattle.tree_law.specs.State.{IsState}
 use Rattle.running_tree.proofs.LackLaws.{lack_stepped}
@@ -132,6 +133,9 @@ module _ (laws : HaveLaws) (limits : Limits) (a : ℕ) (seen : List Entry) (now 
   reads_on : (run : List Entry) → IsLawfulRun limits run → Extends a seen run → PaysReader limits run a now.running
   reads_on run legal x = laws.readers.lasts limits a seen run now x legal.readers h.shows h.reads
 
+  writes_on : (run : List Entry) → IsLawfulRun limits run → Extends a seen run → PaysWriter limits run a now.running
+  writes_on run legal x = laws.writers.lasts limits a seen run now x legal.writers h.shows h.writes
+
   pub may_take : wanted_by now.running ≡ Some asked → IsSome (command_of seen a) → 0 < steps_due (recalls seen a) now.hand now.running → IsLawfulStep IsLawfulRun limits a seen None asked reply
   may_take asks busy some run told legal x is =
       let lasts = laws.own limits a seen run x in
@@ -142,6 +146,7 @@ module _ (laws : HaveLaws) (limits : Limits) (a : ℕ) (seen : List Entry) (now 
         state = later;
         direct = direct;
         readers = laws.readers.steps limits run a asked told reply now legal.readers (reads_on run legal x) asks later direct.direct;
+        writers = laws.writers.steps limits run a asked told reply now legal.writers (writes_on run legal x) asks later direct.direct;
         paid =
             laws.steps_paid limits run a asked told reply legal.paid (subst IsSome (sym lasts.command) busy)
             (subst (λ q. IsAllowed limits a q asked reply) (sym lasts.known) allowed) (subst (λ q. IsUseful q asked) (sym lasts.known) useful.useful)
@@ -192,6 +197,18 @@ module _ (laws : HaveLaws) (limits : Limits) (a : ℕ) (seen : List Entry) (now 
         subst (λ run. PaysReader limits run a new.running) (sym grown)
         (laws.readers.stepped limits took.run a asked told reply now new took.legal.state shown (reads_on took.run took.legal took.extends) asks kept.state kept.direct.direct acts runs)
 
+    writes_then : wanted_by now.running ≡ Some asked → (new : Actor) → ActsOn limits a k (recalls seen a) now asked told reply new
+        → running_command new ≡ command_left reply (running_command now) → PaysWriter limits later a new.running
+    writes_then asks new goes runs =
+        let lasts = laws.own limits a seen took.run took.extends in
+        let kept : IsLawfulRun limits (took.run ++ Step a asked told reply ∷ []) = subst (IsLawfulRun limits) grown took.kept in
+        let shown : IsActorWith limits a (knows took.run a) (recalls took.run a) now.hand now.running =
+        subst (λ q. IsActorWith limits a q (recalls took.run a) now.hand now.running) (sym lasts.known) (subst (λ q. IsActorWith limits a k q now.hand now.running) (sym lasts.recalled) h.shows) in
+        let acts : ActsOn limits a (knows took.run a) (recalls took.run a) now asked told reply new =
+        subst (λ q. ActsOn limits a q (recalls took.run a) now asked told reply new) (sym lasts.known) (subst (λ q. ActsOn limits a k q now asked told reply new) (sym lasts.recalled) goes) in
+        subst (λ run. PaysWriter limits run a new.running) (sym grown)
+        (laws.writers.stepped limits took.run a asked told reply now new took.legal.state shown (writes_on took.run took.legal took.extends) asks kept.state kept.direct.direct acts runs)
+
     pub seated_then : wanted_by now.running ≡ Some asked → (new : Actor) → ActsOn limits a k (recalls seen a) now asked told reply new
         → running_command new ≡ command_left reply (running_command now) → IsSome (command_of seen a) → IsSeated limits a later new
     seated_then asks new goes runs busy = record {
@@ -203,6 +220,7 @@ module _ (laws : HaveLaws) (limits : Limits) (a : ℕ) (seen : List Entry) (now 
           (subst (λ run. Accounts limits run a (steps_due (recall (recalls seen a) asked told) new.hand new.running)) (sym grown)
           (stays took.run told (steps_due (recall (recalls seen a) asked told) new.hand new.running) took.legal took.extends took.answered goes.spends goes.few).account);
       reads = reads_then asks new goes runs;
+      writes = writes_then asks new goes runs;
       lacks = subst (λ run. KeepsLack limits a run new.lacks) (sym grown) (lack_stepped limits a seen took.run asked told reply now.lacks new.lacks took.extends busy h.lacks goes.lacks replies_last
           (ap (λ run. knows run a) (sym grown) ∙ known_then) (ap (λ run. command_of run a) (sym grown) ∙ command_then));
     }

@@ -7,16 +7,18 @@ pub use Rattle.table_rule.specs.Running.{StartsWith}
 use Rattle.table_rule.specs.Running.{BeginWithSteps}
 use Rattle.op_machine.specs.theorem.Linearized.{IsLinearized, IsOrderly}
 use Rattle.progress.specs.ReaderStates.{IsReadersState}
+use Rattle.progress.specs.WriterStates.{IsWritersState}
 use Rattle.tree_law.specs.Changes.{IsPaidState}
 use Rattle.tree_law.specs.Direct.{IsDirectState}
 use Rattle.tree_law.specs.State.{IsState}
 
--- Each actor obeyed its discipline, by few steps and few changes, and each reader by few for each change.
+-- Each actor obeyed its discipline, by few steps and few changes, and each reader by few for each change; and each writer met what is gone seldom.
 pub record IsLawfulRun (limits : Limits) (run : List Entry) : Type 0 where
   pub state : IsState limits run
   pub direct : IsDirectState limits run
   pub paid : IsPaidState limits run
   pub readers : IsReadersState limits run
+  pub writers : IsWritersState limits run
 
 -- A run that a seat has seen: in it each begin stands directly before its operation's first step.
 pub record IsSeenRun (limits : Limits) (run : List Entry) : Type 0 where

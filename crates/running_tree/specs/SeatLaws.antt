@@ -1,5 +1,6 @@
 -- What the law of the tree gives a seat, of runs with steps of others that it has not seen.
 use Rattle.progress.specs.ReaderStates.{ReadersGoOn, ReadersStayPaid}
+use Rattle.progress.specs.WriterStates.{WritersGoOn, WritersStayPaid}
 use Rattle.tree_law.specs.Changes.{IsPaidState, StepsPay}
 use Rattle.tree_law.specs.Direct.{BeginsDirectly, StepsDirectly}
 use Rattle.tree_law.specs.Own.{OwnLasts, RowsAreApart}
@@ -20,8 +21,10 @@ pub record HaveLaws : Type 0 where
   pub steps_directly : StepsDirectly
   pub steps_paid : StepsPay
   pub readers : ReadersGoOn
+  pub writers : WritersGoOn
 
 -- What a seat keeps outlasts the entries of others.
 pub record SeatsLast : Type 0 where
   pub own : OwnLasts
   pub readers : ReadersStayPaid
+  pub writers : WritersStayPaid

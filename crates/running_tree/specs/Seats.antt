@@ -13,6 +13,7 @@ use Rattle.table_rule.specs.declared.view.Reach.TheVariants.{Idle}
 use Rattle.table_rule.specs.Running.{BeginWithSteps}
 use Rattle.table_rule.specs.Views.{SitsAt, Mine, seen_of}
 use Rattle.progress.specs.ReaderStates.{PaysReader}
+use Rattle.progress.specs.WriterStates.{PaysWriter}
 use Rattle.tree_law.specs.Direct.{Accounts}
 use Rattle.running_tree.specs.LastReply.{KeepsLack}
 use Rattle.running_tree.specs.Runs.{IsLawfulRun}
@@ -33,13 +34,14 @@ abbrev pub known_to : Seat → Knowledge
 known_to seat = knows seat.seen seat.actor
 
 -- What an actor keeps shows what its own entries let it know and recall; it runs what the run says that it has not finished, and
--- causes pay for the steps that it has taken and those that it has left, and a reader's by changes alone. It tells what ran out for its last one.
+-- causes pay for the steps that it has taken and those that it has left, and a reader's by changes alone, which pay for what a writer meets that is gone. It tells what ran out for its last one.
 pub record IsSeated (limits : Limits) (number : ℕ) (seen : List Entry) (at : Actor) : Type 0 where
   pub lawful : IsLawfulRun limits seen
   pub shows : IsActor limits number (knows seen number) (recalls seen number) at
   pub runs : running_command at ≡ command_of seen number
   pub pays : Accounts limits seen number (steps_due (recalls seen number) at.hand at.running)
   pub reads : PaysReader limits seen number at.running
+  pub writes : PaysWriter limits seen number at.running
   pub lacks : KeepsLack limits number seen at.lacks
 
 -- what a seat keeps between two calls

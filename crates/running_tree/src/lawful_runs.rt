@@ -6,7 +6,10 @@ ghost use Rattle.running_tree.specs.Runs.{IsLawfulRun, IsOneHistory, IsSeenRun};
 ghost use Rattle.traces.specs.declared.trace.Entry.{Entry};
 ghost use Rattle.table_rule.specs.Running.{KeepsRowsApart};
 
-use progress::{opens_with_readers, readers_go_on, readers_read_at_once, runs_make_progress};
+use progress::{
+    opens_with_readers, opens_with_writers, readers_go_on, readers_read_at_once, runs_are_whole,
+    runs_make_progress, writers_go_on,
+};
 use table_rule::{Law, Words};
 use tree_law::{
     answers, begins, begins_directly, begins_paid, entries_grow, frees_by_rule, index_is_exact,
@@ -14,7 +17,7 @@ use tree_law::{
     steps_directly, steps_paid,
 };
 
-/// In each run of the tree each actor obeyed its discipline, by few steps and few changes, and each reader by few for each change.
+/// In each run of the tree each actor obeyed its discipline, by few steps and few changes, and each reader by few for each change; and each writer met what is gone seldom.
 pub struct TreeLaw;
 
 impl Law for TreeLaw {
@@ -34,6 +37,7 @@ pub(crate) fn empty_run_is_lawful()
     opens_directly();
     opens_paid();
     opens_with_readers();
+    opens_with_writers();
 }
 
 /// Lawful runs keep the rows of actors apart.
@@ -52,6 +56,7 @@ pub(crate) fn runs_are_one_history()
     index_is_exact();
     readers_read_at_once();
     runs_make_progress();
+    runs_are_whole();
     frees_by_rule();
 }
 
@@ -70,6 +75,7 @@ pub(crate) fn laws_of_runs()
     steps_directly();
     steps_paid();
     readers_go_on();
+    writers_go_on();
 }
 
 /// What a seat keeps outlasts the steps of others.
@@ -78,4 +84,5 @@ pub(crate) fn seats_last()
 {
     own_lasts();
     readers_go_on();
+    writers_go_on();
 }

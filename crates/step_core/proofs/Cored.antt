@@ -22,23 +22,22 @@ use Rattle.core_memory.specs.Looks.{StandsIn}
 use Rattle.core_memory.specs.Tables.{CoreTable, memory_in}
 use Rattle.round_model.specs.Machines.{AreThere}
 use Rattle.traces.specs.trace.Trace.{command_of, commands_after, memory_of}
-use Rattle.traces.specs.discipline.Discipline.{IsAllowed, May}
+use Rattle.traces.specs.discipline.Discipline.{May}
 use Rattle.traces.specs.discipline.Disciplined.{IsDisciplinedFrom, MayStand, is_entry_of, own_entries}
 use Rattle.traces.specs.discipline.Knowledge.{Knowledge, after_begin, after_reply, knows, knows_after, learn, nothing}
-use Rattle.traces.specs.discipline.Useful.{IsUseful}
-use Rattle.op_machine.specs.theorem.Halves.{IsHalved}
 use Rattle.tree_law.specs.Changes.{IsPaidState, StepsPay}
 use Rattle.tree_law.specs.Direct.{IsDirectState, StaysDirect}
 use Rattle.tree_law.specs.Own.{RowsAreApart}
 use Rattle.tree_law.specs.State.{IsState}
 use Rattle.tree_law.specs.TraceLaws.{AnswersFit, BeginsKeep, Grows, Steps}
 use Rattle.traces.specs.discipline.Recalled.{Recalled, blank, recall, recalls, recalls_after}
-use Rattle.op_machine.specs.machine.Actors.{Actor, ActsOn, IsActor, IsActorShown, IsActorWith, command_at, command_left, idle_actor, knows_then, running_command, wanted_by}
+use Rattle.op_machine.specs.machine.Actors.{Actor, ActsOn, IsActor, IsActorShown, IsActorWith, command_at, command_left, idle_actor, running_command, wanted_by}
 use Rattle.op_machine.specs.machine.Hands.{Hand}
 use Rattle.op_machine.specs.machine.UnderWay.{UnderWay, steps_due}
 use Rattle.step_core.specs.Actors.{IsReady, IsServedAt, IsWithinAt, wanted_in}
 use Rattle.step_core.proofs.Lawful.{Asks, asks, is_placed, read_stands, served_at, within_at}
 use Rattle.progress.specs.ReaderStates.{IsReadersState, PaysReader, ReadersGoOn}
+use Rattle.progress.specs.WriterStates.{IsWritersState, PaysWriter, WritersGoOn}
 use Rattle.step_core.specs.Cores.{IsCore, Pays}
 use Rattle.step_core.specs.Turns.{Core, Demand, KeepsMore, LeavesAt, WantsMemory, busy_of, refused_by, refusal_of}
 use Rattle.step_core.proofs.Replaced.{get_is, set_cases, set_length, set_other}
@@ -110,6 +109,17 @@ reads_set laws limits actors entries entry i new of shows each readers own a at 
   | inr h ↦ laws.lasts limits a entries (entries ++ entry ∷ []) at (entry ∷ [], refl, none_own i a entry (of a) h.0) readers (shows a at h.1) (each a at h.1)
 ]
 
+-- and each writer
+writes_set : WritersGoOn → (limits : Limits) (actors : List Actor) (entries : List Entry) (entry : Entry) (i : ℕ) (new : Actor) → ((a : ℕ) → is_entry_of a entry ≡ (a == i))
+    → ((a : ℕ) (at : Actor) → slice_get actors a ≡ Some at → IsActor limits a (knows entries a) (recalls entries a) at)
+    → ((a : ℕ) (at : Actor) → slice_get actors a ≡ Some at → PaysWriter limits entries a at.running)
+    → IsWritersState limits (entries ++ entry ∷ []) → PaysWriter limits (entries ++ entry ∷ []) i new.running → (a : ℕ) (at : Actor)
+    → slice_get (set actors i new) a ≡ Some at → PaysWriter limits (entries ++ entry ∷ []) a at.running
+writes_set laws limits actors entries entry i new of shows each writers own a at e = elim (set_cases actors i new a at e) [
+  | inl h ↦ rw (h.0, h.1) own
+  | inr h ↦ laws.lasts limits a entries (entries ++ entry ∷ []) at (entry ∷ [], refl, none_own i a entry (of a) h.0) writers (shows a at h.1) (each a at h.1)
+]
+
 -- an actor without an operation is outside
 outside : (limits : Limits) (a : ℕ) (k : Knowledge) (r : Recalled) (hand : Hand) (o : Option UnderWay) → IsActorWith limits a k r hand o → command_at o ≡ None → k.inside ≡ false
 outside limits a k r hand None shows idle = shows.spares.outside
@@ -129,12 +139,13 @@ module _ (limits : Limits) where
   pub core_opens : (table : CoreTable) (actors : List Actor) (entries : List Entry) → table.limits ≡ limits → memory_in table ≡ opening limits → length actors ≡ limits.actors
       → ((a : ℕ) (at : Actor) → slice_get actors a ≡ Some at → at ≡ idle_actor limits)
       → ((limits : Limits) (number : ℕ) (r : Recalled) → IsActor limits number nothing r (idle_actor limits)) → IsState limits [] → IsDirectState limits []
-      → IsPaidState limits [] → IsReadersState limits [] → entries ≡ [] → IsCore limits table actors entries
-  core_opens table actors entries same has count each rest state direct paid readers none = rw none (record {
+      → IsPaidState limits [] → IsReadersState limits [] → IsWritersState limits [] → entries ≡ [] → IsCore limits table actors entries
+  core_opens table actors entries same has count each rest state direct paid readers writers none = rw none (record {
     state = state;
     direct = direct;
     paid = paid;
     readers = readers;
+    writers = writers;
     disciplined = tt;
     same_limits = same;
     has = has;
@@ -143,6 +154,7 @@ module _ (limits : Limits) where
     each_running = λ a at e. rw (each a at e) refl;
     each_pays = λ a at e. rw (each a at e) (λ operation last own. cc);
     each_reads = λ a at e. rw (each a at e) tt;
+    each_writes = λ a at e. rw (each a at e) tt;
   })
 
   -- the actor of a turn that isn't refused
@@ -262,23 +274,25 @@ module _ (limits : Limits) where
       let (found, wanted) = core_wanted table actors entries i j old room core v is refusal same at in
       inr (wanted_by old.running, wanted, subst (λ c. KeepsMore c (wanted_by old.running)) (core.each_running i old found ∙ ap (λ (u : Core). command_of u.entries i) is) keeps)
 
-  pub core_begun : BeginsKeep IsState → BeginsKeep IsPaidState → ReadersGoOn
+  pub core_begun : BeginsKeep IsState → BeginsKeep IsPaidState → ReadersGoOn → WritersGoOn
       → (table : CoreTable) (actors : List Actor) (entries entries' : List Entry) (i j : ℕ) (new : Actor) (command : Command)
       → IsCore limits table actors entries
       → (demand : Demand) (v : Core) → record { limits = limits; entries = entries; demand = demand } ≡ v → refusal_of v (turn.Begin i command) ≡ None → j ≡ i
       → (knows entries i).inside ≡ false → IsActor limits i (after_begin (knows entries i) command) blank new → running_command new ≡ Some command
       → Grows limits entries (Begin i command) → StaysDirect limits entries (Begin i command) i (steps_due blank new.hand new.running)
       → entries' ≡ entries ++ Begin i command ∷ [] → IsCore limits table (set actors j new) entries'
-  core_begun begins pays reads table actors entries entries' i j new command core demand v is refusal same out shows runs grows stays grown =
+  core_begun begins pays reads writes table actors entries entries' i j new command core demand v is refusal same out shows runs grows stays grown =
       let goes : (i < limits.actors) × (command_of entries i ≡ None) = begin_goes (record { limits = limits; entries = entries; demand = demand }) i command
       (subst (λ u. refusal_of u (turn.Begin i command) ≡ None) (sym is) refusal) in
       let later : IsState limits (entries ++ Begin i command ∷ []) = begins limits entries i command core.state goes.0 goes.1 in
       let readers : IsReadersState limits (entries ++ Begin i command ∷ []) = reads.begins limits entries i command core.readers later stays.state.direct in
+      let writers : IsWritersState limits (entries ++ Begin i command ∷ []) = writes.begins limits entries i command core.writers later stays.state.direct in
       rw (grown, same) (record {
         state = later;
         direct = stays.state;
         paid = pays limits entries i command core.paid goes.0 goes.1;
         readers = readers;
+        writers = writers;
         disciplined = stands_push limits [] entries (Begin i command) core.disciplined (goes.0, goes.1);
         same_limits = core.same_limits;
         has = rw grows.memory core.has;
@@ -297,6 +311,9 @@ module _ (limits : Limits) where
         each_reads =
             reads_set reads limits actors entries (Begin i command) i new (λ a. refl) core.each_shows core.each_reads readers
             (reads.begun limits entries i command (after_begin (knows entries i) command) blank new shows out runs);
+        each_writes =
+            writes_set writes limits actors entries (Begin i command) i new (λ a. refl) core.each_shows core.each_writes writers
+            (writes.begun limits entries i command (after_begin (knows entries i) command) blank new shows out runs);
       })
 
   -- the commands after a step
@@ -321,7 +338,7 @@ module _ (limits : Limits) where
       → j < length actors → old ≡ get_or actors j old → Pays limits entries i old
   core_affords table actors entries i j old core same lt at = core.each_pays i old (get_is actors i old (rw (sym same) lt) (subst (λ k. old ≡ get_or actors k old) same at))
 
-  pub core_stepped : Steps → StepsPay → ReadersGoOn
+  pub core_stepped : Steps → StepsPay → ReadersGoOn → WritersGoOn
       → (table table' : CoreTable) (actors : List Actor) (entries entries' : List Entry) (i j : ℕ) (old new : Actor) (step : StepOf Record) (answer : Answer Record) (reply : Option Reply)
       → IsCore limits table actors entries
       → j ≡ i → j < length actors → old ≡ get_or actors j old → is_some (running_command old) ≡ true → wanted_by old.running ≡ Some step
@@ -330,17 +347,20 @@ module _ (limits : Limits) where
       → StaysDirect limits entries (Step i step answer reply) i (steps_due (recall (recalls entries i) step answer) new.hand new.running)
       → table'.limits ≡ table.limits → IsAnswer (memory_of limits entries) step answer → memory_in table' ≡ memory_after i step (memory_in table)
       → entries' ≡ entries ++ Step i step answer reply ∷ [] → IsCore limits table' (set actors j new) entries'
-  core_stepped steps pays reads table table' actors entries entries' i j old new step answer reply core same lt at some wants acts runs grows stays kept_limits answered kept grown =
+  core_stepped steps pays reads writes table table' actors entries entries' i j old new step answer reply core same lt at some wants acts runs grows stays kept_limits answered kept grown =
       let found : slice_get actors i ≡ Some old = get_is actors i old (rw (sym same) lt) (subst (λ k. old ≡ get_or actors k old) same at) in
       let going : is_some (command_of entries i) ≡ true = ap is_some (sym (core.each_running i old found)) ∙ some in
       let later : IsState limits (entries ++ Step i step answer reply ∷ []) = steps limits entries i step answer reply core.state going acts.allowed answered in
       let readers : IsReadersState limits (entries ++ Step i step answer reply ∷ []) = reads.steps limits entries i step answer reply old core.readers
       (core.each_reads i old found) wants later stays.state.direct in
+      let writers : IsWritersState limits (entries ++ Step i step answer reply ∷ []) = writes.steps limits entries i step answer reply old core.writers
+      (core.each_writes i old found) wants later stays.state.direct in
       rw (grown, same) (record {
         state = later;
         direct = stays.state;
         paid = pays limits entries i step answer reply core.paid going acts.allowed acts.useful.useful acts.halved answered;
         readers = readers;
+        writers = writers;
         disciplined = stands_push limits [] entries (Step i step answer reply) core.disciplined (going, acts.allowed, answered);
         same_limits = kept_limits ∙ core.same_limits;
         has = rw grows.memory (kept ∙ ap (memory_after i step) core.has);
@@ -360,4 +380,6 @@ module _ (limits : Limits) where
             (sym (replaced_same i (recall (recalls entries i) step answer) (recalls entries))) stays);
         each_reads = reads_set reads limits actors entries (Step i step answer reply) i new (λ a. refl) core.each_shows core.each_reads readers
             (reads.stepped limits entries i step answer reply old new core.state (core.each_shows i old found) (core.each_reads i old found) wants later stays.state.direct acts runs);
+        each_writes = writes_set writes limits actors entries (Step i step answer reply) i new (λ a. refl) core.each_shows core.each_writes writers
+            (writes.stepped limits entries i step answer reply old new core.state (core.each_shows i old found) (core.each_writes i old found) wants later stays.state.direct acts runs);
       })

@@ -2,6 +2,8 @@
 ghost use Rattle.progress.specs.ReaderStates.{ReadersGoOn};
 ghost use Rattle.progress.specs.Readers.{ReadersReadAtOnce};
 ghost use Rattle.progress.specs.Unhindered.{LoneOperationsEnd, RunsAreLockFree, RunsAreUnhindered};
+ghost use Rattle.progress.specs.Writers.{RunsAreWhole, RunsEnd};
+ghost use Rattle.progress.specs.WriterStates.{WritersGoOn};
 ghost use Rattle.tree_law.specs.Changes.{IsPaidState, StepsPay};
 ghost use Rattle.tree_law.specs.Direct.{BeginsDirectly, StepsDirectly};
 ghost use Rattle.tree_law.specs.Own.{RowsAreApart};
@@ -9,7 +11,7 @@ ghost use Rattle.tree_law.specs.State.{IsState};
 ghost use Rattle.tree_law.specs.TraceLaws.{AnswersFit, BeginsKeep, HeadsStand, RunsAreIndexed, RunsAreLinearized, RunsFreeByRule, RunsKeepPhases};
 ghost use Rattle.tree_law.specs.TraceLaws.{StatesFreeByRule, StatesAreIndexed, StatesAreLinearized, StatesKeepPhases, Steps};
 
-use progress::readers_go_on;
+use progress::{readers_go_on, writers_go_on};
 use tree_law::{
     answers, begins, begins_directly, begins_paid, rows_are_apart, steps, steps_directly,
     steps_paid,
@@ -30,20 +32,22 @@ pub fn disciplined_runs()
     tree_law::frees_by_rule();
 }
 
-/// A begin keeps the law of states, and those of few steps and few changes, and of readers.
+/// A begin keeps the law of states, and those of few steps and few changes, and of readers and writers.
 pub(crate) fn begins_keep_laws()
     ensures state { BeginsKeep IsState }
     ensures direct { BeginsDirectly }
     ensures paid { BeginsKeep IsPaidState }
     ensures readers { ReadersGoOn }
+    ensures writers { WritersGoOn }
 {
     begins();
     begins_directly();
     begins_paid();
     readers_go_on();
+    writers_go_on();
 }
 
-/// What a step may count on, and that it keeps the law of states, and those of few steps and few changes, and of readers.
+/// What a step may count on, and that it keeps the law of states, and those of few steps and few changes, and of readers and writers.
 pub(crate) fn steps_keep_laws()
     ensures apart { RowsAreApart }
     ensures heads { HeadsStand }
@@ -52,6 +56,7 @@ pub(crate) fn steps_keep_laws()
     ensures direct { StepsDirectly }
     ensures paid { StepsPay }
     ensures readers { ReadersGoOn }
+    ensures writers { WritersGoOn }
 {
     rows_are_apart();
     answers();
@@ -59,6 +64,7 @@ pub(crate) fn steps_keep_laws()
     steps_directly();
     steps_paid();
     readers_go_on();
+    writers_go_on();
 }
 
 /// What the tree's law says of states, of their readers, and of the progress of all operations.
@@ -70,6 +76,8 @@ pub(crate) fn states_are_lawful()
     ensures unhindered { RunsAreUnhindered }
     ensures alone { LoneOperationsEnd }
     ensures together { RunsAreLockFree }
+    ensures ends { RunsEnd }
+    ensures whole { RunsAreWhole }
     ensures freed { StatesFreeByRule }
 {
     tree_law::is_one_map();
@@ -77,5 +85,6 @@ pub(crate) fn states_are_lawful()
     tree_law::index_is_exact();
     progress::readers_read_at_once();
     progress::runs_make_progress();
+    progress::runs_are_whole();
     tree_law::frees_by_rule();
 }

@@ -15,7 +15,7 @@ use bw_model::{Command, Key, Limits, Link, OpenError, Value};
 use core_memory::{CoreRows, CoreTable, Entries};
 use listing::{add_pairs, pages_are_listed};
 use op_machine::{Actor, idle_actors_rest};
-use progress::opens_with_readers;
+use progress::{opens_with_readers, opens_with_writers};
 use std::alloc::{AllocError, Allocator, Global};
 use std::marker::Model;
 use traces::Turn;
@@ -75,6 +75,7 @@ impl<A: Allocator + Copy> Core<A> {
         opens_directly();
         opens_paid();
         opens_with_readers();
+        opens_with_writers();
         idle_actors_rest();
         let memory = CoreTable::<A>::open(alloc, &limits)?;
         let mut actors = Vec::with_capacity(alloc, limits.actors as usize)?;

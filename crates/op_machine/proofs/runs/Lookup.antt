@@ -23,6 +23,7 @@ use Rattle.op_machine.specs.theorem.Examples.{small, opening_leaf, lookup}
 use Rattle.op_machine.specs.theorem.Linearized.{IsLinearized, IsOrderly}
 use Rattle.op_machine.specs.theorem.ReadersEnd.{ReadersEnd, one_memory}
 use Rattle.op_machine.specs.theorem.Unhindered.{EndsAlone, IsLockFree, IsUnhindered}
+use Rattle.op_machine.specs.theorem.Whole.{AreLockFree, MakesProgress, hindrance_worth}
 use Rattle.op_machine.proofs.Listed.{EachAt-get, UpTo-at, passes_at, same_operation, stands_at}
 use Rattle.op_machine.proofs.runs.Kinds.{is_begin, is_done, leaf_at, one_begin, one_reply, one_row, outside, reads_row}
 use Rattle.op_machine.proofs.MapLaws.{one_leaf}
@@ -391,12 +392,46 @@ lock_free = record {
   ];
 }
 
+all_lock_free : AreLockFree small lookup
+unfolding cause_worth
+all_lock_free = record {
+  few = λ n. elim (cases_lt 7 n) [
+    | inl lt ↦ let whole : take n lookup ≡ lookup = take_all n lookup (omega arith) in rw whole (lit≤ tt)
+    | inr le ↦ UpTo-at (λ k. count_by is_step (take k lookup) ≤ hindrance_worth small * (count_by begins_one (take k lookup) + 2 * (32 * count_by begins_one (take k lookup) + 64 + 64))) 7
+        (lit≤ tt, (lit≤ tt, (lit≤ tt, (lit≤ tt, (lit≤ tt, (lit≤ tt, (lit≤ tt, lit≤ tt))))))) n le
+  ];
+  ended = λ n. elim (cases_lt 7 n) [
+    | inl lt ↦ let whole : take n lookup ≡ lookup = take_all n lookup (omega arith) in rw whole (lit≤ tt)
+    | inr le ↦ UpTo-at (λ k. count_by is_step (take k lookup) ≤ hindrance_worth small * (count_by is_end (take k lookup) + 2 + 2 * (32 * (count_by is_end (take k lookup) + 2) + 64 + 64))) 7
+        (lit≤ tt, (lit≤ tt, (lit≤ tt, (lit≤ tt, (lit≤ tt, (lit≤ tt, (lit≤ tt, lit≤ tt))))))) n le
+  ];
+}
+
+makes_progress : MakesProgress small lookup
+makes_progress = record {
+  ends = record {
+    few = λ operation n is own. ([], record { increasing = λ k h. absurd (omega arith); each = λ k d h. absurd (omega arith) }, once (cause_worth small) (one_memory small) (few_steps operation n is (at_most n own)));
+  };
+  alone = record {
+    few = λ operation m n is after own alone.
+        ([], record { increasing = λ k h. absurd (omega arith); each = λ k d h. absurd (omega arith) }, with_store (cause_worth small) (one_memory small) (few_steps operation n is (at_most n own)));
+  };
+  together = all_lock_free;
+}
+  where
+    once : {m : ℕ} (worth one : ℕ) → m ≤ worth → m ≤ (worth * (22 + 1) + one + 3) * (0 + 1)
+    once worth one h = omega (arith, h)
+
+    with_store : {m : ℕ} (worth one : ℕ) → m ≤ worth → m ≤ (worth * (22 + 1) + one + 3) * (0 + 154 * 64 + 8 * 2 + 1)
+    with_store worth one h = omega (arith, h)
+
 pub is_orderly : IsOrderly small lookup
 is_orderly = record {
   phases = keeps_phases;
   index = is_exact_index;
   direct = is_direct;
   few_changes = has_few_changes;
+  progress = makes_progress;
   readers = readers_end;
   reads = reads_at_once;
   unhindered = unhindered;

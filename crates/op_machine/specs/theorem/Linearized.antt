@@ -18,6 +18,7 @@ use Rattle.op_machine.specs.theorem.Progress.{ReadsAtOnce}
 use Rattle.op_machine.specs.theorem.ReadersEnd.{ReadersEnd}
 use Rattle.op_machine.specs.theorem.Reuse.{IsFreedByRule}
 use Rattle.op_machine.specs.theorem.Unhindered.{EndsAlone, IsLockFree, IsUnhindered}
+use Rattle.op_machine.specs.theorem.Whole.{MakesProgress}
 
 -- The entries are a run of the turns, in which each operation ends with its only Leave, with linearization points: each finished
 -- operation replies what one ordered map replies at its point, or Tidied or Full, which have none and tell what it found; that map
@@ -34,13 +35,15 @@ pub record IsLinearized (limits : Limits) (turns : List Turn) (entries : List En
   pub faithful : IsFaithful limits entries
 
 -- What stands beside it: the life of each page, the terms of each level, bounded steps, few changes, and the rule by which rows and PIDs are used
--- again. A reader takes few steps for each change of the tree, and ends where it runs alone. As long as no removal was ever placed: readers that
--- take few steps whatever others do, what hinders a writer, that each operation ends where it runs alone, and few steps of all together.
+-- again. Changes of the tree, and the numbers that others take, pay for an operation's steps, it ends where it runs alone, and all together are
+-- lock-free; and a reader takes few steps for each change of the tree. As long as no removal was ever placed: readers that take few steps whatever
+-- others do, what hinders a writer, that each operation ends where it runs alone, and few steps of all together, each by a smaller number.
 pub record IsOrderly (limits : Limits) (entries : List Entry) : Type 0 where
   pub phases : KeepsPhases limits entries
   pub index : IsExactIndex limits entries
   pub direct : IsDirect limits entries
   pub few_changes : HasFewChanges limits entries
+  pub progress : MakesProgress limits entries
   pub readers : ReadersEnd limits entries
   pub reads : ReadsAtOnce limits entries
   pub unhindered : IsUnhindered limits entries

@@ -12,8 +12,8 @@ use Rattle.round_model.specs.WriteRounds.{BeginsToWrite, VisitsToWrite, WriteRou
 use Rattle.round_model.specs.WriteRounds as write
 use Rattle.round_model.proofs.PageLaws.{above_empty}
 use Rattle.traces.specs.chain.Chains.{level_in}
-use Rattle.progress.specs.WritersAmong.{AfterChange, AreLawfulWritings, AtChange, Decides, HasDecided, InRound, IsLawfulWriting, IsOtherWriting, IsOwnWriting}
-use Rattle.progress.specs.WritersAmong.{ShowsWriter, StepsAtChange, StepsInRound, StepsOn, WriterMoment, WriterState, WritersMeetFew, changes_among, meets, meets_at, most_meets}
+use Rattle.progress.specs.WritersAmong.{few_meets, AfterChange, AreLawfulWritings, AtChange, Decides, HasDecided, InRound, IsLawfulWriting, IsOtherWriting, IsOwnWriting}
+use Rattle.progress.specs.WritersAmong.{ShowsWriter, StepsAtChange, StepsInRound, StepsOn, WriterMoment, WriterState, WritersMeetFew, changes_among, meets, meets_at}
 use Rattle.progress.specs.ReadersAmong.{IsOthers}
 use Rattle.round_model.specs.Walks.{HasNoneRead}
 use Rattle.progress.proofs.rounds.Agreeing.{visit_same}
@@ -63,21 +63,21 @@ module _ (limits : Limits) (actor : ℕ) where
     same_now = record { root = refl; slots = λ pid some h. refl; chains = λ pid chain h is. is }
 
     -- wherever a writer stands
-    stands_anyhow : (writer : WriterState) (r : Recalled) → ShowsWriter writer (knows entries actor) r → Stands now writer most_meets
+    stands_anyhow : (writer : WriterState) (r : Recalled) → ShowsWriter writer (knows entries actor) r → Stands now writer few_meets
     stands_anyhow (AtChange slot expected taken) r shows = inr (inr (let le : 19 ≤ 21 = omega arith in le))
     stands_anyhow (InRound round) r shows = by_state round.state refl shows
       where
-        by_goal : (goal : WriteGoal) → BeginsToWrite round.limits round.key round.floor (knows entries actor) goal → Begins now goal round.key round.floor most_meets
+        by_goal : (goal : WriteGoal) → BeginsToWrite round.limits round.key round.floor (knows entries actor) goal → Begins now goal round.key round.floor few_meets
         by_goal Seek b = let le : 18 ≤ 21 = omega arith in le
         by_goal (Left pid) b = inr (subst (λ (k : Key). IsTrue (is_below [] k)) b.low (above_empty b.removed.chain b.gone.in_hand.sound.is_chain.fitted b.gone.gone), (let le : 19 ≤ 21 = omega arith in le))
         by_goal (Merge left) b = absurd b
         by_goal (Unterm parent left) b = absurd b
 
-        by_state : (at : WayState) → round.state ≡ at → write.ShowsState round (knows entries actor) r at → Stands now (InRound round) most_meets
-        by_state Root e s = inl (subst (λ (a : WayState). StandsAt now round.goal round.key round.floor round.parent round.left a most_meets) (sym e) (s.1, s.2, by_goal round.goal s.3))
-        by_state (Page visit) e s = inr (subst (λ (a : WayState). IsStale now a most_meets) (sym e) (let le : 21 ≤ 21 + cond {A = ℕ} (has_removal visit.part) 1 0 = omega arith in le))
+        by_state : (at : WayState) → round.state ≡ at → write.ShowsState round (knows entries actor) r at → Stands now (InRound round) few_meets
+        by_state Root e s = inl (subst (λ (a : WayState). StandsAt now round.goal round.key round.floor round.parent round.left a few_meets) (sym e) (s.1, s.2, by_goal round.goal s.3))
+        by_state (Page visit) e s = inr (subst (λ (a : WayState). IsStale now a few_meets) (sym e) (let le : 21 ≤ 21 + cond {A = ℕ} (has_removal visit.part) 1 0 = omega arith in le))
 
-    here_anyhow : (writer : WriterState) (r : Recalled) → ShowsWriter writer (knows entries actor) r → Here entries state writer most_meets
+    here_anyhow : (writer : WriterState) (r : Recalled) → ShowsWriter writer (knows entries actor) r → Here entries state writer few_meets
     here_anyhow writer r shows = (now, same_now, stands_anyhow writer r shows)
 
     -- what is known of a round's visit
@@ -205,18 +205,18 @@ module _ (limits : Limits) (actor : ℕ) where
 
   abbrev Rest : List WriterMoment → Type 0
   Rest moments = (entries : List Entry) (state : IsState limits entries) (writer : WriterState) (most : ℕ) → AreLawfulWritings limits actor entries writer moments
-      → Here entries state writer most → many is_meeting moments ≤ most + changes_among limits entries moments * most_meets
+      → Here entries state writer most → many is_meeting moments ≤ most + changes_among limits entries moments * few_meets
 
   anew : (moments : List WriterMoment) (entries : List Entry) (state : IsState limits entries) (writer : WriterState) → AreLawfulWritings limits actor entries writer moments
-      → Rest moments → many is_meeting moments ≤ most_meets + changes_among limits entries moments * most_meets
+      → Rest moments → many is_meeting moments ≤ few_meets + changes_among limits entries moments * few_meets
   anew [] entries state writer are rest = let le : 0 ≤ 21 + 0 * 21 = omega arith in le
-  anew (moment ∷ moments) entries state writer are rest = rest entries state writer most_meets are (here_anyhow entries state writer are.0.r are.0.shows)
+  anew (moment ∷ moments) entries state writer are rest = rest entries state writer few_meets are (here_anyhow entries state writer are.0.r are.0.shows)
 
   module _ (moment : WriterMoment) (moments : List WriterMoment) (entries : List Entry) (state : IsState limits entries) (writer : WriterState) (most : ℕ)
       (m : IsLawfulWriting limits actor entries writer moment)
       (are : AreLawfulWritings limits actor (entries ++ moment.entry ∷ []) moment.state moments) (here : Here entries state writer most) (rest : Rest moments) where
     abbrev Goal : Type 0
-    Goal = many is_meeting (moment ∷ moments) ≤ most + changes_among limits entries (moment ∷ moments) * most_meets
+    Goal = many is_meeting (moment ∷ moments) ≤ most + changes_among limits entries (moment ∷ moments) * few_meets
 
     abbrev changes : ℕ
     changes = changes_among limits (entries ++ moment.entry ∷ []) moments
@@ -232,15 +232,15 @@ module _ (limits : Limits) (actor : ℕ) where
     changed on =
         let few = anew moments (entries ++ moment.entry ∷ []) m.later moment.state are rest in
         let none : cond {A = ℕ} (is_meeting moment) 1 0 ≡ 0 = ap (λ (b : Bool). cond {A = ℕ} b 1 0) (change_meets (memory_of limits entries) actor moment.entry on) in
-        let more = ap (λ (n : ℕ). n * most_meets) (one_more on) in
-        let product = add-mul 1 changes most_meets in
+        let more = ap (λ (n : ℕ). n * few_meets) (one_more on) in
+        let product = add-mul 1 changes few_meets in
         omega (arith, few, none, more, product)
 
     -- it doesn't, and so many are left after it
     unchanged : changes_tree (memory_of limits entries) moment.entry ≡ false → (left now_met : ℕ) → left + now_met ≤ most → cond {A = ℕ} (is_meeting moment) 1 0 ≡ now_met → Stands here.0 moment.state left → Goal
     unchanged off left now_met less one stands =
         let few = rest (entries ++ moment.entry ∷ []) m.later moment.state left are (here.0, same_next limits here.0 entries moment.entry state m.next m.later m.direct off here.1, stands) in
-        let same = ap (λ (n : ℕ). n * most_meets) (none_more off) in
+        let same = ap (λ (n : ℕ). n * few_meets) (none_more off) in
         omega (arith, few, less, one, same)
 
     own_case : IsOwnWriting actor (knows entries actor) writer moment → changes_tree (memory_of limits entries) moment.entry ≡ false → Goal
@@ -266,5 +266,5 @@ pub writers_meet_few : WritersMeetFew
 writers_meet_few limits actor entries state_of moments state are =
     let few = anew limits actor moments entries state state_of are (within limits actor moments) in
     let own = many_is_count (λ (m : WriterMoment). meets_at actor m.entry) moments in
-    let product = add-mul 1 (changes_among limits entries moments) most_meets in
+    let product = add-mul 1 (changes_among limits entries moments) few_meets in
     omega (arith, few, own, product)

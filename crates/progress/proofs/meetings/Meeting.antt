@@ -271,10 +271,15 @@ module _ (w : Standing) where
         let stays : StaysLeft (precedes old.key) version.chain = subst (λ (g : WriteGoal). StaysLeft (write_way g old.key) version.chain) l.goal l.here.stays in
         let same : old.floor ≡ level = sym l.level ∙ stands.level_is in
         elim here.is [
-          | inl clear ↦ (here, clear.0, elim clear.1 [
-            | inl held ↦ inl (subst (λ (n : ℕ). IsHeld w pid old.key n) same held.0, subst (λ (n : ℕ). 17 ≤ rest + n) same held.2)
-            | inr spare ↦ inr spare
-          ], stays)
+          | inl clear ↦ (
+            here,
+            clear.0,
+            elim clear.1 [
+              | inl held ↦ inl (subst (λ (n : ℕ). IsHeld w pid old.key n) same held.0, subst (λ (n : ℕ). 17 ≤ rest + n) same held.2)
+              | inr spare ↦ inr spare
+            ],
+            stays,
+          )
           | inr under ↦ absurd (clash (is_removed version.chain) under.0.gone l.here.alive)
         ]
 
@@ -288,13 +293,15 @@ module _ (w : Standing) where
         let r = w.tree.right level (live version) g.pid l.1.on g.beside in
         let some = some_left (elim l.2 [ inl held ↦ inl held.1 | inr spare ↦ inr spare ]) in
         subst (λ (o : WriteRound). MeetsFew o rest) (sym g.goes)
-        (arrives old.limits (Merge version) old.key old.floor None None r.0 level g.pid (rest - 1) rest (w.tree.each level r.0 r.1) r.2
-        (as_read, elim l.2 [
-          | inl held ↦ inl (λ removed same. may_merge w g.pid old.key level held.0 version removed l.1.on g.left.here.alive g.beside
-              (short_of old.limits old.due version g.left.fine) (roomy_of old.limits old.due version stands.fits g.left.here.alive g.left.fine)
-              (subst (λ (p : LivePage). IsPageOn w.limits w.memory level p) (sym same) (w.tree.each level r.0 r.1)) (ap (λ (p : LivePage). p.pid) same ∙ r.2))
-          | inr spare ↦ inr (omega (arith, spare))
-        ])
+        (arrives old.limits (Merge version) old.key old.floor None None r.0 level g.pid (rest - 1) rest (w.tree.each level r.0 r.1) r.2 (
+          as_read,
+          elim l.2 [
+            | inl held ↦ inl (λ removed same. may_merge w g.pid old.key level held.0 version removed l.1.on g.left.here.alive g.beside
+                (short_of old.limits old.due version g.left.fine) (roomy_of old.limits old.due version stands.fits g.left.here.alive g.left.fine)
+                (subst (λ (p : LivePage). IsPageOn w.limits w.memory level p) (sym same) (w.tree.each level r.0 r.1)) (ap (λ (p : LivePage). p.pid) same ∙ r.2))
+            | inr spare ↦ inr (omega (arith, spare))
+          ],
+        )
         (one_less rest rest (owed (is_removed r.0.chain) false) some (omega arith) (owed_one (is_removed r.0.chain) false)))
 
     over_of : (goal : WriteGoal) (parent : Version) → IsAbove (write_way goal old.key) level old.parent → old.parent ≡ Some parent → IsOver (write_way goal old.key) level parent
@@ -307,12 +314,14 @@ module _ (w : Standing) where
         let c = w.tree.child level g.pid (live g.parent) old.key true over.on g.term in
         let some = some_left (elim l.2 [ inl held ↦ inl held.1 | inr spare ↦ inr spare ]) in
         subst (λ (o : WriteRound). MeetsFew o rest) (sym g.goes)
-        (arrives old.limits (Unterm g.parent version) old.key old.floor None None c.1.0 level g.pid (rest - 1) rest c.1.2.is_page c.1.1
-        (over.as_read, elim l.2 [
-          | inl held ↦ inl (λ removed same. may_unterm w g.pid old.key level held.0 g.parent version removed over.alive over.short g.term g.left.here.alive l.0.passing l.3 g.apart level
-              (subst (λ (p : LivePage). IsPageOn w.limits w.memory level p) (sym same) c.1.2.is_page) (ap (λ (p : LivePage). p.pid) same ∙ c.1.1))
-          | inr spare ↦ inr (omega (arith, spare))
-        ])
+        (arrives old.limits (Unterm g.parent version) old.key old.floor None None c.1.0 level g.pid (rest - 1) rest c.1.2.is_page c.1.1 (
+          over.as_read,
+          elim l.2 [
+            | inl held ↦ inl (λ removed same. may_unterm w g.pid old.key level held.0 g.parent version removed over.alive over.short g.term g.left.here.alive l.0.passing l.3 g.apart level
+                (subst (λ (p : LivePage). IsPageOn w.limits w.memory level p) (sym same) c.1.2.is_page) (ap (λ (p : LivePage). p.pid) same ∙ c.1.1))
+            | inr spare ↦ inr (omega (arith, spare))
+          ],
+        )
         (one_less rest rest (owed (is_removed c.1.0.chain) false) some (omega arith) (owed_one (is_removed c.1.0.chain) false)))
 
     -- no round to the left of a page that has its held term ends below that one's level, or without a change

@@ -11,8 +11,9 @@ use Rattle.bw_model.specs.declared.step.Answer.TheVariants.{Content}
 use Rattle.bw_model.specs.declared.step.Step.TheVariants.{Exchange, Row, Slot}
 use Rattle.deltas.specs.declared.record.Record.TheVariants as delta
 use Rattle.op_machine.specs.theorem.ReadersEnd.{ReadersEnd}
-use Rattle.progress.specs.Writers.{MeetsSeldom, RunsEnd, hindrance_worth}
-use Rattle.progress.specs.WritersAmong.{meets, meets_at, most_meets}
+use Rattle.progress.specs.Writers.{MeetsSeldom, RunsEnd}
+use Rattle.op_machine.specs.theorem.Whole.{hindrance_worth, most_meets}
+use Rattle.progress.specs.WritersAmong.{meets, meets_at}
 use Rattle.progress.proofs.Counted.{AreDistinct, Each, IsNotAmong}
 use Rattle.progress.proofs.Hindering.{among_hinder, beside, changes_at, changes_by, beside_by, hinder, is_change, takes_beside}
 use Rattle.progress.proofs.Payers.{IsIn, Pays, all_distinct, paid_by}
@@ -250,8 +251,8 @@ module _ (limits : Limits) (entries : List Entry) where
         at_most_both true false = omega arith
         at_most_both false c = omega arith
 
-        enough : (causes told taken changed met hinders list : ℕ) → causes ≤ told + taken → told ≤ changed + met → changed + taken ≤ hinders → list ≤ changed → met ≤ (1 + list) * 21
-            → causes + 1 ≤ (21 + 1) * (hinders + 1)
+        enough : (causes told taken changed met hinders list : ℕ) → causes ≤ told + taken → told ≤ changed + met → changed + taken ≤ hinders → list ≤ changed → met ≤ (1 + list) * 22
+            → causes + 1 ≤ (22 + 1) * (hinders + 1)
         enough causes told taken changed met hinders list one two three four five = omega (arith, one, two, three, four, five)
 
     paid_writer : MeetsSeldom limits entries → is_writer op.command ≡ true → IsOwnStep entries op n
@@ -261,12 +262,12 @@ module _ (limits : Limits) (entries : List Entry) where
         let causes = writer_causes seldom writer own h.0 h.1 h.2 in
         scaled (steps_from entries op.actor op.start n) (cause_worth limits) (length h.0 + 1) (tally (hinder limits entries op.actor) op.start (suc n - op.start) + 1) (one_memory limits) causes h.3
       where
-        scaled : (steps worth causes hinders more : ℕ) → causes ≤ (21 + 1) * hinders → steps ≤ worth * causes → steps ≤ (worth * (21 + 1) + more + 3) * hinders
+        scaled : (steps worth causes hinders more : ℕ) → causes ≤ (22 + 1) * hinders → steps ≤ worth * causes → steps ≤ (worth * (22 + 1) + more + 3) * hinders
         scaled steps worth causes hinders more few paid =
-            let grown : worth * causes ≤ worth * ((21 + 1) * hinders) = mul-le-mul_left worth few in
-            let assoc : worth * ((21 + 1) * hinders) ≡ worth * (21 + 1) * hinders = sym (mul_assoc worth (21 + 1) hinders) in
-            let parts : (worth * (21 + 1) + more + 3) * hinders ≡ (worth * (21 + 1) + more) * hinders + 3 * hinders = add-mul (worth * (21 + 1) + more) 3 hinders in
-            let again : (worth * (21 + 1) + more) * hinders ≡ worth * (21 + 1) * hinders + more * hinders = add-mul (worth * (21 + 1)) more hinders in
+            let grown : worth * causes ≤ worth * ((22 + 1) * hinders) = mul-le-mul_left worth few in
+            let assoc : worth * ((22 + 1) * hinders) ≡ worth * (22 + 1) * hinders = sym (mul_assoc worth (22 + 1) hinders) in
+            let parts : (worth * (22 + 1) + more + 3) * hinders ≡ (worth * (22 + 1) + more) * hinders + 3 * hinders = add-mul (worth * (22 + 1) + more) 3 hinders in
+            let again : (worth * (22 + 1) + more) * hinders ≡ worth * (22 + 1) * hinders + more * hinders = add-mul (worth * (22 + 1)) more hinders in
             omega (arith, paid, grown, assoc, parts, again)
 
     paid_reader : ReadersEnd limits entries → is_writer op.command ≡ false → IsOwnStep entries op n
@@ -275,7 +276,7 @@ module _ (limits : Limits) (entries : List Entry) where
         let h = ends.few op n begun reader own in
         let changed = changes_count op.start n h.0 h.1 in
         let both = two_tallies op.actor op.start (suc n - op.start) in
-        scaled (steps_from entries op.actor op.start n) (one_memory limits) (length h.0 + 1) (tally (hinder limits entries op.actor) op.start (suc n - op.start) + 1) (cause_worth limits * (21 + 1))
+        scaled (steps_from entries op.actor op.start n) (one_memory limits) (length h.0 + 1) (tally (hinder limits entries op.actor) op.start (suc n - op.start) + 1) (cause_worth limits * (22 + 1))
         (omega (arith, changed, both)) (omega arith) h.2
       where
         scaled : (steps worth causes hinders more : ℕ) → causes ≤ hinders → 1 ≤ hinders → steps ≤ worth * causes + 3 → steps ≤ (more + worth + 3) * hinders

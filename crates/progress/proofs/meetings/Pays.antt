@@ -5,7 +5,7 @@ use Rattle.std.proofs.lemmas.List.{drop-append-le, drop_all}
 use Rattle.progress.proofs.Words.{either, Memory, add-mul, if◌then◌else◌, All-push, All-weaker, All, count_by, Limits, Entry, Happens, memory_of, increasing_push, pushed_length, ChangesTree, IsState, changes_tree}
 use Rattle.traces.proofs.TraceLaws.{Happens-kept, Happens-last}
 use Rattle.progress.specs.WriterStates.{MeetsFewer, PaysForWriter, PaysMeets}
-use Rattle.progress.specs.WritersAmong.{IsLawfulWriting, WriterMoment, WriterState, changes_among, meets_at, most_meets, own_meets}
+use Rattle.progress.specs.WritersAmong.{few_meets, IsLawfulWriting, WriterMoment, WriterState, changes_among, meets_at, own_meets}
 use Rattle.progress.proofs.ReaderPays.{change_is, count_push}
 use Rattle.progress.proofs.meetings.Among.{writers_meet_few}
 use Rattle.progress.proofs.rounds.Counts.{many}
@@ -38,10 +38,10 @@ module _ (limits : Limits) (entries : List Entry) (last : Entry) (actor : ℕ) w
   abbrev pub met_now : ℕ
   met_now = cond (meets_at actor last) 1 0
 
-  counted : (m : ℕ) → m ≤ length entries → count_by (meets_at actor) (drop m longer) ≡ count_by (meets_at actor) (drop m entries) + cond (meets_at actor last) 1 0
+  pub counted : (m : ℕ) → m ≤ length entries → count_by (meets_at actor) (drop m longer) ≡ count_by (meets_at actor) (drop m entries) + cond (meets_at actor last) 1 0
   counted m within = ap (count_by (meets_at actor)) (drop-append-le m entries (last ∷ []) within) ∙ count_push (meets_at actor) (drop m entries) last
 
-  changes_kept : (m : ℕ) (changes : List ℕ) → All (λ place. (m ≤ place) × (place < length entries) × Happens limits entries place ChangesTree) changes
+  pub changes_kept : (m : ℕ) (changes : List ℕ) → All (λ place. (m ≤ place) × (place < length entries) × Happens limits entries place ChangesTree) changes
       → All (λ place. (m ≤ place) × (place < length longer) × Happens limits longer place ChangesTree) changes
   changes_kept m changes each =
       All-weaker (λ place. (m ≤ place) × (place < length entries) × Happens limits entries place ChangesTree) (λ place. (m ≤ place) × (place < length longer) × Happens limits longer place ChangesTree)
@@ -54,7 +54,7 @@ module _ (limits : Limits) (entries : List Entry) (last : Entry) (actor : ℕ) w
     increasing = h.increasing;
     each = changes_kept m h.changes h.each;
     paid =
-        kept_enough ((1 + length h.changes) * most_meets) (count_by (meets_at actor) (drop m entries)) (cond (meets_at actor last) 1 0) left rest
+        kept_enough ((1 + length h.changes) * few_meets) (count_by (meets_at actor) (drop m entries)) (cond (meets_at actor last) 1 0) left rest
         (count_by (meets_at actor) (drop m longer)) (counted m within) less h.paid;
   }
 
@@ -85,7 +85,7 @@ module _ (limits : Limits) (actor : ℕ) where
   pub few_fresh : (entries : List Entry) (writer : WriterState) → IsState limits entries → MeetsFewer limits actor entries writer 21
   few_fresh entries writer state moments are =
       let few = writers_meet_few limits actor entries writer moments state are in
-      let product = add-mul 1 (changes_among limits entries moments) most_meets in
+      let product = add-mul 1 (changes_among limits entries moments) few_meets in
       omega (arith, few, product)
 
   all_meets : (moment : WriterMoment) (moments : List WriterMoment) → own_meets actor (moment ∷ moments) ≡ cond (meets_at actor moment.entry) 1 0 + own_meets actor moments
@@ -121,7 +121,7 @@ pays_less limits entries actor m left rest less h = record {
   changes = h.changes;
   increasing = h.increasing;
   each = h.each;
-  paid = less_enough (count_by (meets_at actor) (drop m entries)) left rest ((1 + length h.changes) * most_meets) less h.paid;
+  paid = less_enough (count_by (meets_at actor) (drop m entries)) left rest ((1 + length h.changes) * few_meets) less h.paid;
 }
   where
     less_enough : (met left rest bound : ℕ) → rest ≤ left → met + left ≤ bound → met + rest ≤ bound

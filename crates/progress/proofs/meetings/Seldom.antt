@@ -1,23 +1,20 @@
 -- Writers have met what is gone seldom still with one entry more.
-use Rattle.std.proofs.Common.{◌≡◌, ◌<◌, ◌≤◌, ◌+◌, ◌-◌, ◌*◌, ◌++◌, ℕ, suc, List, [], ◌∷◌, length, drop, take, Bool, true, false, cond, Option, None, Some, refl, sym, ap, subst, ◌∙◌, inl, inr, arith}
-use Rattle.progress.proofs.Words.{cases_lt, All-weaker, count_by, slice_get, slice_range, Limits, is_writer, Reply, Answer, StepOf, Record, Entry, Begin, Step, Happens}
-use Rattle.progress.proofs.Words.{Happens-kept, wanted_by, knows, UnderWay, command_at, IsDirect, IsOperation, IsOwnStep, Operation, AreAmong, ChangesTree, IsLast, IsState}
+use Rattle.std.proofs.Common.{◌≡◌, ◌<◌, ◌≤◌, ◌+◌, ◌-◌, ◌*◌, ◌++◌, ℕ, suc, List, [], ◌∷◌, length, drop, take, Bool, true, cond, Option, None, Some, sym, ap, subst, ◌∙◌, inl, inr, arith}
+use Rattle.progress.proofs.Words.{cases_lt, All, IsStrictlyIncreasing, All-weaker, count_by, slice_get, slice_range, Limits, is_writer, Reply, Answer, StepOf, Record, Entry, Begin, Step, Happens}
+use Rattle.progress.proofs.Words.{Happens-kept, wanted_by, UnderWay, IsDirect, IsOperation, IsOwnStep, Operation, AreAmong, ChangesTree, IsLast, IsState}
 use Rattle.std.proofs.lemmas.List.{take_all, take_rest}
-use Rattle.traces.proofs.Pushes.{pushed_length, slice_get-push_cases, slice_get_below, slice_get_kept, take-push}
-use Rattle.std.specs.Prelude.{IfSome}
-use Rattle.traces.specs.discipline.Discipline.{MayReply}
-use Rattle.bw_model.specs.declared.step.Step.TheVariants as step_of
-use Rattle.op_machine.specs.machine.Actors.{command_left}
-use Rattle.tree_law.specs.TraceLaws.{AnswersFit, Opens}
+use Rattle.traces.proofs.Pushes.{pushed_length, slice_get_below, take-push}
+use Rattle.tree_law.specs.TraceLaws.{Opens}
 use Rattle.tree_law.proofs.trace.Owned.{operation_old, step_below, step_cases}
 use Rattle.tree_law.specs.Direct.{IsDirectState}
 use Rattle.progress.specs.WriterStates.{BeginsKeepWriters, IsWritersState, PaysMeets, PaysWriter, StepsKeepWriters}
 use Rattle.progress.specs.Writers.{MeetsSeldom}
-use Rattle.progress.specs.WritersAmong.{meets, meets_at, most_meets}
+use Rattle.op_machine.specs.theorem.Whole.{most_meets}
+use Rattle.progress.specs.WritersAmong.{few_meets, meets_at}
 use Rattle.progress.proofs.ReaderStates.{range_kept}
-use Rattle.progress.proofs.Tallies.{counted_range, passes, passes_in, tally, tally_none, tally_split}
-use Rattle.progress.proofs.meetings.Own.{meets_none, paid_some, writer_steps_paid}
-use Rattle.progress.proofs.meetings.Pays.{pays_kept}
+use Rattle.progress.proofs.Tallies.{one_at_most, counted_range, passes, passes_in, tally, tally_none, tally_split}
+use Rattle.progress.proofs.meetings.Own.{paid_some}
+use Rattle.progress.proofs.meetings.Pays.{changes_kept, counted}
 
 abbrev meets_from : List Entry → ℕ → ℕ → ℕ → ℕ
 meets_from entries actor m n = count_by (meets_at actor) (slice_range entries m (suc n))
@@ -26,9 +23,30 @@ meets_from entries actor m n = count_by (meets_at actor) (slice_range entries m 
 abbrev Since : Limits → List Entry → ℕ → ℕ → ℕ → Type 0
 Since limits entries actor m n = (changes : List ℕ) × AreAmong limits entries m n ChangesTree changes × (meets_from entries actor m n ≤ (1 + length changes) * most_meets)
 
--- what pays for more has paid for the last one
-since_last : (limits : Limits) (entries : List Entry) (actor m n left : ℕ) → suc n ≡ length entries → PaysMeets limits entries actor m left → Since limits entries actor m n
-since_last limits entries actor m n left whole h = (
+-- the changes from entry m on pay for what was met since, but for the last
+pub record Met (limits : Limits) (entries : List Entry) (actor m : ℕ) : Type 0 where
+  pub changes : List ℕ
+  pub increasing : IsStrictlyIncreasing changes
+  pub each : All (λ place. (m ≤ place) × (place < length entries) × Happens limits entries place ChangesTree) changes
+  pub met : count_by (meets_at actor) (drop m entries) ≤ (1 + length changes) * few_meets + 1
+
+met_once : (limits : Limits) (entries : List Entry) (last : Entry) (actor m : ℕ) → m ≤ length entries → PaysMeets limits entries actor m 0 → Met limits (entries ++ last ∷ []) actor m
+met_once limits entries last actor m within h = record {
+  changes = h.changes;
+  increasing = h.increasing;
+  each = changes_kept limits entries last actor m h.changes h.each;
+  met =
+      let one = one_at_most (meets_at actor last) in
+      once (count_by (meets_at actor) (drop m (entries ++ last ∷ []))) (count_by (meets_at actor) (drop m entries)) (cond (meets_at actor last) 1 0) ((1 + length h.changes) * few_meets)
+      (counted limits entries last actor m within) one h.paid;
+}
+  where
+    once : (met before own bound : ℕ) → met ≡ before + own → own ≤ 1 → before + 0 ≤ bound → met ≤ bound + 1
+    once met before own bound same one few = omega (arith, same, one, few)
+
+-- they have paid for it with the last one
+since_last : (limits : Limits) (entries : List Entry) (actor m n : ℕ) → suc n ≡ length entries → Met limits entries actor m → Since limits entries actor m n
+since_last limits entries actor m n whole h = (
   h.changes,
   record {
     increasing = h.increasing;
@@ -38,12 +56,12 @@ since_last limits entries actor m n left whole h = (
   (
       let same : slice_range entries m (suc n) ≡ drop m entries = ap (λ end. take (end - m) (drop m entries)) whole ∙ take_rest entries m in
       let counted : meets_from entries actor m n ≡ count_by (meets_at actor) (drop m entries) = ap (count_by (meets_at actor)) same in
-      less (meets_from entries actor m n) (count_by (meets_at actor) (drop m entries)) left ((1 + length h.changes) * most_meets) counted h.paid
+      less (meets_from entries actor m n) (count_by (meets_at actor) (drop m entries)) (length h.changes) counted h.met
       ),
 )
   where
-    less : (met count left bound : ℕ) → met ≡ count → count + left ≤ bound → met ≤ bound
-    less met count left bound same paid = omega (arith, same, paid)
+    less : (met count changes : ℕ) → met ≡ count → count ≤ (1 + changes) * 21 + 1 → met ≤ (1 + changes) * 22
+    less met count changes same paid = omega (arith, same, paid)
 
 module _ (limits : Limits) (entries : List Entry) where
   -- a begin meets nothing
@@ -103,7 +121,7 @@ module _ (limits : Limits) (entries : List Entry) (last : Entry) (kept : IsWrite
 
   -- where the last entry is paid for
   pub grown : ((op : Operation) (s : StepOf Record) (x : Answer Record) (reply : Option Reply) (m : ℕ) → IsLast entries op → is_writer op.command ≡ true → last ≡ Step op.actor s x reply
-      → op.start < m → m ≤ length entries → PaysMeets limits longer op.actor m 0) → IsWritersState limits longer
+      → op.start < m → m ≤ length entries → Met limits longer op.actor m) → IsWritersState limits longer
   grown paid = record {
     seldom = all_since limits longer (λ op n begun writer own.
         let before : IsOperation entries op = operation_old entries last op n begun own in
@@ -114,7 +132,7 @@ module _ (limits : Limits) (entries : List Entry) (last : Entry) (kept : IsWrite
               let after : op.start < n = own.2.1.begun in
               let long : length longer ≡ suc (length entries) = pushed_length entries last in
               let h = paid op at.1.0 at.1.1 at.1.2 (suc op.start) (record { begun = before; unended = at.2 }) writer at.1.3 (omega arith) (omega (arith, after, same)) in
-              at_start limits longer op n begun after (since_last limits longer op.actor (suc op.start) n 0 (omega (arith, same, long)) h)
+              at_start limits longer op n begun after (since_last limits longer op.actor (suc op.start) n (omega (arith, same, long)) h)
         ]);
     states = λ n. elim (cases_lt (length entries) n) [
       | inl past ↦ let long = pushed_length entries last in subst (IsState limits) (sym (take_all n longer (omega (arith, past, long)))) later
@@ -136,44 +154,17 @@ opens states directs limits = record {
 pub begins_keep : BeginsKeepWriters
 begins_keep limits entries actor command kept later direct = grown limits entries (Begin actor command) kept later direct (λ op s x reply m latest writer is after within. absurd (cc is))
 
--- with a step more it is the last still
-last_still : (entries : List Entry) (actor : ℕ) (step : StepOf Record) (answer : Answer Record) (reply : Option Reply) (op : Operation) → IsLast entries op → IsLast (entries ++ Step actor step answer reply ∷ []) op
-last_still entries actor step answer reply op latest = record {
-  begun = slice_get_kept entries (Step actor step answer reply ∷ []) op.start _ latest.begun;
-  unended = λ later other low e. elim (slice_get-push_cases entries (Step actor step answer reply) later _ e) [
-    | inl before ↦ latest.unended later other low before
-    | inr at ↦ absurd (let is = at.1 in cc is)
-  ];
-}
-
--- A writer whose operation has ended met nothing by its leave, and any other is paid for still.
-pub steps_keep : AnswersFit → StepsKeepWriters
-steps_keep fit limits entries actor step answer reply old new kept shown pays wants later direct acts command =
+-- A writer that is paid for has met little, and by one step more it meets one thing more at most.
+pub steps_keep : StepsKeepWriters
+steps_keep limits entries actor step answer reply old kept pays wants later direct =
     grown limits entries (Step actor step answer reply) kept later direct
-    (λ op s x given m latest writer is after within. by_running old.running new.running reply pays wants acts.allowed.replied command
-    (writer_steps_paid fit limits entries actor step answer reply old new state shown pays wants later direct acts command) op s x given m latest writer is after within)
+    (λ op s x given m latest writer is after within. by_running old.running pays wants op s x given m latest writer is after within)
   where
-    state : IsState limits entries
-    state = subst (IsState limits) (take_all (length entries) entries (omega arith)) (kept.states (length entries))
-
-    by_running : (o n : Option UnderWay) (told : Option Reply) → PaysWriter limits entries actor o → wanted_by o ≡ Some step → IfSome told (λ given. (step ≡ step_of.Leave) × MayReply limits actor (knows entries actor) given)
-        → command_at n ≡ command_left told (command_at o) → PaysWriter limits (entries ++ Step actor step answer told ∷ []) actor n
+    by_running : (o : Option UnderWay) → PaysWriter limits entries actor o → wanted_by o ≡ Some step
         → (op : Operation) (s : StepOf Record) (x : Answer Record) (given : Option Reply) (m : ℕ) → IsLast entries op → is_writer op.command ≡ true
-        → Step actor step answer told ≡ Step op.actor s x given → op.start < m → m ≤ length entries → PaysMeets limits (entries ++ Step actor step answer told ∷ []) op.actor m 0
-    by_running None n told pays wants replied command paid op s x given m latest writer is after within = absurd (cc wants)
-    by_running (Some running) n (Some reply) pays wants replied command paid op s x given m latest writer is after within =
+        → Step actor step answer reply ≡ Step op.actor s x given → op.start < m → m ≤ length entries → Met limits (entries ++ Step actor step answer reply ∷ []) op.actor m
+    by_running None pays wants op s x given m latest writer is after within = absurd (cc wants)
+    by_running (Some running) pays wants op s x given m latest writer is after within =
         let mine : actor ≡ op.actor = cc in
         let theirs : PaysWriter limits entries op.actor (Some running) = subst (λ (a : ℕ). PaysWriter limits entries a (Some running)) mine pays in
-        let had = paid_some limits entries op.actor m running.op.state (theirs op.start m op.command latest writer after within) in
-        let calm : meets step answer ≡ false = rw replied.0 refl in
-        let none : cond {A = ℕ} (meets_at op.actor (Step actor step answer (Some reply))) 1 0 ≡ 0 =
-        ap (λ (b : Bool). cond {A = ℕ} b 1 0) (meets_none op.actor actor step answer (Some reply) calm) in
-        pays_kept limits entries (Step actor step answer (Some reply)) op.actor m 0 0 within (omega (arith, none)) had
-    by_running (Some running) None None pays wants replied command paid op s x given m latest writer is after within = absurd (cc command)
-    by_running (Some running) (Some now) None pays wants replied command paid op s x given m latest writer is after within =
-        let mine : actor ≡ op.actor = cc in
-        let theirs : PaysWriter limits (entries ++ Step actor step answer None ∷ []) op.actor (Some now) =
-        subst (λ (a : ℕ). PaysWriter limits (entries ++ Step actor step answer None ∷ []) a (Some now)) mine paid in
-        let long = pushed_length entries (Step actor step answer None) in
-        paid_some limits (entries ++ Step actor step answer None ∷ []) op.actor m now.op.state
-        (theirs op.start m op.command (last_still entries actor step answer None op latest) writer after (omega (arith, within, long)))
+        met_once limits entries (Step actor step answer reply) op.actor m within (paid_some limits entries op.actor m running.op.state (theirs op.start m op.command latest writer after within))

@@ -59,10 +59,13 @@ module _ (w : Standing) where
     passing = rw w.tree.root.3 (root_passes (Left pid) key floor most b);
     over = refl;
     beside = tt;
-    is = inl (root_clear w (write_way (Left pid) key), elim b [
-      | inl held ↦ inl (held.0, (let under = w.tree.below (suc floor) held.0.above held.0.on in omega (arith, under)), held.1)
-      | inr far ↦ inr far.1
-    ]);
+    is = inl (
+      root_clear w (write_way (Left pid) key),
+      elim b [
+        | inl held ↦ inl (held.0, (let under = w.tree.below (suc floor) held.0.above held.0.on in omega (arith, under)), held.1)
+        | inr far ↦ inr far.1
+      ],
+    );
   }
   root_at (Merge left) key floor most b = absurd b
   root_at (Unterm parent left) key floor most b = absurd b
@@ -93,22 +96,26 @@ module _ (w : Standing) where
       )
 
   reads : (old : WriteRound) (visit next : Visit) (told : Answer Record) → page.Responds visit told next None → Kept (at old (Page visit)) told (at old (Page next)) None
-  reads old visit next told r most v answer = (v.rest + owed (is_removed v.page.chain) (has_removal next.part), enough, record {
-    page = v.page;
-    level = v.level;
-    stands = v.stands;
-    is_pid = v.is_pid ∙ sym g.is_pid;
-    left = g.left;
-    is_left = g.is_left;
-    at_head = heads w.memory visit next told answer r v.at_head;
-    bare = elim r [
-      | inl f ↦ subst (λ (n : Visit). HasNoneRead n.state n.part) (sym f.goes) tt
-      | inr c ↦ subst (λ (n : Visit). HasNoneRead n.state n.part) (sym c.goes) tt
-    ];
-    rest = v.rest;
-    here = v.here;
-    few = omega arith;
-  })
+  reads old visit next told r most v answer = (
+    v.rest + owed (is_removed v.page.chain) (has_removal next.part),
+    enough,
+    record {
+      page = v.page;
+      level = v.level;
+      stands = v.stands;
+      is_pid = v.is_pid ∙ sym g.is_pid;
+      left = g.left;
+      is_left = g.is_left;
+      at_head = heads w.memory visit next told answer r v.at_head;
+      bare = elim r [
+        | inl f ↦ subst (λ (n : Visit). HasNoneRead n.state n.part) (sym f.goes) tt
+        | inr c ↦ subst (λ (n : Visit). HasNoneRead n.state n.part) (sym c.goes) tt
+      ];
+      rest = v.rest;
+      here = v.here;
+      few = omega arith;
+    },
+  )
     where
       g : GoesOn w.memory visit next v.page.chain v.left
       g = visits w.memory visit next v.page.chain v.left told (subst (λ (n : ℕ). IsChainOf w.memory n v.page.chain) v.is_pid v.stands.stands) v.is_left answer r

@@ -3,7 +3,8 @@ use Rattle.std.proofs.Common.{◌<◌, ◌≤◌, ◌+◌, ◌-◌, ◌*◌, ℕ
 use Rattle.progress.proofs.Words.{cases_lt, count_by, Limits, Entry, IsRun, HasFewChanges, IsDirect, IsOperation, IsOwnStep, Operation, is_begin, steps_from}
 use Rattle.op_machine.specs.theorem.Progress.{is_end, is_step}
 use Rattle.op_machine.specs.theorem.ReadersEnd.{ReadersEnd}
-use Rattle.progress.specs.Writers.{AlwaysEndAlone, AreLockFree, MeetsSeldom, RunsAreWhole, hindrance_worth}
+use Rattle.op_machine.specs.theorem.Whole.{AlwaysEndAlone, AreLockFree, hindrance_worth}
+use Rattle.progress.specs.Writers.{MeetsSeldom, RunsAreWhole}
 use Rattle.progress.proofs.Alone.{enough, lone_pays}
 use Rattle.progress.proofs.Hindering.{among_hinder, hinder}
 use Rattle.progress.proofs.Tallies.{listed, tally}

@@ -11,7 +11,7 @@ use Rattle.step_core.specs.Cores.{IsCore}
 pub invariant_of-self-2 : goal.invariant_of-self-2
 invariant_of-self-2 g c =
     let begins = core_begins _ _ _ _ _ _ _ c.args.command c.self.invariant _ _ c.self.view_is c.requires.goes c.from.ensures c.index_mut-place.ensures.value in
-    core_begun _ c.begins_keep_laws.ensures.state c.begins_keep_laws.ensures.paid c.begins_keep_laws.ensures.readers _ _ _ _ _ _ _ c.args.command
+    core_begun _ c.begins_keep_laws.ensures.state c.begins_keep_laws.ensures.paid c.begins_keep_laws.ensures.readers c.begins_keep_laws.ensures.writers _ _ _ _ _ _ _ c.args.command
     c.self.invariant _ _ c.self.view_is c.requires.goes c.from.ensures (idle_outside _ _ _ _ c.index_mut-place.result.now begins.1 begins.2)
     (c.begin.ensures.shows _ _ begins.1) c.begin.ensures.command (c.entries_grow.ensures _ c.self.inside.trace.items (Begin c.args.actor c.args.command))
     (c.begins_keep_laws.ensures.direct _ _ _ _ _ c.self.invariant.direct (let few = c.begin.ensures.bounded in omega arith)) (rw c.reserve.ensures.items at c.push_begin.ensures.items)

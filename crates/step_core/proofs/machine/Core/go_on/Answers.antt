@@ -22,7 +22,7 @@ invariant_of-self-2 g c =
     let took = core_took _ c.steps_keep_laws.ensures.apart _ _ _ _ c.go_on-stepped.result.step c.go_on-stepped.result.answer c.self.invariant c.go_on-stepped.ensures.answer goes.allowed.may in
     let affords = core_affords _ _ _ _ _ _ _ c.self.invariant c.from-2.ensures asks.1 c.index_mut-place.ensures.value in
     let stays = c.steps_keep_laws.ensures.direct _ _ _ _ _ _ _ _ c.self.invariant.state goes.allowed goes.useful took.1 c.self.invariant.direct affords goes.spends goes.few in
-    core_stepped _ c.steps_keep_laws.ensures.state c.steps_keep_laws.ensures.paid c.steps_keep_laws.ensures.readers _ _ _ _ _ _ _ _ _
+    core_stepped _ c.steps_keep_laws.ensures.state c.steps_keep_laws.ensures.paid c.steps_keep_laws.ensures.readers c.steps_keep_laws.ensures.writers _ _ _ _ _ _ _ _ _
     c.go_on-stepped.result.step c.go_on-stepped.result.answer None c.self.invariant c.from-2.ensures asks.1
     c.index_mut-place.ensures.value asks.3 c.go_on-stepped.ensures.wanted goes c.go_on-stepped.ensures.command
     (c.entries_grow.ensures _ c.self.inside.trace.items (Step c.args.actor c.go_on-stepped.result.step c.go_on-stepped.result.answer None)) stays

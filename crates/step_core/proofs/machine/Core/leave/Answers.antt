@@ -26,7 +26,7 @@ invariant_of-self-2 g c =
     let took = core_took _ c.steps_keep_laws.ensures.apart _ _ _ _ Leave Done c.self.invariant refl goes.allowed.may in
     let affords = core_affords _ _ _ _ _ _ _ c.self.invariant c.from-2.ensures asks.1 c.index_mut-place.ensures.value in
     let stays = c.steps_keep_laws.ensures.direct _ _ _ _ _ _ _ _ c.self.invariant.state goes.allowed goes.useful took.1 c.self.invariant.direct affords goes.spends goes.few in
-    core_stepped _ c.steps_keep_laws.ensures.state c.steps_keep_laws.ensures.paid c.steps_keep_laws.ensures.readers _ _ _ _ _ _ _ _ _ Leave Done
+    core_stepped _ c.steps_keep_laws.ensures.state c.steps_keep_laws.ensures.paid c.steps_keep_laws.ensures.readers c.steps_keep_laws.ensures.writers _ _ _ _ _ _ _ _ _ Leave Done
     (Some c.leave-reply.result) c.self.invariant c.from-2.ensures asks.1
     c.index_mut-place.ensures.value asks.3
     (core_leaving _ _ _ _ _ _ c.index_mut-place.result.now _ c.self.invariant _ c.self.view_is c.requires.goes c.from-2.ensures c.index_mut-place.ensures.value c.requires.leaves)

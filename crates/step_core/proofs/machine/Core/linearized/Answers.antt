@@ -12,6 +12,14 @@ returns-clause-orderly g c = rw (← c.self.view_is) (record {
   index = c.states_are_lawful.ensures.index _ _ c.self.invariant.state;
   direct = c.self.invariant.direct.direct;
   few_changes = c.self.invariant.paid.few;
+  progress = (
+      let whole = c.states_are_lawful.ensures.whole _ _ c.self.invariant.state.run c.self.invariant.direct.direct c.self.invariant.readers.ends c.self.invariant.writers.seldom c.self.invariant.paid.few in
+      record {
+        ends = c.states_are_lawful.ensures.ends _ _ c.self.invariant.state.run c.self.invariant.direct.direct c.self.invariant.readers.ends c.self.invariant.writers.seldom;
+        alone = whole.0;
+        together = whole.1;
+      }
+      );
   readers = c.self.invariant.readers.ends;
   reads = c.states_are_lawful.ensures.reads _ _ c.self.invariant.state.run (c.states_are_lawful.ensures.phases _ _ c.self.invariant.state) c.self.invariant.direct.direct;
   unhindered = c.states_are_lawful.ensures.unhindered _ _ c.self.invariant.state.run (c.states_are_lawful.ensures.phases _ _ c.self.invariant.state) c.self.invariant.direct.direct;

@@ -19,4 +19,4 @@ pub invariant_of-result : goal.invariant_of-result
 invariant_of-result g c =
     let count : length c.loop.actors.items ≡ c.args.limits.actors = omega (arith, c.loop.invariant.0, c.loop.actors.ok.0, c.loop-test.false, c.loop.auto.counter-end) in
     core_opens _ _ _ _ c.in_ok-memory.ensures.limits c.in_ok-memory.ensures.opening count c.loop.invariant.1 c.idle_actors_rest.ensures (c.opens.ensures _)
-    (c.opens_directly.ensures _) (c.opens_paid.ensures _) (c.opens_with_readers.ensures _) c.new.ensures
+    (c.opens_directly.ensures _) (c.opens_paid.ensures _) (c.opens_with_readers.ensures _) (c.opens_with_writers.ensures _) c.new.ensures
