@@ -1,0 +1,12 @@
+use Rattle.std.proofs.Common.{◌≡◌, ◌≤◌, ◌+◌, ◌++◌, drop, length, take}
+use Rattle.std.specs.List.{All}
+use Rattle.record_slots.specs.Spells.{IsShortItem}
+use Rattle.compact_rows.specs.Spelling.{texts}
+use Rattle.compact_rows.proofs.write.push_texts.Given as goal
+
+abbrev pub invariant-loop-item : goal.invariant-loop-item
+invariant-loop-item l = record {
+  written : l.row ++ texts (drop l.item-index l.items) ≡ l.initial.row ++ texts l.items;
+  room : length l.row + length (texts (drop l.item-index l.items)) ≤ 512;
+  short : All IsShortItem (take l.item-index l.items);
+}

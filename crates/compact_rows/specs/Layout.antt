@@ -1,0 +1,37 @@
+-- The numbers of a compact row's layout, each in one place.
+use Rattle.std.specs.Prelude.{◌≡◌, ◌≤◌, ℕ, List, length}
+
+-- how many words a record takes at most
+abbrev pub most_words : ℕ
+most_words = 512
+
+-- the form of compact rows
+abbrev pub compact_form : ℕ
+compact_form = 3
+
+-- what the row of the record under it counts in the first word, above the kind, the level, the count of items and the form
+abbrev pub next_unit : ℕ
+next_unit = 4294967296
+
+-- what the lengths of the two keys count in the second word, above a PID
+abbrev pub first_unit : ℕ
+first_unit = 4294967296
+
+abbrev pub second_unit : ℕ
+second_unit = 1099511627776
+
+-- what the length of an item's key, the mark of a held term, and a value's length or a child's PID count in the word of the item, above
+-- the place of its text
+abbrev pub length_unit : ℕ
+length_unit = 65536
+
+abbrev pub mark_unit : ℕ
+mark_unit = 16777216
+
+abbrev pub content_unit : ℕ
+content_unit = 4294967296
+
+-- So many words are written.
+pub record IsFilledTo (count : ℕ) (words : List ℕ) : Type 0 where
+  pub within : count ≤ most_words
+  pub long : length words ≡ most_words

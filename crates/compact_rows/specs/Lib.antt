@@ -1,0 +1,4 @@
+pub mod Layout
+pub mod Seen
+pub mod Spelling
+pub mod Spells

@@ -1,0 +1,22 @@
+//! Records in compact rows: no word is there that a record doesn't use.
+//!
+//! Look first at `to_compact` and `from_compact`: each record that has room has one spelling, and words are read as a record exactly where they
+//! spell it. specs/Spelling has the layout. The first bytes of all keys stand side by side, so a bisection looks at one word a step.
+//!
+//! `seen_in` says of compact words each word of the row of today's form that spells the same record.
+
+#![tactic(auto)]
+
+mod compact_row;
+mod laws;
+mod layout;
+mod read;
+mod seen;
+mod write;
+
+pub use compact_row::CompactRow;
+pub use laws::{compact_spelling_is_one, records_have_room, words_are_seen};
+pub use layout::{COMPACT_FORM, MOST_WORDS};
+pub use read::from_compact;
+pub use seen::seen_in;
+pub use write::to_compact;
