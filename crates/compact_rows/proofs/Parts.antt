@@ -18,7 +18,7 @@ use Rattle.compact_rows.specs.Spelling.{bound_length, bound_text, codes, compact
 use Rattle.compact_rows.proofs.Items.{codes_long, heads_long, items_there}
 use Rattle.compact_rows.proofs.Texts.{if_false, if_true, packed_long, text_long, text_there}
 
-four : (at a b c d r : ℕ) → 3 < at → (if at == 0 then a else if at == 1 then b else if at == 2 then c else if at == 3 then d else r) ≡ r
+pub four : (at a b c d r : ℕ) → 3 < at → (if at == 0 then a else if at == 1 then b else if at == 2 then c else if at == 3 then d else r) ≡ r
 four at a b c d r high =
     if_false (at == 0) a (if at == 1 then b else if at == 2 then c else if at == 3 then d else r) (ne_eqb at 0 (λ e. omega (arith, e, high)))
     ∙ if_false (at == 1) b (if at == 2 then c else if at == 3 then d else r) (ne_eqb at 1 (λ e. omega (arith, e, high)))
@@ -29,7 +29,7 @@ bound_few : (bound : Option (List ℕ)) → IfSome bound IsShort → bound_lengt
 bound_few None short = omega arith
 bound_few (Some key) short = let few = short.short in omega arith
 
-bound_sized : (bound : Option (List ℕ)) → IfSome bound IsShort → bound_size (bound_length bound) ≡ length (bound_text bound)
+pub bound_sized : (bound : Option (List ℕ)) → IfSome bound IsShort → bound_size (bound_length bound) ≡ length (bound_text bound)
 bound_sized None short = refl
 bound_sized (Some key) short =
     let few = short.short in
@@ -114,7 +114,7 @@ module _ (row : Row) (items : List Item) (is : IsRowOfParts row) (counts : lengt
       let long = heads_long items in
       ap (λ k. get_or words k 0) e ∙ get_or_append_left (heads items) (codes (texts_at row) items ++ behind_codes) 0 place (omega (arith, long, counts))
 
-  code_there : (place : ℕ) → place < row.count → get_or words (2 + count_seen words + place) 0 ≡ get_or (codes (texts_at row) items) place 0
+  pub code_there : (place : ℕ) → place < row.count → get_or words (2 + count_seen words + place) 0 ≡ get_or (codes (texts_at row) items) place 0
   code_there place within =
       let c = count_is in
       let e : 2 + count_seen words + place ≡ suc (suc (row.count + place)) = omega arith in
@@ -127,7 +127,7 @@ module _ (row : Row) (items : List Item) (is : IsRowOfParts row) (counts : lengt
       ∙ get_or_append_left (codes (texts_at row) items) behind_codes 0 place (omega (arith, many, within))
 
   module _ (room : length words ≤ 512) where
-    texts_low : texts_at row + length (texts items) < length_unit
+    pub texts_low : texts_at row + length (texts items) < length_unit
     texts_low =
         let h = heads_long items in
         let c = codes_long (texts_at row) items in

@@ -2,3 +2,4 @@ pub mod Layout
 pub mod Seen
 pub mod Spelling
 pub mod Spells
+pub mod Spread

@@ -1,0 +1,257 @@
+//! Compact rows as rows of today's form: each word of such a row is looked at in the compact one.
+ghost use Rattle.std.specs.Prelude.{◌≡◌, ◌≢◌, ◌<◌, ◌≤◌, ◌+◌, ◌/◌, ◌%◌, ℕ, length, slice_index};
+ghost use Rattle.deltas.specs.declared.record.Record.{Record};
+ghost use Rattle.record_slots.specs.Spelling.{words_of};
+ghost use Rattle.record_slots.specs.declared.layout.TheConstants.{ROW_WORDS};
+ghost use Rattle.compact_rows.specs.Seen.{count_seen, item_seen, items_seen, level_seen, seen, text_seen};
+ghost use Rattle.compact_rows.specs.Spelling.{compact_words};
+ghost use Rattle.compact_rows.specs.Spells.{IsCompact};
+ghost use Rattle.compact_rows.specs.Spread.{HoldsText};
+ghost use Rattle.record_slots.specs.declared.layout.TheConstants.{ITEM_WORDS, PART_LIMIT};
+
+use crate::laws::words_are_seen;
+use crate::layout::{CONTENT_UNIT, FIRST_UNIT, LENGTH_UNIT, NEXT_UNIT, SECOND_UNIT};
+use crate::seen::{bound_size, code_at, code_tail, words_for};
+use record_slots::{
+    FIRST_ITEM, FORM, FORM_UNIT, ITEM_UNIT, ITEM_WORDS, LEVEL_UNIT, PART_LIMIT, ROW_WORDS,
+};
+use row_search::Rows;
+
+/// Compact rows in which records were read, and stay: any word that a record has there is looked at where it lies.
+pub trait CompactRows {
+    ghost use Rattle.std.specs.Prelude.{ℕ};
+    ghost use Rattle.deltas.specs.declared.record.Record.{Record};
+
+    /// What a look needs beside the rows, as the seat of a thread.
+    type Pass;
+
+    // the record that was read in a row, by the pass, or some record where none was
+    ghost content: { Self.Pass → ℕ → Record };
+
+    ghost has: { Self → Self.Pass → ℕ → Record → Type 0 };
+
+    /// A word of a record that was read, and stays.
+    fn look(&self, pass: &mut Self::Pass, row: u32, at: usize) -> u64
+        requires has { (content : Record) × has self.now pass.old row content × (at < length (compact_words content)) }
+        ensures same { pass.new ≡ pass.old }
+        ensures word { (content : Record) → has self.now pass.old row content → result ≡ slice_index (compact_words content) at };
+
+    /// Shows that compact words can spell what was read, at no cost.
+    fn keeps_spelling(&self, pass: &Self::Pass)
+        ensures { (row : ℕ) (content : Record) → has self.now pass.now row content → IsCompact content (compact_words content) };
+}
+
+/// Compact rows, as `row_search` searches rows.
+#[derive(Drop)]
+pub struct Spread<R> {
+    rows: R,
+}
+
+impl<R: CompactRows> Rows for Spread<R> {
+    type Pass = R::Pass;
+
+    ghost content = { R.content };
+
+    ghost has = { λ spread pass row content. R.has spread.rows pass row content };
+
+    fn look(&self, pass: &mut R::Pass, row: u32, at: usize) -> u64 {
+        look_spread(&self.rows, pass, row, at)
+    }
+}
+
+/// A word of the row of today's form that spells a record which was read, and stays.
+pub fn look_spread<R: CompactRows>(rows: &R, pass: &mut R::Pass, row: u32, at: usize) -> u64
+    requires has { (content : Record) × R.has rows.now pass.old row content }
+    requires within { at < ROW_WORDS }
+    ensures same { pass.new ≡ pass.old }
+    ensures word { (content : Record) → R.has rows.now pass.old row content → result ≡ slice_index (words_of content) at }
+{
+    rows.keeps_spelling(pass);
+    words_are_seen();
+    let first = first_look(rows, pass, row);
+    if at < 2 {
+        return header_seen(first, at);
+    }
+    if at < 21 {
+        return keys_look(rows, pass, row, first, at);
+    }
+    items_look(rows, pass, row, first, at - FIRST_ITEM)
+}
+
+/// The first word.
+fn first_look<R: CompactRows>(rows: &R, pass: &mut R::Pass, row: u32) -> u64
+    requires has { (content : Record) × R.has rows.now pass.old row content }
+    requires spelt { (content : Record) → R.has rows.now pass.old row content → IsCompact content (compact_words content) }
+    ensures same { pass.new ≡ pass.old }
+    ensures word { (content : Record) → R.has rows.now pass.old row content → result ≡ slice_index (compact_words content) 0 }
+{
+    rows.look(pass, row, 0)
+}
+
+/// What a row's first word says of its first two words in today's form.
+fn header_seen(first: u64, at: usize) -> u64
+    requires { at < 2 }
+    ensures header { at ≡ 0 → result ≡ first % 16777216 + 33554432 }
+    ensures next { at ≡ 1 → result ≡ first / 4294967296 }
+{
+    if at == 0 {
+        first % FORM_UNIT + FORM_UNIT * FORM
+    } else {
+        first / NEXT_UNIT
+    }
+}
+
+/// A word of the two keys, or of the PID before them.
+fn keys_look<R: CompactRows>(
+    rows: &R,
+    pass: &mut R::Pass,
+    row: u32,
+    first: u64,
+    at: usize,
+) -> u64
+    requires has { (content : Record) × R.has rows.now pass.old row content }
+    requires spelt { (content : Record) → R.has rows.now pass.old row content → IsCompact content (compact_words content) }
+    requires first { (content : Record) → R.has rows.now pass.old row content → first ≡ slice_index (compact_words content) 0 }
+    requires low { 2 ≤ at }
+    requires high { at < 21 }
+    ensures same { pass.new ≡ pass.old }
+    ensures word { (content : Record) → R.has rows.now pass.old row content → result ≡ seen (compact_words content) at }
+{
+    let second = rows.look(pass, row, 1);
+    if at == 2 {
+        return second % FIRST_UNIT;
+    }
+    let one = second / FIRST_UNIT % PART_LIMIT;
+    if at == 3 {
+        return one;
+    }
+    let other = second / SECOND_UNIT;
+    if at == 12 {
+        return other;
+    }
+    let start = 2 + 2 * (first / ITEM_UNIT % PART_LIMIT) as usize;
+    if at < 12 {
+        return text_look(rows, pass, row, start, words_for(one), at - 4);
+    }
+    text_look(
+        rows,
+        pass,
+        row,
+        start + words_for(one) as usize,
+        bound_size(other),
+        at - 13,
+    )
+}
+
+/// A word of a text.
+fn text_look<R: CompactRows>(
+    rows: &R,
+    pass: &mut R::Pass,
+    row: u32,
+    at: usize,
+    size: u64,
+    place: usize,
+) -> u64
+    requires few { at ≤ 281474976710656 }
+    requires low { place < ROW_WORDS }
+    requires has { (content : Record) × R.has rows.now pass.old row content × (at + size ≤ length (compact_words content)) }
+    ensures same { pass.new ≡ pass.old }
+    ensures word { (content : Record) → R.has rows.now pass.old row content → result ≡ text_seen (compact_words content) at size place }
+{
+    if (place as u64) < size {
+        rows.look(pass, row, at + place)
+    } else {
+        0
+    }
+}
+
+/// A word behind the two keys.
+fn items_look<R: CompactRows>(
+    rows: &R,
+    pass: &mut R::Pass,
+    row: u32,
+    first: u64,
+    place: usize,
+) -> u64
+    requires has { (content : Record) × R.has rows.now pass.old row content }
+    requires spelt { (content : Record) → R.has rows.now pass.old row content → IsCompact content (compact_words content) }
+    requires first { (content : Record) → R.has rows.now pass.old row content → first ≡ slice_index (compact_words content) 0 }
+    requires low { place < ROW_WORDS }
+    ensures same { pass.new ≡ pass.old }
+    ensures word { (content : Record) → R.has rows.now pass.old row content → result ≡ items_seen (compact_words content) place }
+{
+    let count = (first / ITEM_UNIT % PART_LIMIT) as usize;
+    let item = place / ITEM_WORDS;
+    if item >= count {
+        return 0;
+    }
+    item_look(rows, pass, row, first, count, item, place % ITEM_WORDS)
+}
+
+/// A word of the item at a place: the first bytes of its key stand apart.
+fn item_look<R: CompactRows>(
+    rows: &R,
+    pass: &mut R::Pass,
+    row: u32,
+    first: u64,
+    count: usize,
+    item: usize,
+    place: usize,
+) -> u64
+    requires has { (content : Record) × R.has rows.now pass.old row content }
+    requires spelt { (content : Record) → R.has rows.now pass.old row content → IsCompact content (compact_words content) }
+    requires first { (content : Record) → R.has rows.now pass.old row content → first ≡ slice_index (compact_words content) 0 }
+    requires counts { (content : Record) → R.has rows.now pass.old row content → count ≡ count_seen (compact_words content) }
+    requires few { count < PART_LIMIT }
+    requires there { item < count }
+    requires low { place < ITEM_WORDS }
+    ensures same { pass.new ≡ pass.old }
+    ensures word { (content : Record) → R.has rows.now pass.old row content
+        → result ≡ item_seen (compact_words content) (level_seen (compact_words content)) (slice_index (compact_words content) (2 + item))
+            (slice_index (compact_words content) (2 + count_seen (compact_words content) + item)) place }
+{
+    if place == 1 {
+        return rows.look(pass, row, 2 + item);
+    }
+    let code = rows.look(pass, row, 2 + count + item);
+    if place == 0 {
+        return code / LENGTH_UNIT % LENGTH_UNIT;
+    }
+    if place == 9 {
+        return code / CONTENT_UNIT;
+    }
+    rest_look(rows, pass, row, first / LEVEL_UNIT % PART_LIMIT, code, place)
+}
+
+/// A word of an item's text, by the item's word.
+fn rest_look<R: CompactRows>(
+    rows: &R,
+    pass: &mut R::Pass,
+    row: u32,
+    level: u64,
+    code: u64,
+    place: usize,
+) -> u64
+    requires has { (content : Record) × R.has rows.now pass.old row content × HoldsText (compact_words content) level code }
+    requires high { 1 < place }
+    requires other { place ≢ 9 }
+    requires low { place < ITEM_WORDS }
+    ensures same { pass.new ≡ pass.old }
+    ensures word { (content : Record) (head : ℕ) → R.has rows.now pass.old row content → result ≡ item_seen (compact_words content) level head code place }
+{
+    let start = code_at(code);
+    if place < 9 {
+        return text_look(rows, pass, row, start, code_tail(code), place - 2);
+    }
+    if level > 0 {
+        return 0;
+    }
+    text_look(
+        rows,
+        pass,
+        row,
+        start + code_tail(code) as usize,
+        words_for(code / CONTENT_UNIT),
+        place - 10,
+    )
+}
