@@ -18,7 +18,7 @@ mod write;
 
 pub use compact_row::CompactRow;
 pub use laws::{compact_spelling_is_one, records_have_room, words_are_seen};
-pub use layout::{COMPACT_FORM, MOST_WORDS};
+pub use layout::{COMPACT_FORM, MOST_WORDS, SECOND_UNIT};
 pub use read::from_compact;
 pub use seen::seen_in;
 pub use spread::{CompactRows, Spread, look_spread};

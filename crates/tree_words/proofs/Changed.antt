@@ -31,7 +31,7 @@ module _ (limits : Limits) (words : List ℕ) (m : Memory) (long : length words 
     epoch = get_or-set_other words (slot_at limits i) epoch_at x 0 (omega arith) ∙ sp.epoch;
     announced = λ b below. get_or-set_other words (slot_at limits i) (announced_at b) x 0 (omega arith) ∙ sp.announced b below;
     pads = λ k pad. get_or-set_other words (slot_at limits i) k x 0 (let high = pad.1 in omega arith) ∙ sp.pads k pad;
-    rows = λ row j rl jl none. absurd none;
+    rows = λ row j rl jl used none. absurd none;
   }
 
   epoch_set : (x : ℕ) → SpellsParts limits (set words epoch_at x) (record m { epoch = x })
@@ -42,7 +42,7 @@ module _ (limits : Limits) (words : List ℕ) (m : Memory) (long : length words 
     epoch = get_or-set_same words epoch_at x 0 (omega arith);
     announced = λ b below. get_or-set_other words epoch_at (announced_at b) x 0 (omega arith) ∙ sp.announced b below;
     pads = λ k pad. get_or-set_other words epoch_at k x 0 (let low = pad.0 in omega arith) ∙ sp.pads k pad;
-    rows = λ row j rl jl none. absurd none;
+    rows = λ row j rl jl used none. absurd none;
   }
 
   announced_set : (a x : ℕ) → a < 16 → SpellsParts limits (set words (announced_at a) x) (record m { announced = replaced_at a x m.announced })
@@ -56,7 +56,7 @@ module _ (limits : Limits) (words : List ℕ) (m : Memory) (long : length words 
         (replaced_same a x m.announced) ∙ ap (replaced_at a x m.announced) (sym e))
         (λ ne. get_or-set_other words (announced_at a) (announced_at b) x 0 (λ e. ne (omega arith)) ∙ sp.announced b below ∙ sym (replaced_other a x m.announced b ne));
     pads = λ k pad. get_or-set_other words (announced_at a) k x 0 (pad.2 a within) ∙ sp.pads k pad;
-    rows = λ row j rl jl none. absurd none;
+    rows = λ row j rl jl used none. absurd none;
   }
 
   -- a word of free PIDs becomes one of other free PIDs, to which the other words are true
@@ -73,7 +73,7 @@ module _ (limits : Limits) (words : List ℕ) (m : Memory) (long : length words 
     epoch = get_or-set_other words (pid_bits_at limits w) epoch_at x 0 (omega arith) ∙ sp.epoch;
     announced = λ b below. get_or-set_other words (pid_bits_at limits w) (announced_at b) x 0 (omega arith) ∙ sp.announced b below;
     pads = λ k pad. get_or-set_other words (pid_bits_at limits w) k x 0 (let high = pad.1 in omega arith) ∙ sp.pads k pad;
-    rows = λ row j rl jl none. absurd none;
+    rows = λ row j rl jl used none. absurd none;
   }
 
   row_bits_set : (w x : ℕ) (free : ℕ → Bool) → w < limits.rows / 64 → IsWordOf free w x → ((v bits : ℕ) → v ≢ w → IsWordOf m.free_rows v bits → IsWordOf free v bits)
@@ -89,7 +89,7 @@ module _ (limits : Limits) (words : List ℕ) (m : Memory) (long : length words 
     epoch = get_or-set_other words (row_bits_at limits w) epoch_at x 0 (omega arith) ∙ sp.epoch;
     announced = λ b below. get_or-set_other words (row_bits_at limits w) (announced_at b) x 0 (omega arith) ∙ sp.announced b below;
     pads = λ k pad. get_or-set_other words (row_bits_at limits w) k x 0 (let high = pad.1 in omega arith) ∙ sp.pads k pad;
-    rows = λ row j rl jl none. absurd none;
+    rows = λ row j rl jl used none. absurd none;
   }
 
   -- an exchange writes only where it finds the number that it looks for

@@ -1,7 +1,7 @@
 -- The opening words are those of the opening memory.
 use Rattle.std.proofs.Common.{◌≡◌, ◌≢◌, ◌⊎◌, ◌<◌, ◌≤◌, ◌+◌, ◌*◌, ◌-◌, ◌/◌, ◌%◌, ◌++◌, ◌∷◌, ℕ, zero, suc, List, length, set, get_or, replicate, inl, inr, refl}
 use Rattle.std.proofs.Common.{sym, ap, subst, arith, ◌∙◌, get_or-set_same, get_or-set_other, length-set, ne_eqb}
-use Rattle.std.specs.Prelude.{if◌then◌else◌, nat_le, nat_lt, ◌&&◌}
+use Rattle.std.specs.Prelude.{if◌then◌else◌, nat_le, nat_lt, ◌&&◌, Bool, true, false, Some}
 use Rattle.std.specs.Int.{bit_at}
 use Rattle.std.proofs.lemmas.Bool.{cases_lt, le-leb, lt-leb, lt-ltb}
 use Rattle.std.proofs.lemmas.Bool.Decides.{eqb_tells}
@@ -12,12 +12,14 @@ use Rattle.base_page.specs.Pages.{empty_leaf}
 use Rattle.deltas.specs.declared.record.Record.TheVariants.{Base}
 use Rattle.deltas.specs.Memory.{opening}
 use Rattle.traces.specs.trace.Steps.{IsWordOf}
-use Rattle.record_slots.specs.Layout.{no_bound, row_size, second_at, text_size}
+use Rattle.record_slots.specs.Layout.{form_unit, no_bound, row_size, second_at, text_size}
 use Rattle.record_slots.specs.Parts.{header_word}
 use Rattle.record_slots.specs.Spelling.{words_left, words_of}
 use Rattle.tree_words.specs.Layout.{slot_at, pid_bits_at, row_bits_at, epoch_at, announced_at, row_at, width}
-use Rattle.tree_words.specs.Opening.{with_ones, with_free, opening_words}
-use Rattle.tree_words.specs.Words.{words_in, AreWordsOf}
+use Rattle.compact_rows.specs.Layout.{compact_form, second_unit}
+use Rattle.compact_rows.specs.Spelling.{compact_words}
+use Rattle.tree_words.specs.Opening.{bound_at, bound_word, leaf_header, with_ones, with_free, opening_words}
+use Rattle.tree_words.specs.Words.{used_in, words_in, AreWordsOf}
 
 same_or_not : (a b : ℕ) → (a ≡ b) ⊎ (a ≢ b)
 same_or_not a b = elim (eqb_tells a b) [ inl same ↦ inl same.1 | inr apart ↦ inr apart.1 ]
@@ -95,7 +97,9 @@ base_word (suc j) a b = between (second_at - 1) j (replicate text_size 0 ++ repl
     between (suc n) zero behind other none = refl
     between (suc n) (suc i) behind other none = between n i behind (λ e. other (ap suc e)) none
 
-module _ (limits : Limits) where
+module _ (limits : Limits) (header place bound : ℕ) (low : 0 < place) (high : place < row_size) (is_header : get_or (words_in limits (Some (Base empty_leaf))) 0 0 ≡ header)
+    (is_bound : get_or (words_in limits (Some (Base empty_leaf))) place 0 ≡ bound)
+    (is_zero : (j : ℕ) → j ≢ 0 → j ≢ place → j < row_size → j < used_in limits (Some (Base empty_leaf)) → get_or (words_in limits (Some (Base empty_leaf))) j 0 ≡ 0) where
   abbrev L0 : List ℕ
   L0 = replicate (width limits) 0
 
@@ -115,7 +119,10 @@ module _ (limits : Limits) where
   L5 = set L4 epoch_at limits.epoch
 
   abbrev L6 : List ℕ
-  L6 = set L5 (row_at 1 0) (header_word 1 0 0)
+  L6 = set L5 (row_at 1 0) header
+
+  abbrev L7 : List ℕ
+  L7 = set L6 (row_at 1 place) bound
 
   some_pids : 64 ≤ limits.pids
   some_pids = limits.allowed.some_pids
@@ -148,20 +155,20 @@ module _ (limits : Limits) where
   l5 = length-set L4 epoch_at limits.epoch ∙ l4
 
   l6 : length L6 ≡ width limits
-  l6 = length-set L5 (row_at 1 0) (header_word 1 0 0) ∙ l5
+  l6 = length-set L5 (row_at 1 0) header ∙ l5
 
   -- but for five words
-  else_where : (i : ℕ) → i ≢ slot_at limits 0 → i ≢ slot_at limits 1 → i ≢ epoch_at → i ≢ row_at 1 0 → i ≢ row_at 1 second_at → get_or (opening_words limits) i 0 ≡ get_or L2 i 0
+  else_where : (i : ℕ) → i ≢ slot_at limits 0 → i ≢ slot_at limits 1 → i ≢ epoch_at → i ≢ row_at 1 0 → i ≢ row_at 1 place → get_or L7 i 0 ≡ get_or L2 i 0
   else_where i a b c d e =
-      get_or-set_other L6 (row_at 1 second_at) i no_bound 0 e ∙ get_or-set_other L5 (row_at 1 0) i (header_word 1 0 0) 0 d
+      get_or-set_other L6 (row_at 1 place) i bound 0 e ∙ get_or-set_other L5 (row_at 1 0) i header 0 d
       ∙ get_or-set_other L4 epoch_at i limits.epoch 0 c ∙ get_or-set_other L3 (slot_at limits 1) i 1 0 b ∙ get_or-set_other L2 (slot_at limits 0) i 1 0 a
 
   zero_at : (i : ℕ) → i < width limits → get_or L0 i 0 ≡ 0
   zero_at i h = get_or-replicate (width limits) i 0 0 h
 
-  nowhere : (i : ℕ) → i < width limits → i ≢ slot_at limits 0 → i ≢ slot_at limits 1 → i ≢ epoch_at → i ≢ row_at 1 0 → i ≢ row_at 1 second_at
+  nowhere : (i : ℕ) → i < width limits → i ≢ slot_at limits 0 → i ≢ slot_at limits 1 → i ≢ epoch_at → i ≢ row_at 1 0 → i ≢ row_at 1 place
       → ((k : ℕ) → k < limits.pids / 64 → i ≢ pid_bits_at limits k) → ((k : ℕ) → k < limits.rows / 64 → i ≢ row_bits_at limits k)
-      → get_or (opening_words limits) i 0 ≡ 0
+      → get_or L7 i 0 ≡ 0
   nowhere i h a b c d e f g = else_where i a b c d e ∙ free2 i h f g
     where
       free2 : (i : ℕ) → i < width limits → ((k : ℕ) → k < limits.pids / 64 → i ≢ pid_bits_at limits k) → ((k : ℕ) → k < limits.rows / 64 → i ≢ row_bits_at limits k) → get_or L2 i 0 ≡ 0
@@ -169,48 +176,48 @@ module _ (limits : Limits) where
           free_outside (row_bits_at limits 0) (limits.rows / 64) L1 i (omega arith) (λ k lt e. g k lt (omega (arith, e))) ∙ free_outside (pid_bits_at limits 0)
           (limits.pids / 64) L0 i (omega arith) (λ k lt e. f k lt (omega (arith, e))) ∙ zero_at i h
 
-  slot_word : (pid : ℕ) → pid < limits.pids → get_or (opening_words limits) (slot_at limits pid) 0 ≡ (opening limits).slots pid
+  slot_word : (pid : ℕ) → pid < limits.pids → get_or L7 (slot_at limits pid) 0 ≡ (opening limits).slots pid
   slot_word pid lt = let sp = some_pids in let sr = some_rows in elim (same_or_not pid 0) [
-    | inl zero_is ↦ rw zero_is (get_or-set_other L6 (row_at 1 second_at) (slot_at limits 0) no_bound 0 (λ e. absurd (omega arith)) ∙ get_or-set_other L5
-        (row_at 1 0) (slot_at limits 0) (header_word 1 0 0) 0 (λ e. absurd (omega arith)) ∙ get_or-set_other L4 epoch_at (slot_at limits 0) limits.epoch 0
+    | inl zero_is ↦ rw zero_is (get_or-set_other L6 (row_at 1 place) (slot_at limits 0) bound 0 (λ e. absurd (omega arith)) ∙ get_or-set_other L5
+        (row_at 1 0) (slot_at limits 0) header 0 (λ e. absurd (omega arith)) ∙ get_or-set_other L4 epoch_at (slot_at limits 0) limits.epoch 0
         (λ e. absurd (omega arith)) ∙ get_or-set_other L3 (slot_at limits 1) (slot_at limits 0) 1 0 (λ e. absurd (omega arith)) ∙ get_or-set_same L2
         (slot_at limits 0) 1 0 (let l = l2 in omega arith))
     | inr some ↦ elim (same_or_not pid 1) [
-      | inl one_is ↦ rw one_is (get_or-set_other L6 (row_at 1 second_at) (slot_at limits 1) no_bound 0 (λ e. absurd (omega arith)) ∙ get_or-set_other L5
-          (row_at 1 0) (slot_at limits 1) (header_word 1 0 0) 0 (λ e. absurd (omega arith)) ∙ get_or-set_other L4 epoch_at (slot_at limits 1) limits.epoch 0
+      | inl one_is ↦ rw one_is (get_or-set_other L6 (row_at 1 place) (slot_at limits 1) bound 0 (λ e. absurd (omega arith)) ∙ get_or-set_other L5
+          (row_at 1 0) (slot_at limits 1) header 0 (λ e. absurd (omega arith)) ∙ get_or-set_other L4 epoch_at (slot_at limits 1) limits.epoch 0
           (λ e. absurd (omega arith)) ∙ get_or-set_same L3 (slot_at limits 1) 1 0 (let l = l3 in omega arith))
       | inr more ↦ rw (lt-leb pid 1 (omega arith)) (nowhere (slot_at limits pid) (omega arith) (λ e. some (omega arith)) (λ e. more (omega arith))
           (λ e. absurd (omega arith)) (λ e. absurd (omega arith)) (λ e. absurd (omega arith)) (λ k h e. absurd (omega arith)) (λ k h e. absurd (omega arith)))
     ]
   ]
 
-  pid_word : (word : ℕ) → word < limits.pids / 64 → Free limits.pids word (get_or (opening_words limits) (pid_bits_at limits word) 0)
+  pid_word : (word : ℕ) → word < limits.pids / 64 → Free limits.pids word (get_or L7 (pid_bits_at limits word) 0)
   pid_word word lt = let sp = some_pids in let sr = some_rows in
-      let there : get_or (opening_words limits) (pid_bits_at limits word) 0 ≡ get_or L1 (pid_bits_at limits word) 0 =
+      let there : get_or L7 (pid_bits_at limits word) 0 ≡ get_or L1 (pid_bits_at limits word) 0 =
       else_where (pid_bits_at limits word) (λ e. absurd (omega arith)) (λ e. absurd (omega arith)) (λ e. absurd (omega arith)) (λ e. absurd (omega arith)) (λ e. absurd (omega arith))
       ∙ free_outside (row_bits_at limits 0) (limits.rows / 64) L1 (pid_bits_at limits word) (omega arith) (λ k h e. absurd (omega arith)) in
       subst (Free limits.pids word) (sym there)
       (subst (λ i. Free limits.pids word (get_or L1 i 0)) (omega arith) (free_inside limits.pids (pid_bits_at limits 0) word L0 limits.allowed.whole_pids sp lt (let l = l0 in omega arith)))
 
-  row_word : (word : ℕ) → word < limits.rows / 64 → Free limits.rows word (get_or (opening_words limits) (row_bits_at limits word) 0)
+  row_word : (word : ℕ) → word < limits.rows / 64 → Free limits.rows word (get_or L7 (row_bits_at limits word) 0)
   row_word word lt = let sp = some_pids in let sr = some_rows in
-      let there : get_or (opening_words limits) (row_bits_at limits word) 0 ≡ get_or L2 (row_bits_at limits word) 0 =
+      let there : get_or L7 (row_bits_at limits word) 0 ≡ get_or L2 (row_bits_at limits word) 0 =
       else_where (row_bits_at limits word) (λ e. absurd (omega arith)) (λ e. absurd (omega arith)) (λ e. absurd (omega arith)) (λ e. absurd (omega arith)) (λ e. absurd (omega arith)) in
       subst (Free limits.rows word) (sym there)
       (subst (λ i. Free limits.rows word (get_or L2 i 0)) (omega arith) (free_inside limits.rows (row_bits_at limits 0) word L1 limits.allowed.whole_rows sr lt (let l = l1 in omega arith)))
 
-  record_word : (row j : ℕ) → row < limits.rows → j < row_size → get_or (opening_words limits) (row_at row j) 0 ≡ get_or (words_in ((opening limits).rows row)) j 0
-  record_word row j rl jl = elim (same_or_not row 1) [
-    | inl one ↦ subst (λ r. get_or (opening_words limits) (row_at r j) 0 ≡ get_or (words_in ((opening limits).rows r)) j 0) (sym one) (elim (same_or_not j 0) [
-      | inl none ↦ subst (λ k. get_or (opening_words limits) (row_at 1 k) 0 ≡ get_or (words_of (Base empty_leaf)) k 0) (sym none) (get_or-set_other L6
-          (row_at 1 second_at) (row_at 1 0) no_bound 0 (λ e. absurd (omega arith)) ∙ get_or-set_same L5 (row_at 1 0) (header_word 1 0 0) 0
-          (let l = l5 in let s = some_rows in omega arith))
-      | inr some ↦ elim (same_or_not j second_at) [
-        | inl bound ↦ subst (λ k. get_or (opening_words limits) (row_at 1 k) 0 ≡ get_or (words_of (Base empty_leaf)) k 0) (sym bound)
-            (get_or-set_same L6 (row_at 1 second_at) no_bound 0 (let l = l6 in let s = some_rows in omega arith))
+  record_word : (row j : ℕ) → row < limits.rows → j < row_size → j < used_in limits ((opening limits).rows row) → get_or L7 (row_at row j) 0 ≡ get_or (words_in limits ((opening limits).rows row)) j 0
+  record_word row j rl jl used = elim (same_or_not row 1) [
+    | inl one ↦ subst (λ r. get_or L7 (row_at r j) 0 ≡ get_or (words_in limits ((opening limits).rows r)) j 0) (sym one) (let used' : j < used_in limits (Some (Base empty_leaf)) = subst (λ r. j < used_in limits ((opening limits).rows r)) one used in elim (same_or_not j 0) [
+      | inl none ↦ subst (λ k. get_or L7 (row_at 1 k) 0 ≡ get_or (words_in limits (Some (Base empty_leaf))) k 0) (sym none) (get_or-set_other L6
+          (row_at 1 place) (row_at 1 0) bound 0 (λ e. absurd (omega arith)) ∙ get_or-set_same L5 (row_at 1 0) header 0
+          (let l = l5 in let s = some_rows in omega arith) ∙ sym is_header)
+      | inr some ↦ elim (same_or_not j place) [
+        | inl here ↦ subst (λ k. get_or L7 (row_at 1 k) 0 ≡ get_or (words_in limits (Some (Base empty_leaf))) k 0) (sym here)
+            (get_or-set_same L6 (row_at 1 place) bound 0 (let l = l6 in let s = some_rows in omega arith) ∙ sym is_bound)
         | inr other ↦ nowhere (row_at 1 j) (let s = some_rows in omega arith) (λ e. absurd (omega arith)) (λ e. absurd (omega arith))
             (λ e. absurd (omega arith)) (λ e. some (omega arith)) (λ e. other (omega arith)) (λ k h e. absurd (omega arith)) (λ k h e. absurd (omega arith)) ∙
-            sym (base_word j some other)
+            sym (is_zero j some other jl used')
       ]
     ])
     | inr apart ↦ rw (ne_eqb row 1 apart)
@@ -218,16 +225,16 @@ module _ (limits : Limits) where
         (λ e. apart (omega arith)) (λ k h e. absurd (omega arith)) (λ k h e. absurd (omega arith)) ∙ sym (get_or-replicate row_size j 0 0 jl))
   ]
 
-  pub opening_is : AreWordsOf limits (opening limits) (opening_words limits)
-  opening_is = record {
-    wide = length-set L6 (row_at 1 second_at) no_bound ∙ l6;
+  opens : AreWordsOf limits (opening limits) L7
+  opens = record {
+    wide = length-set L6 (row_at 1 place) bound ∙ l6;
     spells = record {
       slots = slot_word;
       pid_bits = pid_word;
       row_bits = row_word;
       epoch =
-          get_or-set_other L6 (row_at 1 second_at) epoch_at no_bound 0 (λ e. absurd (omega arith))
-          ∙ get_or-set_other L5 (row_at 1 0) epoch_at (header_word 1 0 0) 0 (λ e. absurd (omega arith))
+          get_or-set_other L6 (row_at 1 place) epoch_at bound 0 (λ e. absurd (omega arith))
+          ∙ get_or-set_other L5 (row_at 1 0) epoch_at header 0 (λ e. absurd (omega arith))
           ∙ get_or-set_same L4 epoch_at limits.epoch 0 (let l = l4 in omega arith);
       announced =
           λ a al. nowhere (announced_at a) (omega arith) (λ e. absurd (omega arith)) (λ e. absurd (omega arith)) (λ e. absurd (omega arith))
@@ -236,6 +243,33 @@ module _ (limits : Limits) where
           λ i pad. let low = pad.0 in let high = pad.1 in nowhere i (omega arith) (λ e. absurd (omega arith)) (λ e. absurd (omega arith))
           (λ e. absurd (omega arith)) (λ e. absurd (omega arith)) (λ e. absurd (omega arith)) (λ k h e. absurd (omega arith))
           (λ k h e. absurd (omega arith));
-      rows = λ r j rl jl _. record_word r j rl jl;
+      rows = λ r j rl jl used _. record_word r j rl jl used;
     };
   }
+
+-- the words of the empty leaf that opens a tree of either kind
+pub opening_is : (limits : Limits) → AreWordsOf limits (opening limits) (opening_words limits)
+opening_is limits = opens limits (leaf_header limits) (bound_at limits) (bound_word limits) (some limits.is_large) (few limits.is_large) (header limits.is_large) (bound limits.is_large)
+    (nothing limits.is_large)
+  where
+    some : (large : Bool) → 0 < (if large then 1 else second_at)
+    some true = omega arith
+    some false = omega arith
+
+    few : (large : Bool) → (if large then 1 else second_at) < row_size
+    few true = omega arith
+    few false = omega arith
+
+    header : (large : Bool) → get_or (if large then compact_words (Base empty_leaf) else words_of (Base empty_leaf)) 0 0 ≡ (if large then 1 + form_unit * compact_form else header_word 1 0 0)
+    header true = refl
+    header false = refl
+
+    bound : (large : Bool) → get_or (if large then compact_words (Base empty_leaf) else words_of (Base empty_leaf)) (if large then 1 else second_at) 0
+        ≡ (if large then second_unit * no_bound else no_bound)
+    bound true = refl
+    bound false = refl
+
+    nothing : (large : Bool) (j : ℕ) → j ≢ 0 → j ≢ (if large then 1 else second_at) → j < row_size → j < (if large then length (compact_words (Base empty_leaf)) else row_size)
+        → get_or (if large then compact_words (Base empty_leaf) else words_of (Base empty_leaf)) j 0 ≡ 0
+    nothing true j some' other low used = let long : length (compact_words (Base empty_leaf)) ≡ 2 = refl in absurd (omega (arith, some', other))
+    nothing false j some' other low used = base_word j some' other

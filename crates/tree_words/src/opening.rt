@@ -2,12 +2,14 @@
 ghost use Rattle.std.specs.Prelude.{◌≡◌, ◌+◌, ◌<◌, ◌≤◌, length, IfOk};
 ghost use Rattle.tree_limits.specs.declared.limits.Limits.{Limits};
 ghost use Rattle.deltas.specs.Memory.{opening};
-ghost use Rattle.tree_words.specs.Opening.{with_free, opening_words};
+ghost use Rattle.record_slots.specs.declared.layout.TheConstants.{ROW_WORDS};
+ghost use Rattle.tree_words.specs.Opening.{bound_at, bound_word, leaf_header, with_free, opening_words};
 ghost use Rattle.tree_words.specs.Words.{AreWordsOf};
 
 use crate::places::{epoch_place, pid_bits_place, row_bits_place, row_place, slot_place, width};
 use bw_model::Limits;
-use record_slots::{FORM, FORM_UNIT, NO_BOUND, SECOND_KEY};
+use compact_rows::{COMPACT_FORM, SECOND_UNIT};
+use record_slots::{FORM, FORM_UNIT, NO_BOUND, ROW_WORDS, SECOND_KEY};
 use std::alloc::{AllocError, Allocator};
 
 /// The opening words are those of the opening memory.
@@ -33,9 +35,39 @@ pub fn opening_words<A: Allocator>(alloc: A, limits: &Limits) -> Result<Vec<u64,
     words[slot_place(limits, 0)] = 1;
     words[slot_place(limits, 1)] = 1;
     words[epoch_place()] = limits.epoch;
-    words[row_place(1)] = 1 + FORM_UNIT * FORM;
-    words[row_place(1) + SECOND_KEY] = NO_BOUND;
+    words[row_place(1)] = leaf_header(limits);
+    words[row_place(1) + bound_place(limits)] = bound_word(limits);
     Ok(words)
+}
+
+/// The header of an empty leaf.
+fn leaf_header(limits: &Limits) -> u64
+    ensures { result ≡ leaf_header limits.now }
+{
+    if limits.is_large {
+        1 + FORM_UNIT * COMPACT_FORM
+    } else {
+        1 + FORM_UNIT * FORM
+    }
+}
+
+/// Where the mark stands in its row that says that it has no bound.
+fn bound_place(limits: &Limits) -> usize
+    ensures at { result ≡ bound_at limits.now }
+    ensures few { result < ROW_WORDS }
+{
+    if limits.is_large { 1 } else { SECOND_KEY }
+}
+
+/// That mark.
+fn bound_word(limits: &Limits) -> u64
+    ensures { result ≡ bound_word limits.now }
+{
+    if limits.is_large {
+        SECOND_UNIT * NO_BOUND
+    } else {
+        NO_BOUND
+    }
 }
 
 /// Sets all bits of the words but the lowest two.
