@@ -5,13 +5,14 @@ use Rattle.deltas.specs.Memory.{Memory}
 use Rattle.traces.specs.trace.Steps.{IsWordOf}
 use Rattle.record_slots.specs.Layout.{row_size}
 use Rattle.tree_words.specs.Layout.{row_at, slot_at, epoch_at, announced_at, pid_bits_at, row_bits_at}
-use Rattle.tree_words.specs.Words.{words_in, SpellsWhere}
+use Rattle.tree_words.specs.Words.{used_in, words_in, SpellsWhere}
 
 module _ (limits : Limits) where
   -- A word of a row changes, and so no word but this row's.
   pub spells_row : (words : List ℕ) (memory memory' : Memory) (P Q : ℕ → Type 0) → SpellsWhere limits words memory P → (row k x : ℕ) → row < limits.rows
       → k < row_size → memory' ≡ record memory { rows = memory'.rows }
-      → ((other j : ℕ) → other < limits.rows → j < row_size → Q other → get_or (set words (row_at row k) x) (row_at other j) 0 ≡ get_or (words_in (memory'.rows other)) j 0)
+      → ((other j : ℕ) → other < limits.rows → j < row_size → j < used_in limits (memory'.rows other) → Q other
+      → get_or (set words (row_at row k) x) (row_at other j) 0 ≡ get_or (words_in limits (memory'.rows other)) j 0)
       → SpellsWhere limits (set words (row_at row k) x) memory' Q
   spells_row words memory memory' P Q sp row k x within small same rows = let at : ℕ = row_at row k in subst (λ z. SpellsWhere limits (set words at x) z Q) (sym same) (record {
     slots = λ pid below. get_or-set_other words at (slot_at limits pid) x 0 (λ e. absurd (omega arith)) ∙ sp.slots pid below;

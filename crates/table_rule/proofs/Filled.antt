@@ -1,10 +1,9 @@
 -- The stores of a row that is written keep the rule.
-use Rattle.std.proofs.Common.{◌≡◌, ◌≢◌, ℕ, zero, suc, ◌+◌, ◌<◌, ◌≤◌, List, [], ◌∷◌, ◌++◌, length, ◌-◌, get_or, set, sym, refl, ap, ◌∙◌, subst, ⊎_elim, arith}
+use Rattle.std.proofs.Common.{◌≡◌, ◌≢◌, inl, inr, ℕ, zero, suc, ◌+◌, ◌<◌, ◌≤◌, List, [], ◌∷◌, ◌++◌, length, ◌-◌, get_or, set, sym, refl, ap, ◌∙◌, subst, ⊎_elim, arith}
 use Rattle.std.proofs.Common.{add-one, length-append, get_or-set_same, get_or-set_other}
-use Rattle.std.specs.Prelude.{Option, None, Some}
-use Rattle.std.proofs.Math.Nat.{le-max_left, le-max_right}
+use Rattle.std.specs.Prelude.{if◌then◌else◌, Bool, true, false, Option, None, Some}
 use Rattle.std.proofs.Math.Seq.{get_or-append_seam}
-use Rattle.std.proofs.lemmas.Bool.{cases_lt}
+use Rattle.std.proofs.lemmas.Bool.{cases_Bool, cases_lt}
 use Rattle.std.proofs.lemmas.List.{get_or-take, get_or_append_left, length-take-le}
 use Rattle.std.proofs.lemmas.Option.{same_Some}
 use mathlib.Core.Logic.{dite}
@@ -22,18 +21,18 @@ use Rattle.traces.specs.declared.trace.Entry.{Entry}
 use Rattle.traces.specs.discipline.Knowledge.{knows}
 use Rattle.traces.specs.trace.Trace.{memory_of}
 use Rattle.record_slots.specs.Layout.{last_at, row_size}
-use Rattle.record_slots.specs.Spelling.{words_of}
-use Rattle.record_slots.specs.Spells.{HasSpelling, IsSpelling}
+use Rattle.compact_rows.specs.Spelling.{compact_words}
+use Rattle.record_slots.specs.Spells.{HasSpelling}
 use Rattle.tree_words.specs.Layout.{row_at}
-use Rattle.tree_words.specs.Words.{words_in}
+use Rattle.tree_words.specs.Words.{stored, used_in, words_in}
 use Rattle.table_rule.specs.declared.view.Reach.{Reach}
 use Rattle.table_rule.specs.declared.view.Reach.TheVariants.{Idle, Writing, Noted}
 use Rattle.table_rule.specs.declared.view.Part.{Part}
 use Rattle.table_rule.specs.Running.{IsPartWritten, IsSettled, KnowsPlaceable, KeepsRowsApart}
-use Rattle.table_rule.specs.Steps.{IsLawfulStep, Took, Fills, Places, tail_from, used_by, used_by_either, written_over}
+use Rattle.table_rule.specs.Steps.{IsLawfulStep, Took, Fills, IsStored, Places, tail_from, used_by, words_over, written_over}
 use Rattle.table_rule.specs.Views.{alone, Mine, seen_of, SitsAt}
 use Rattle.table_rule.proofs.ByWord.{spells_row}
-use Rattle.table_rule.proofs.UsedWords.{few_of_either, zero_behind, zero_behind_in}
+use Rattle.table_rule.proofs.UsedWords.{over_few, over_large, over_small, zero_behind_in}
 use Rattle.table_rule.proofs.Measured.{no_other}
 use Rattle.table_rule.proofs.Parts.{settled_back, starts_self}
 use Rattle.table_rule.proofs.Roster.{set_at}
@@ -46,14 +45,14 @@ with_word x Idle = Idle
 with_word x (Writing row first written) = Writing row first (written ++ x ∷ [])
 with_word x Noted = Noted
 
--- What was written begins what stands behind the header of the record; behind it neither the record has words that aren't 0, nor had the
--- one with this first word.
-pub record IsEnough (content : Record) (header first : ℕ) (written : List ℕ) : Type 0 where
+-- What was written begins what stands behind the header of the record. In a large tree it is all that the record has; in a small one behind it neither
+-- the record has words that aren't 0, nor had the one with this first word.
+pub record IsEnough (limits : Limits) (content : Record) (header first : ℕ) (written : List ℕ) : Type 0 where
   pub spelled : HasSpelling content
-  pub head : header ≡ get_or (words_of content) 0 0
-  pub front : (j : ℕ) → j < length written → get_or written j 0 ≡ get_or (words_of content) (j + 1) 0
-  pub new : used_by header ≤ length written + 1
-  pub old : used_by first ≤ length written + 1
+  pub head : header ≡ get_or (stored limits content) 0 0
+  pub front : (j : ℕ) → j < length written → get_or written j 0 ≡ get_or (stored limits content) (j + 1) 0
+  pub all : limits.is_large ≡ true → length (compact_words content) ≤ length written + 1
+  pub both : limits.is_large ≡ false → (used_by header ≤ length written + 1) × (used_by first ≤ length written + 1)
 
 module _ (limits : Limits) (law : Limits → List Entry → Type 0) (apart : KeepsRowsApart limits (law limits)) where
   module _ (slots id actor : ℕ) (me : Mine) (row first : ℕ) (written : List ℕ) (within : row < limits.rows)
@@ -64,10 +63,10 @@ module _ (limits : Limits) (law : Limits → List Entry → Type 0) (apart : Kee
       may_now = subst (λ k. KnowsPlaceable k row) (sym (knows_now limits law s h id actor (seen_of me) (Writing row first written) tt there)) owned
 
       -- a row of which the seat has written no word
-      other_row : (i k x other j : ℕ) (view : List Part) → i ≡ row_at row k → k < row_size → other < limits.rows → j < row_size → row ≢ other → IsSettled (set s.views id view) other
-          → get_or (set s.words i x) (row_at other j) 0 ≡ get_or (words_in ((memory_of limits h.run).rows other)) j 0
-      other_row i k x other j view at small below short ne st = get_or-set_other s.words i (row_at other j) x 0 (λ e. ne (omega arith))
-          ∙ h.spells.rows other j below short (settled_back s.views id limits actor (seen_of me) (Writing row first written) view other there ne st)
+      other_row : (i k x other j : ℕ) (view : List Part) → i ≡ row_at row k → k < row_size → other < limits.rows → j < row_size → j < used_in limits ((memory_of limits h.run).rows other) → row ≢ other → IsSettled (set s.views id view) other
+          → get_or (set s.words i x) (row_at other j) 0 ≡ get_or (words_in limits ((memory_of limits h.run).rows other)) j 0
+      other_row i k x other j view at small below short used ne st = get_or-set_other s.words i (row_at other j) x 0 (λ e. ne (omega arith))
+          ∙ h.spells.rows other j below short used (settled_back s.views id limits actor (seen_of me) (Writing row first written) view other there ne st)
 
       -- a row into which another seat writes
       others_row : (k x other row' j : ℕ) → k < row_size → other ≢ actor → KnowsPlaceable (knows h.run other) row' → j < row_size
@@ -111,11 +110,11 @@ module _ (limits : Limits) (law : Limits → List Entry → Type 0) (apart : Kee
                 short = omega arith;
                 old = now_fits.old;
                 front = stand_with s.words x (omega arith) now_fits.front;
-                behind = λ j above small. get_or-set_other s.words at (row_at row j) x 0 (λ e. absurd (omega arith)) ∙ now_fits.behind j (omega arith) small;
+                behind = λ kind j above small. get_or-set_other s.words at (row_at row j) x 0 (λ e. absurd (omega arith)) ∙ now_fits.behind kind j (omega arith) small;
               }
               (spells_row limits s.words (memory_of limits h.run) (memory_of limits h.run) (IsSettled s.views) (IsSettled (set s.views id view)) h.spells row
               (length written + 1) x within (omega arith) refl
-              (λ other j below small st. other_row s h there at (length written + 1) x other j view refl (omega arith) below small (st id view stands).0 st)),
+              (λ other j below small used st. other_row s h there at (length written + 1) x other j view refl (omega arith) below small used (st id view stands).0 st)),
           λ limits' actor' row' first' written' is'. (
             at_each (λ l b reach. SitsAt l b (with_word x reach) (view, me.1)) limits actor (Writing row first written) me is
                 (ap (λ (c : List (ℕ × Unit {0})). (view, c)) (ap (λ (z : Mine). z.1) is)) limits' actor' (Writing row' first' written') is',
@@ -125,22 +124,34 @@ module _ (limits : Limits) (law : Limits → List Entry → Type 0) (apart : Kee
 
     -- Once the header is written, the row has the record's words.
     placed_word : (s : TableState) (h : Rule limits law s) (header : ℕ) (content : Record) (j : ℕ) → IsPartWritten limits s.words h.run actor row first written
-        → IsEnough content header first written → j < row_size
-        → get_or (set s.words (row_at row 0) header) (row_at row j) 0 ≡ get_or (words_of content) j 0
-    placed_word s h header content zero fits enough small = let wide = h.wide in get_or-set_same s.words (row_at row 0) header 0 (omega arith) ∙ enough.head
-    placed_word s h header content (suc j) fits enough small =
-        let there : Option Record = (memory_of limits h.run).rows row in
-        let old : used_by (get_or (words_in there) 0 0) ≤ length written + 1 = subst (λ (u : ℕ). used_by u ≤ length written + 1) fits.old enough.old in
-        let new : used_by (get_or (words_of content) 0 0) ≤ length written + 1 = subst (λ (u : ℕ). used_by u ≤ length written + 1) enough.head enough.new in
+        → IsEnough limits content header first written → j < row_size → j < used_in limits (Some content)
+        → get_or (set s.words (row_at row 0) header) (row_at row j) 0 ≡ get_or (stored limits content) j 0
+    placed_word s h header content zero fits enough small used = let wide = h.wide in get_or-set_same s.words (row_at row 0) header 0 (omega arith) ∙ enough.head
+    placed_word s h header content (suc j) fits enough small used =
         let next : suc j ≡ j + 1 = omega arith in
         get_or-set_other s.words (row_at row 0) (row_at row (suc j)) header 0 (omega arith)
         ∙ ⊎_elim
-        (λ below. ap (λ (k : ℕ). get_or s.words (row_at row k) 0) next ∙ fits.front j below ∙ enough.front j below ∙ ap (λ (k : ℕ). get_or (words_of content) k 0) (sym next))
-        (λ above. fits.behind (suc j) (omega (arith, above)) small ∙ zero_behind_in there (λ one e. (h.kept row one e).spelling) (suc j)
-        (omega (arith, old, above)) ∙ sym (zero_behind content enough.spelled (suc j) (omega (arith, new, above))))
+        (λ below. ap (λ (k : ℕ). get_or s.words (row_at row k) 0) next ∙ fits.front j below ∙ enough.front j below ∙ ap (λ (k : ℕ). get_or (stored limits content) k 0) (sym next))
+        (λ above. elim (cases_Bool limits.is_large) [
+          | inl large ↦
+              let all : length (compact_words content) ≤ length written + 1 = enough.all large in
+              let within : suc j < length (compact_words content) = subst (λ (b : Bool). suc j < (if b then length (compact_words content) else row_size)) large used in
+              absurd (omega (arith, above, all, within))
+          | inr kind ↦ behind kind above
+        ])
         (cases_lt j (length written))
+      where
+        there : Option Record
+        there = (memory_of limits h.run).rows row
 
-    pub places : (header : ℕ) (content : Record) → IsEnough content header first written → IsLawfulStep law limits actor (seen_of me) None (Place row content) None
+        behind : limits.is_large ≡ false → length written ≤ j → get_or s.words (row_at row (suc j)) 0 ≡ get_or (stored limits content) (suc j) 0
+        behind kind above =
+            let old : used_by (get_or (words_in limits there) 0 0) ≤ length written + 1 = subst (λ (u : ℕ). used_by u ≤ length written + 1) fits.old (enough.both kind).1 in
+            let new : used_by (get_or (stored limits content) 0 0) ≤ length written + 1 = subst (λ (u : ℕ). used_by u ≤ length written + 1) enough.head (enough.both kind).0 in
+            fits.behind kind (suc j) (omega (arith, above)) small ∙ zero_behind_in limits kind there (λ one e. (h.kept row one e).spelling) (suc j) (omega (arith, old, above))
+            ∙ sym (zero_behind_in limits kind (Some content) (λ one e. subst HasSpelling (same_Some content one e) enough.spelled) (suc j) (omega (arith, new, above)))
+
+    pub places : (header : ℕ) (content : Record) → IsEnough limits content header first written → IsLawfulStep law limits actor (seen_of me) None (Place row content) None
         → Allows (Rule limits law) slots id me (row_at row 0) (λ _. header) (λ _. Places law (Place row content) me header)
     places header content enough may =
         event_telling limits law slots id actor me (Writing row first written) (row_at row 0) (λ _. header) None (Place row content) None (λ _. Places law (Place row content) me header) tt is may
@@ -153,11 +164,13 @@ module _ (limits : Limits) (law : Limits → List Entry → Type 0) (apart : Kee
           record {
             answered = refl;
             spells = λ view _. spells_row limits s.words memory (record memory { rows = rows }) (IsSettled s.views) (IsSettled (set s.views id view)) h.spells row 0 header within (omega arith) refl
-                (λ other j below small st. dite (ℕ_discrete other row)
-                (λ e. subst (λ (z : ℕ). get_or (set s.words at header) (row_at z j) 0 ≡ get_or (words_in (rows z)) j 0) (sym e)
-                (placed_word s h header content j (fits_now limits law s h id actor (seen_of me) (Writing row first written) tt there).reach enough small ∙ ap
-                (λ o. get_or (words_in o) j 0) (sym (replaced_same row (Some content) memory.rows))))
-                (λ ne. other_row s h there at 0 header other j view refl (omega arith) below small (λ e. ne (sym e)) st ∙ ap (λ o. get_or (words_in o) j 0)
+                (λ other j below small used st. dite (ℕ_discrete other row)
+                (λ e. subst (λ (z : ℕ). get_or (set s.words at header) (row_at z j) 0 ≡ get_or (words_in limits (rows z)) j 0) (sym e)
+                (placed_word s h header content j (fits_now limits law s h id actor (seen_of me) (Writing row first written) tt there).reach enough small
+                (subst (λ (o : Option Record). j < used_in limits o) (ap rows e ∙ replaced_same row (Some content) memory.rows) used) ∙ ap
+                (λ o. get_or (words_in limits o) j 0) (sym (replaced_same row (Some content) memory.rows))))
+                (λ ne. other_row s h there at 0 header other j view refl (omega arith) below small
+                (subst (λ (o : Option Record). j < used_in limits o) (replaced_other row (Some content) memory.rows other ne) used) (λ e. ne (sym e)) st ∙ ap (λ o. get_or (words_in limits o) j 0)
                 (sym (replaced_other row (Some content) memory.rows other ne))));
             kept = λ other stays e. dite (ℕ_discrete other row)
                 (λ same. let new : Some content ≡ Some stays = sym (ap rows same ∙ replaced_same row (Some content) memory.rows) ∙ e in
@@ -182,7 +195,7 @@ module _ (law : Limits → List Entry → Type 0) (key limits : Limits) (own : k
   fills_at x at short = subst (λ (z : Limits × ℕ). Allows (Rule z.0 law) slots id me z.1 (λ _. x) (λ _. Fills me x)) (λ k. (sym own k, sym at k))
       (fills limits law apart slots id actor me row first written within is owned_of x short)
 
-  pub places_at : (header : ℕ) (content : Record) (told : StepOf Record) → word ≡ row_at row 0 → Place row content ≡ told → IsEnough content header first written
+  pub places_at : (header : ℕ) (content : Record) (told : StepOf Record) → word ≡ row_at row 0 → Place row content ≡ told → IsEnough limits content header first written
       → IsLawfulStep law limits actor seen None (Place row content) None → Allows (Rule key law) slots id me word (λ _. header) (λ _. Places law told me header)
   places_at header content told at is_told enough may =
       subst (λ (z : Limits × ℕ × StepOf Record). Allows (Rule z.0 law) slots id me z.1 (λ _. header) (λ _. Places law z.2 me header)) (λ k. (sym own k, sym at k, is_told k))
@@ -193,25 +206,18 @@ pub next_in_tail : (xs : List ℕ) (i : ℕ) → get_or xs (i + 1) 0 ≡ get_or 
 next_in_tail [] i = refl
 next_in_tail (x ∷ xs) i = ap (λ k. get_or (x ∷ xs) k 0) (add-one i)
 
-pub tail_length : (xs : List ℕ) → length xs ≡ row_size → length (tail_from xs) ≡ last_at
-tail_length [] long = absurd (omega arith)
-tail_length (x ∷ xs) long = omega arith
-
 -- The words that are written over are enough.
-pub enough_written : (first : ℕ) (content : Record) (words : List ℕ) → length words ≡ row_size → used_by first ≤ row_size → IsSpelling content words
-    → IsEnough content (get_or words 0 0) first (written_over first words)
-enough_written first content words long room spelt =
+pub enough_written : (limits : Limits) (first : ℕ) (content : Record) (words : List ℕ) → used_by first ≤ row_size → IsStored limits content words
+    → IsEnough limits content (get_or words 0 0) first (written_over limits first words)
+enough_written limits first content words room is =
     let tail : List ℕ = tail_from words in
-    let many : ℕ = used_by_either first (get_or words 0 0) in
-    let few : many ≤ row_size = few_of_either first content words room spelt in
-    let least : 1 ≤ many = omega (arith, le-max_left (used_by first) (used_by (get_or words 0 0))) in
-    let all : length (written_over first words) ≡ many - 1 = length-take-le (many - 1) tail (omega (arith, few, tail_length words long)) in
-    let new : used_by (get_or words 0 0) ≤ many = le-max_right (used_by first) (used_by (get_or words 0 0)) in
-    let old : used_by first ≤ many = le-max_left (used_by first) (used_by (get_or words 0 0)) in
+    let over : ℕ = words_over limits first words in
+    let few = over_few limits first content words is room in
+    let long : length (written_over limits first words) ≡ over = length-take-le over tail few.1 in
     record {
-      spelled = record { spellable = spelt.spellable; short = spelt.short; are = refl };
-      head = ap (λ (us : List ℕ). get_or us 0 0) (sym spelt.are);
-      front = λ j below. get_or-take (many - 1) tail j 0 (omega (arith, below, all)) ∙ sym (next_in_tail words j) ∙ ap (λ (us : List ℕ). get_or us (j + 1) 0) (sym spelt.are);
-      new = omega (arith, new, all, least);
-      old = omega (arith, old, all, least);
+      spelled = is.spelling;
+      head = ap (λ (us : List ℕ). get_or us 0 0) (sym is.are);
+      front = λ j below. get_or-take over tail j 0 (omega (arith, below, long)) ∙ sym (next_in_tail words j) ∙ ap (λ (us : List ℕ). get_or us (j + 1) 0) (sym is.are);
+      all = λ large. let all = over_large limits first content words is large in omega (arith, all, long);
+      both = λ small. let both = over_small limits first content words is small in (omega (arith, both.0, long), omega (arith, both.1, long));
     }

@@ -20,7 +20,7 @@ use Rattle.table_rule.specs.declared.view.Part.{Part}
 use Rattle.table_rule.specs.Running.{Each, IsSettled, KnowsPlaceable, KeepsRowsApart, LeavesRow, PartFits, ReachFits}
 use Rattle.table_rule.specs.Steps.{Measures, used_by}
 use Rattle.table_rule.specs.Views.{alone, Mine, seen_of, SitsAt}
-use Rattle.table_rule.proofs.UsedWords.{few_in}
+use Rattle.table_rule.proofs.UsedWords.{all_used, few_in, some_used}
 use Rattle.table_rule.proofs.Parts.{IsApart, apart_ne, each_zip, elsewhere, times_alone}
 use Rattle.table_rule.proofs.Roster.{same_view}
 use Rattle.table_rule.proofs.Turns.{TableState, Rule, extends_now, knows_now, turn, same_actor, same_limits, spares_quiet, spells_quiet}
@@ -58,7 +58,7 @@ module _ (limits : Limits) (law : Limits → List Entry → Type 0) (apart : Kee
         let memory : Memory = memory_of limits h.run in
         let view : List Part = alone limits actor (seen_of me) (Writing row n []) in
         let settled : IsSettled s.views row = own_settled s h id actor (seen_of me) there row may in
-        let first : n ≡ get_or (words_in (memory.rows row)) 0 0 = h.spells.rows row 0 within (omega arith) settled in (
+        let first : n ≡ get_or (words_in limits (memory.rows row)) 0 0 = h.spells.rows row 0 within (omega arith) (some_used limits (memory.rows row)) settled in (
           view,
           keeps,
           tt,
@@ -70,7 +70,8 @@ module _ (limits : Limits) (law : Limits → List Entry → Type 0) (apart : Kee
                 short = omega arith;
                 old = first;
                 front = λ j below. absurd (omega arith);
-                behind = λ j above small. ap (λ (words : List ℕ). get_or words (row_at row j) 0) (set-get_or s.words at 0) ∙ h.spells.rows row j within small settled;
+                behind = λ kind j above small. ap (λ (words : List ℕ). get_or words (row_at row j) 0) (set-get_or s.words at 0)
+                    ∙ h.spells.rows row j within small (all_used limits kind (memory.rows row) j small) settled;
               }
               (spells_quiet limits law s h id actor (seen_of me) there at view),
           λ limits' actor' row' is' word.
@@ -79,7 +80,7 @@ module _ (limits : Limits) (law : Limits → List Entry → Type 0) (apart : Kee
                 subst (λ (z : Limits × ℕ × ℕ). SitsAt z.0 z.1 (Writing z.2 n []) (view, me.1))
                     (λ k. (same_limits limits limits' actor actor' Idle Idle me is is' k, same_actor limits limits' actor actor' Idle Idle me is is' k, row_same k)) sits,
                 refl,
-                subst (λ (u : ℕ). used_by u ≤ row_size) (sym first) (few_in (memory.rows row) (λ content e. (h.kept row content e).spelling)),
+                subst (λ (u : ℕ). used_by u ≤ row_size) (sym first) (few_in limits (memory.rows row) (λ content e. (h.kept row content e).spelling)),
               ),
         )
 

@@ -178,5 +178,5 @@ spells_views limits words memory P Q back sp = record {
   epoch = sp.epoch;
   announced = sp.announced;
   pads = sp.pads;
-  rows = λ row j within below q. sp.rows row j within below (back row q);
+  rows = λ row j within below used q. sp.rows row j within below used (back row q);
 }

@@ -1,6 +1,6 @@
 -- The load of a row's first word, which is the step, and looks at its words keep the rule.
 use Rattle.std.proofs.Common.{◌≡◌, ℕ, ◌<◌, List, [], ◌∷◌, get_or, sym, refl, ap, ◌∙◌, subst, arith}
-use Rattle.std.specs.Prelude.{None, Some}
+use Rattle.std.specs.Prelude.{Option, None, Some}
 use Rattle.std.proofs.lemmas.List.{set-get_or}
 use mathlib.Core.Option.{some, none}
 use lib.ListN.{get_elem?}
@@ -13,16 +13,16 @@ use Rattle.traces.specs.declared.trace.Entry.{Entry}
 use Rattle.traces.specs.discipline.Knowledge.{knows}
 use Rattle.traces.specs.trace.Trace.{memory_of}
 use Rattle.record_slots.specs.Layout.{row_size}
-use Rattle.record_slots.specs.Spelling.{words_of}
 use Rattle.record_slots.specs.Spells.{HasSpelling}
 use Rattle.tree_words.specs.Layout.{row_at}
-use Rattle.tree_words.specs.Words.{words_in}
+use Rattle.tree_words.specs.Words.{stored, used_in, words_in}
 use Rattle.table_rule.specs.declared.view.Reach.TheVariants.{Idle, Writing, Noted}
 use Rattle.table_rule.specs.declared.view.Reach.{Reach}
 use Rattle.table_rule.specs.declared.view.Part.{Part}
 use Rattle.table_rule.specs.Running.{Each, IsSettled, KnowsPlaceable, KnowsReadable, KeepsRowsApart, LeavesRow, PartFits, ReachFits}
 use Rattle.table_rule.specs.Steps.{IsLawfulStep, Looks, ReadsRow, ReadsFirst}
 use Rattle.table_rule.specs.Views.{alone, Mine, seen_of, SitsAt}
+use Rattle.table_rule.proofs.UsedWords.{some_used}
 use Rattle.table_rule.proofs.Turns.{TableState, Rule, extends_now, knows_now, turn, event_telling, same_actor, same_limits, spares_quiet, spells_quiet}
 
 module _ (limits : Limits) (law : Limits → List Entry → Type 0) (apart : KeepsRowsApart limits (law limits)) where
@@ -45,9 +45,9 @@ module _ (limits : Limits) (law : Limits → List Entry → Type 0) (apart : Kee
   settled s h actor row may id view there = each_leaves s.words h.run actor row view h.legal may (h.each id view there)
 
   -- the word j of the record of a row that the actor may read
-  word_is : (s : TableState) (h : Rule limits law s) (actor row j : ℕ) → KnowsReadable (knows h.run actor) row → row < limits.rows → j < row_size
-      → get_or s.words (row_at row j) 0 ≡ get_or (words_in ((memory_of limits h.run).rows row)) j 0
-  word_is s h actor row j may within small = h.spells.rows row j within small (settled s h actor row may)
+  word_is : (s : TableState) (h : Rule limits law s) (actor row j : ℕ) → KnowsReadable (knows h.run actor) row → row < limits.rows → j < row_size → j < used_in limits ((memory_of limits h.run).rows row)
+      → get_or s.words (row_at row j) 0 ≡ get_or (words_in limits ((memory_of limits h.run).rows row)) j 0
+  word_is s h actor row j may within small used = h.spells.rows row j within small used (settled s h actor row may)
 
   -- the record of a row that the actor may read
   row_is : (s : TableState) (h : Rule limits law s) (actor row : ℕ) → KnowsReadable (knows h.run actor) row
@@ -74,16 +74,20 @@ module _ (limits : Limits) (law : Limits → List Entry → Type 0) (apart : Kee
               (spells_quiet limits law s h id actor (seen_of me) there at view),
           (
             ap (λ (c : List (ℕ × Unit {0})). (view, c)) (ap (λ (z : Mine). z.1) is) ∙ sym is,
-            λ limits' actor' row' place' content is' small' has word.
+            λ limits' actor' row' place' content is' small' used has word.
+                let tree : limits ≡ limits' = same_limits limits limits' actor actor' Idle Idle me is is' in
                 let who : actor ≡ actor' = same_actor limits limits' actor actor' Idle Idle me is is' in
                 let row_same : row ≡ row' = omega arith in
                 let place_same : place ≡ place' = omega arith in
                 let seen : (knows h.run actor).read.seen row ≡ Some content = ap (λ k. k.read.seen row)
                 (knows_now limits law s h id actor (seen_of me) Idle tt there) ∙ ap (λ (z : ℕ × ℕ). (knows (seen_of me) z.0).read.seen z.1)
                 (λ k. (who k, row_same k)) ∙ has.seen in
-                word_is s h actor row place (may_now s h there) within small
-                ∙ ap (λ o. get_or (words_in o) place 0) (apart.stands actor row content h.run h.legal seen)
-                ∙ ap (λ (j : ℕ). get_or (words_of content) j 0) place_same,
+                let stands : (memory_of limits h.run).rows row ≡ Some content = apart.stands actor row content h.run h.legal seen in
+                let used' : place < used_in limits ((memory_of limits h.run).rows row) =
+                subst (λ (z : ℕ × Limits × Option Record). z.0 < used_in z.1 z.2) (λ k. (sym place_same k, sym tree k, sym stands k)) used in
+                word_is s h actor row place (may_now s h there) within small used'
+                ∙ ap (λ o. get_or (words_in limits o) place 0) stands
+                ∙ (λ k. get_or (stored (tree k) content) (place_same k) 0),
           ),
         )
 
@@ -94,7 +98,8 @@ module _ (limits : Limits) (law : Limits → List Entry → Type 0) (apart : Kee
         let n : ℕ = get_or s.words at 0 in
         let now = may_now s h there in
         let x = row_is s h actor row now in
-        let first : n ≡ get_or (words_of x.0) 0 0 = word_is s h actor row 0 now within (omega arith) ∙ ap (λ o. get_or (words_in o) 0 0) x.1 in (
+        let first : n ≡ get_or (stored limits x.0) 0 0 =
+        word_is s h actor row 0 now within (omega arith) (some_used limits ((memory_of limits h.run).rows row)) ∙ ap (λ o. get_or (words_in limits o) 0 0) x.1 in (
           Content x.0,
           record {
             answered = (x.0, x.1, refl);

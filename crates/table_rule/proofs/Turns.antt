@@ -98,9 +98,9 @@ module _ (limits : Limits) (law : Limits → List Entry → Type 0) where
           may = subst (λ k. KnowsPlaceable k row) (sym (spares.same other ne)) fits.may;
           there = fits.there;
           short = fits.short;
-          old = fits.old ∙ ap (λ o. get_or (words_in o) 0 0) still;
+          old = fits.old ∙ ap (λ o. get_or (words_in limits o) 0 0) still;
           front = λ j below. stay (j + 1) (omega arith) ∙ fits.front j below;
-          behind = λ j above small. stay j small ∙ fits.behind j above small ∙ ap (λ o. get_or (words_in o) j 0) still;
+          behind = λ kind j above small. stay j small ∙ fits.behind kind j above small ∙ ap (λ o. get_or (words_in limits o) j 0) still;
         },
       )
   spared actor other words words' seen run run' Noted apart spares goes fits = (starts_on seen run run' goes spares.grows, tt)

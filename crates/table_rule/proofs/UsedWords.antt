@@ -1,17 +1,22 @@
 -- Which words a record uses.
-use Rattle.std.proofs.Common.{◌≡◌, ◌≤◌, ◌+◌, ◌*◌, ◌-◌, ℕ, List, ◌++◌, drop, length, get_or, replicate, take, refl, sym, ap, subst, ◌∙◌, ⊎_elim, arith}
-use Rattle.std.specs.Prelude.{Option, None, Some}
+use Rattle.std.proofs.Common.{◌≡◌, ◌<◌, ◌≤◌, Bool, true, false, [], ◌∷◌, ◌+◌, ◌*◌, ◌-◌, ℕ, List, ◌++◌, drop, length, get_or, replicate, take, refl, sym, ap, subst, ◌∙◌, ⊎_elim, arith}
+use Rattle.std.specs.Prelude.{if◌then◌else◌, Option, None, Some}
+use Rattle.tree_limits.specs.declared.limits.Limits.{Limits}
+use Rattle.std.proofs.Math.Nat.{le-max_left, le-max_right}
 use Rattle.std.proofs.Math.Seq.{get_or-append_right}
 use Rattle.std.proofs.lemmas.Bool.{cases_lt}
 use Rattle.std.proofs.lemmas.List.{get_or-replicate, get_or_past, length-replicate, length-take, take-append-drop}
 use Rattle.deltas.specs.declared.record.Record.{Record}
 use Rattle.record_slots.specs.Layout.{item_size, items_at, row_size}
-use Rattle.record_slots.specs.Parts.{row_of}
+use Rattle.record_slots.specs.Parts.{items_of, row_of}
 use Rattle.record_slots.specs.Spelling.{words_left, words_of}
 use Rattle.record_slots.specs.Spells.{HasSpelling, IsSpelling}
-use Rattle.record_slots.proofs.SpellingLaws.{row_spelled}
-use Rattle.tree_words.specs.Words.{words_in}
-use Rattle.table_rule.specs.Steps.{used_by, used_by_either}
+use Rattle.record_slots.proofs.SpellingLaws.{counts, items_fit, parts_fit, row_spelled, spelling_length}
+use Rattle.compact_rows.specs.Spelling.{compact_words}
+use Rattle.compact_rows.proofs.Parts.{count_is}
+use Rattle.compact_rows.proofs.Sizes.{has_room}
+use Rattle.tree_words.specs.Words.{stored, used_in, words_in}
+use Rattle.table_rule.specs.Steps.{IsStored, tail_from, used_by, used_by_either, words_over}
 
 zeros_are : (n j : ℕ) → ◌≡◌ {A = ℕ} (get_or (replicate n 0) j 0) 0
 zeros_are n j = ⊎_elim (λ below. get_or-replicate n j 0 0 below) (λ above. get_or_past (replicate n 0) j 0 (omega (arith, above, length-replicate {A = ℕ} n 0))) (cases_lt j n)
@@ -43,14 +48,45 @@ module _ (content : Record) (spelled : HasSpelling content) where
       ap (λ (words : List ℕ). get_or words j 0) (sym (with_zeros end refl)) ∙ get_or-append_right front (replicate (row_size - end) 0) j 0
       (omega (arith, short, used, above)) ∙ zeros_are (row_size - end) (j - length front)
 
--- The same of a row, in which a record stands or none.
-pub few_in : (there : Option Record) → ((content : Record) → there ≡ Some content → HasSpelling content) → used_by (get_or (words_in there) 0 0) ≤ row_size
-few_in None spelled = omega (arith, zeros_are row_size 0)
-few_in (Some content) spelled = few content (spelled content refl)
+-- a compact row says so many items in its first word, too
+few_compact : (content : Record) → HasSpelling content → used_by (get_or (compact_words content) 0 0) ≤ row_size
+few_compact content spelled =
+    let parts = parts_fit content spelled.spellable spelled.short in
+    let count = count_is (row_of content) (items_of content) parts (counts content) (items_fit content spelled.spellable spelled.short) in
+    let few = parts.few in
+    omega arith
 
-pub zero_behind_in : (there : Option Record) → ((content : Record) → there ≡ Some content → HasSpelling content) → (j : ℕ) → used_by (get_or (words_in there) 0 0) ≤ j → get_or (words_in there) j 0 ≡ 0
-zero_behind_in None spelled j above = zeros_are row_size j
-zero_behind_in (Some content) spelled j above = zero_behind content (spelled content refl) j above
+-- The same of a row, in which a record stands or none.
+pub few_in : (limits : Limits) (there : Option Record) → ((content : Record) → there ≡ Some content → HasSpelling content) → used_by (get_or (words_in limits there) 0 0) ≤ row_size
+few_in limits None spelled = omega (arith, zeros_are row_size 0)
+few_in limits (Some content) spelled = by limits.is_large
+  where
+    by : (large : Bool) → used_by (get_or (if large then compact_words content else words_of content) 0 0) ≤ row_size
+    by true = few_compact content (spelled content refl)
+    by false = few content (spelled content refl)
+
+pub zero_behind_in : (limits : Limits) → limits.is_large ≡ false → (there : Option Record) → ((content : Record) → there ≡ Some content → HasSpelling content) → (j : ℕ)
+    → used_by (get_or (words_in limits there) 0 0) ≤ j → get_or (words_in limits there) j 0 ≡ 0
+zero_behind_in limits small None spelled j above = zeros_are row_size j
+zero_behind_in limits small (Some content) spelled j above = by limits.is_large small above
+  where
+    by : (large : Bool) → large ≡ false → used_by (get_or (if large then compact_words content else words_of content) 0 0) ≤ j
+        → get_or (if large then compact_words content else words_of content) j 0 ≡ 0
+    by true e above = cc
+    by false e above = zero_behind content (spelled content refl) j above
+
+-- A row has a first word, and in a small tree all of them say something.
+pub some_used : (limits : Limits) (there : Option Record) → 0 < used_in limits there
+some_used limits None = omega arith
+some_used limits (Some content) = by limits.is_large
+  where
+    by : (large : Bool) → 0 < (if large then length (compact_words content) else row_size)
+    by true = omega arith
+    by false = omega arith
+
+pub all_used : (limits : Limits) → limits.is_large ≡ false → (there : Option Record) (j : ℕ) → j < row_size → j < used_in limits there
+all_used limits small None j low = low
+all_used limits small (Some content) j low = subst (λ (b : Bool). j < (if b then length (compact_words content) else row_size)) (sym small) low
 
 -- Each record of a row uses words of the row, and so do two.
 pub few_of_either : (first : ℕ) (content : Record) (words : List ℕ) → used_by first ≤ row_size → IsSpelling content words → used_by_either first (get_or words 0 0) ≤ row_size
@@ -58,3 +94,57 @@ few_of_either first content words room spelt =
     let spelled : HasSpelling content = record { spellable = spelt.spellable; short = spelt.short; are = refl } in
     let new : used_by (get_or words 0 0) ≤ row_size = subst (λ (us : List ℕ). used_by (get_or us 0 0) ≤ row_size) spelt.are (few content spelled) in
     ⊎_elim (λ low. omega (arith, low, room, new)) (λ high. omega (arith, high, room, new)) (cases_lt (used_by first) (used_by (get_or words 0 0)))
+
+pub tail_length : (xs : List ℕ) → length (tail_from xs) ≡ length xs - 1
+tail_length [] = refl
+tail_length (x ∷ xs) = omega arith
+
+-- The words that are written over are words of the row, and of those that are placed.
+module _ (limits : Limits) (first : ℕ) (content : Record) (words : List ℕ) (is : IsStored limits content words) where
+  pub stored_some : 0 < length words
+  stored_some = by limits.is_large is.are
+    where
+      by : (large : Bool) → (if large then compact_words content else words_of content) ≡ words → 0 < length words
+      by true are = let l = ap length are in omega arith
+      by false are = let l = ap length are in let m = spelling_length content (words_of content) is.spelling in omega arith
+
+  pub over_few : used_by first ≤ row_size → (words_over limits first words < row_size) × (words_over limits first words ≤ length (tail_from words))
+  over_few room = by limits.is_large is.are
+    where
+      by : (large : Bool) → (if large then compact_words content else words_of content) ≡ words
+          → ((if large then length words - 1 else used_by_either first (get_or words 0 0) - 1) < row_size)
+          × ((if large then length words - 1 else used_by_either first (get_or words 0 0) - 1) ≤ length (tail_from words))
+      by true are =
+          let l = ap length are in
+          let few = has_room content is.spelling.spellable is.spelling.short in
+          let tail = tail_length words in
+          (omega arith, omega arith)
+      by false are =
+          let l = ap length are ∙ refl in
+          let m = spelling_length content (words_of content) is.spelling in
+          let spelt : IsSpelling content words = record { spellable = is.spelling.spellable; short = is.spelling.short; are = are } in
+          let few = few_of_either first content words room spelt in
+          let tail = tail_length words in
+          (omega arith, omega arith)
+
+  pub over_large : limits.is_large ≡ true → length (compact_words content) ≤ words_over limits first words + 1
+  over_large large = by limits.is_large large is.are
+    where
+      by : (b : Bool) → b ≡ true → (if b then compact_words content else words_of content) ≡ words
+          → length (compact_words content) ≤ (if b then length words - 1 else used_by_either first (get_or words 0 0) - 1) + 1
+      by true e are = let l = ap length are in omega arith
+      by false e are = cc
+
+  pub over_small : limits.is_large ≡ false → (used_by (get_or words 0 0) ≤ words_over limits first words + 1) × (used_by first ≤ words_over limits first words + 1)
+  over_small small = by limits.is_large small
+    where
+      new : used_by (get_or words 0 0) ≤ used_by_either first (get_or words 0 0)
+      new = le-max_right (used_by first) (used_by (get_or words 0 0))
+
+      old : used_by first ≤ used_by_either first (get_or words 0 0)
+      old = le-max_left (used_by first) (used_by (get_or words 0 0))
+
+      by : (b : Bool) → b ≡ false → (used_by (get_or words 0 0) ≤ (if b then length words - 1 else used_by_either first (get_or words 0 0) - 1) + 1)
+          × (used_by first ≤ (if b then length words - 1 else used_by_either first (get_or words 0 0) - 1) + 1)
+      by true e = cc
+      by false e = let n = new in let o = old in (omega arith, omega arith)

@@ -1,5 +1,5 @@
 -- Steps of an actor by its seat: what one is asked, and what it tells.
-use Rattle.std.specs.Prelude.{◌≡◌, ℕ, ◌+◌, ◌-◌, ◌*◌, ◌/◌, ◌%◌, ◌<◌, ◌≤◌, List, [], ◌∷◌, ◌++◌, max, slice_index, take, Option, None, Some}
+use Rattle.std.specs.Prelude.{◌≡◌, ℕ, ◌+◌, ◌-◌, ◌*◌, ◌/◌, ◌%◌, ◌<◌, ◌≤◌, if◌then◌else◌, List, [], ◌∷◌, ◌++◌, length, max, slice_index, take, Option, None, Some}
 use Rattle.atomic_table.specs.Table.{Step as Made}
 use Rattle.bw_model.specs.declared.command.Command.{Command}
 use Rattle.bw_model.specs.declared.command.Reply.{Reply}
@@ -16,11 +16,11 @@ use Rattle.traces.specs.discipline.Knowledge.{Knowledge, knows}
 use Rattle.traces.specs.trace.Steps.{IsAnswer}
 use Rattle.traces.specs.trace.Trace.{memory_of}
 use Rattle.record_slots.specs.Layout.{count_unit, item_size, items_at, part_limit, row_size}
-use Rattle.record_slots.specs.Spelling.{words_of}
 use Rattle.record_slots.specs.Spells.{HasSpelling}
 use Rattle.tree_words.specs.Changes.{HasWord, changed_word, operation_of, answer_by}
 use Rattle.tree_words.specs.declared.operations.Operation.TheVariants.{Load}
 use Rattle.tree_words.specs.Layout.{row_at}
+use Rattle.tree_words.specs.Words.{stored, used_in}
 use Rattle.table_rule.specs.declared.view.Reach.{Reach}
 use Rattle.table_rule.specs.declared.view.Reach.TheVariants.{Idle, Writing}
 use Rattle.table_rule.specs.Running.{BeginWithSteps, KnowsReadable}
@@ -55,7 +55,7 @@ pub record Took (law : Limits → List Entry → Type 0) (limits : Limits) (acto
 -- A record was read: this is its first word, and the record has a spelling.
 abbrev pub ReadsFirst : (Limits → List Entry → Type 0) → Limits → ℕ → List Entry → ℕ → ℕ → List Entry → Type 0
 ReadsFirst law limits actor seen row word later =
-    (content : Record) × HasSpelling content × (word ≡ slice_index (words_of content) 0) × Took law limits actor seen None (Row row) (Content content) None later
+    (content : Record) × HasSpelling content × (word ≡ slice_index (stored limits content) 0) × Took law limits actor seen None (Row row) (Content content) None later
 
 -- The actor may read the row, and has read this record there since it entered.
 pub record HasReadRecord (k : Knowledge) (row : ℕ) (content : Record) : Type 0 where
@@ -88,11 +88,12 @@ Watches law made me found me' =
     (limits : Limits) (actor : ℕ) (step : StepOf Record) → SitsAt limits actor Idle me → actor < 16 → HasWord limits step → operation_of step ≡ Load → made.word ≡ changed_word limits actor step
     → SitsAt limits actor Idle me' × Watched law limits actor (seen_of me) step found (seen_of me')
 
--- A word of a row whose record was read is looked at, and the seat is as it was. No step is taken.
+-- A word of a row whose record was read is looked at, and the seat is as it was. It is a word of the record, if the record has so many. No step
+-- is taken.
 abbrev pub Looks : Made (Unit {0}) → Mine → ℕ → Mine → Type 0
 Looks made me found me' =
-    (me' ≡ me) × ((limits : Limits) (actor row place : ℕ) (content : Record) → SitsAt limits actor Idle me → place < row_size → HasReadRecord (knows (seen_of me) actor) row content
-    → made.word ≡ row_at row place → found ≡ slice_index (words_of content) place)
+    (me' ≡ me) × ((limits : Limits) (actor row place : ℕ) (content : Record) → SitsAt limits actor Idle me → place < row_size → place < used_in limits (Some content)
+    → HasReadRecord (knows (seen_of me) actor) row content → made.word ≡ row_at row place → found ≡ slice_index (stored limits content) place)
 
 -- how many words a record uses, by its first word; and how many the one or the other of two uses
 abbrev pub used_by : ℕ → ℕ
@@ -106,10 +107,18 @@ abbrev pub tail_from : List ℕ → List ℕ
 tail_from [] = []
 tail_from (word ∷ words) = words
 
--- what is to be written behind the header of a row, where this first word stands until then: behind the words that the one or the other
--- record uses there are zeros, and stay
-abbrev pub written_over : ℕ → List ℕ → List ℕ
-written_over first words = take (used_by_either first (slice_index words 0) - 1) (tail_from words)
+-- The words spell the record in a row of the tree.
+pub record IsStored (limits : Limits) (content : Record) (words : List ℕ) : Type 0 where
+  pub spelling : HasSpelling content
+  pub are : stored limits content ≡ words
+
+-- How many words are to be written behind the header of a row, where this first word stands until then: in a large tree those that the record
+-- has. In a small one, behind the words that the one or the other record uses there are zeros, and stay.
+abbrev pub words_over : Limits → ℕ → List ℕ → ℕ
+words_over limits first words = if limits.is_large then length words - 1 else used_by_either first (slice_index words 0) - 1
+
+abbrev pub written_over : Limits → ℕ → List ℕ → List ℕ
+written_over limits first words = take (words_over limits first words) (tail_from words)
 
 -- The first word of an own row is looked at, by which a record begins to be placed there; the row has all words that it says are used.
 -- No step is taken.

@@ -5,19 +5,17 @@ ghost use Rattle.bw_model.specs.declared.step.Answer.TheVariants.{Done};
 ghost use Rattle.bw_model.specs.declared.step.Step.TheVariants.{Place};
 ghost use Rattle.traces.specs.discipline.Knowledge.{knows};
 ghost use Rattle.deltas.specs.declared.record.Record.{Record};
-ghost use Rattle.record_slots.specs.Spells.{IsSpelling};
 ghost use Rattle.record_slots.specs.declared.layout.TheConstants.{ROW_WORDS};
 ghost use Rattle.table_rule.specs.declared.view.Reach.TheVariants.{Idle, Writing};
 ghost use Rattle.table_rule.specs.Running.{KeepsRowsApart, KnowsPlaceable};
-ghost use Rattle.table_rule.specs.Steps.{IsLawfulStep, Took, used_by, written_over};
+ghost use Rattle.table_rule.specs.Steps.{IsLawfulStep, IsStored, Took, used_by, written_over};
 ghost use Rattle.table_rule.specs.Views.{SitsAt, IsOf, seen_of};
 
 use crate::plays::{Filling, Measuring, Placing, Telling};
 use crate::rule::{Law, TableSeat, Words};
-use crate::used::words_of_either;
+use crate::used::words_over;
 use bw_model::Limits;
 use deltas::Record;
-use record_slots::ROW_WORDS;
 use std::marker::Brand;
 use tree_words::row_place;
 
@@ -30,12 +28,12 @@ pub fn place_row<P: Law>(
     actor: u8,
     row: u32,
     content: &Record,
-    spelt: &[u64; ROW_WORDS],
+    spelt: &[u64],
 )
     requires law { KeepsRowsApart limits.now (P.law limits.now) }
     requires table { IsOf limits.now words.now.key words.now.table_id seat.old.table_id }
     requires range { row < limits.now.rows }
-    requires spelt { IsSpelling content.now spelt.now }
+    requires spelt { IsStored limits.now content.now spelt.now }
     requires seat { SitsAt limits.now actor Idle seat.old.me }
     requires owned { KnowsPlaceable (knows (seen_of seat.old.me) actor) row }
     requires may { IsLawfulStep P.law limits.now actor (seen_of seat.old.me) None (Place row content.now) None }
@@ -80,22 +78,22 @@ fn fill_row<P: Law>(
     row: u32,
     first: u64,
     content: &Record,
-    spelt: &[u64; ROW_WORDS],
+    spelt: &[u64],
 )
     requires law { KeepsRowsApart limits.now (P.law limits.now) }
     requires table { IsOf limits.now words.now.key words.now.table_id seat.old.table_id }
     requires range { row < limits.now.rows }
-    requires spelt { IsSpelling content.now spelt.now }
+    requires spelt { IsStored limits.now content.now spelt.now }
     requires room { used_by first ≤ ROW_WORDS }
     requires seat { SitsAt limits.now actor (Writing row first []) seat.old.me }
     requires owned { KnowsPlaceable (knows (seen_of seat.old.me) actor) row }
     ensures same { seat.new.table_id ≡ seat.old.table_id }
-    ensures seat { SitsAt limits.now actor (Writing row first (written_over first spelt.now)) seat.new.me }
+    ensures seat { SitsAt limits.now actor (Writing row first (written_over limits.now first spelt.now)) seat.new.me }
     ensures seen { seen_of seat.new.me ≡ seen_of seat.old.me }
 {
     let _ = content;
     let base = row_place(row);
-    let behind = words_of_either(first, spelt[0]) - 1;
+    let behind = words_over(limits, first, spelt);
     let mut i = 0;
     while i < behind {
         words.store::<Filling>(seat, base + i + 1, spelt[i + 1]);
@@ -112,15 +110,15 @@ fn place_header<P: Law, C: Telling>(
     row: u32,
     first: u64,
     content: &Record,
-    spelt: &[u64; ROW_WORDS],
+    spelt: &[u64],
 )
     requires told { Place row content.now ≡ C.step }
     requires law { KeepsRowsApart limits.now (P.law limits.now) }
     requires table { IsOf limits.now words.now.key words.now.table_id seat.old.table_id }
     requires range { row < limits.now.rows }
-    requires spelt { IsSpelling content.now spelt.now }
+    requires spelt { IsStored limits.now content.now spelt.now }
     requires room { used_by first ≤ ROW_WORDS }
-    requires seat { SitsAt limits.now actor (Writing row first (written_over first spelt.now)) seat.old.me }
+    requires seat { SitsAt limits.now actor (Writing row first (written_over limits.now first spelt.now)) seat.old.me }
     requires owned { KnowsPlaceable (knows (seen_of seat.old.me) actor) row }
     requires may { IsLawfulStep P.law limits.now actor (seen_of seat.old.me) None (Place row content.now) None }
     ensures same { seat.new.table_id ≡ seat.old.table_id }

@@ -1,14 +1,14 @@
 //! Records that are read where they lie: the step is the load of the first word, and each word of a record that was read is looked at
 //! by one more load.
-ghost use Rattle.std.specs.Prelude.{◌≡◌, ◌<◌, None, slice_index};
+ghost use Rattle.std.specs.Prelude.{◌≡◌, ◌<◌, None, Some, slice_index};
 ghost use Rattle.bw_model.specs.declared.step.Step.TheVariants.{Row};
 ghost use Rattle.deltas.specs.declared.record.Record.{Record};
-ghost use Rattle.record_slots.specs.Spelling.{words_of};
 ghost use Rattle.record_slots.specs.declared.layout.TheConstants.{ROW_WORDS};
 ghost use Rattle.traces.specs.discipline.Knowledge.{knows};
 ghost use Rattle.table_rule.specs.declared.view.Reach.TheVariants.{Idle};
 ghost use Rattle.table_rule.specs.Running.{KeepsRowsApart, KnowsReadable};
 ghost use Rattle.table_rule.specs.Steps.{HasReadRecord, IsLawfulStep, ReadsFirst};
+ghost use Rattle.tree_words.specs.Words.{stored, used_in};
 ghost use Rattle.table_rule.specs.Views.{SitsAt, IsOf, seen_of};
 
 use crate::plays::{Looking, Reading};
@@ -56,7 +56,8 @@ pub fn look_at<P: Law>(
     requires seat { SitsAt limits.now actor Idle seat.old.me }
     requires known { KnowsReadable (knows (seen_of seat.old.me) actor) row }
     ensures same { seat.new ≡ seat.old }
-    ensures found { (content : Record) → HasReadRecord (knows (seen_of seat.old.me) actor) row content → result ≡ slice_index (words_of content) at }
+    ensures found { (content : Record) → HasReadRecord (knows (seen_of seat.old.me) actor) row content → at < used_in limits.now (Some content)
+        → result ≡ slice_index (stored limits.now content) at }
 {
     let _ = limits;
     let _ = actor;

@@ -15,15 +15,15 @@ store-requires g c =
       c.requires.table.same,
       omega (arith, c.requires.range, wide, base),
       places_at g.P.Law.law _ c.args.limits.now c.requires.table.own c.requires.law _ _ c.args.actor _ c.args.row c.args.first
-          (written_over c.args.first c.args.spelt.now) _ (seen_of c.args.seat.now.me) refl c.requires.range c.requires.seat c.requires.owned
+          (written_over c.args.limits.now c.args.first c.args.spelt.now) _ (seen_of c.args.seat.now.me) refl c.requires.range c.requires.seat c.requires.owned
           _ c.args.content.now g.C.Telling.step (omega (arith, base)) c.requires.told
-          (enough_written c.args.first c.args.content.now c.args.spelt.now c.told-spelt c.requires.room c.requires.spelt) c.requires.may,
+          (enough_written c.args.limits.now c.args.first c.args.content.now c.args.spelt.now c.requires.room c.requires.spelt) c.requires.may,
     )
 
 pub returns-clause-seat : goal.returns-clause-seat
-returns-clause-seat g c = (c.store.ensures.2 c.args.limits.now c.args.actor c.args.row c.args.first (written_over c.args.first c.args.spelt.now) c.requires.seat).0
+returns-clause-seat g c = (c.store.ensures.2 c.args.limits.now c.args.actor c.args.row c.args.first (written_over c.args.limits.now c.args.first c.args.spelt.now) c.requires.seat).0
 
 pub returns-clause-took : goal.returns-clause-took
 returns-clause-took g c =
     subst (λ (step : StepOf Record). Took g.P.Law.law c.args.limits.now c.args.actor (seen_of c.args.seat.now.me) None step Done None (seen_of c.store.new.seat.me)) (sym c.requires.told)
-    (c.store.ensures.2 c.args.limits.now c.args.actor c.args.row c.args.first (written_over c.args.first c.args.spelt.now) c.requires.seat).1
+    (c.store.ensures.2 c.args.limits.now c.args.actor c.args.row c.args.first (written_over c.args.limits.now c.args.first c.args.spelt.now) c.requires.seat).1
