@@ -22,4 +22,4 @@ pub use layout::{COMPACT_FORM, MOST_WORDS, SECOND_UNIT};
 pub use read::from_compact;
 pub use seen::seen_in;
 pub use spread::{CompactRows, Spread, look_spread};
-pub use write::to_compact;
+pub use write::{compact_of, to_compact};

@@ -9,6 +9,7 @@ ghost use Rattle.compact_rows.specs.Spelling.{bound_length, bound_text, codes, c
 ghost use Rattle.compact_rows.specs.Spells.{IsCompact};
 
 use crate::CompactRow;
+use crate::laws::records_have_room;
 use crate::layout::{
     COMPACT_FORM, CONTENT_UNIT, FIRST_UNIT, LENGTH_UNIT, MARK_UNIT, NEXT_UNIT, SECOND_UNIT,
 };
@@ -26,6 +27,79 @@ pub fn to_compact(content: &Record) -> CompactRow
     let mut row = CompactRow::new();
     write_compact(&mut row, content);
     row
+}
+
+/// The compact words of a record that a row can spell.
+pub fn compact_of(content: &Record) -> CompactRow
+    requires { IsSpellable content.now }
+    ensures { IsCompact content.now result }
+{
+    texts_are_short(content);
+    records_have_room();
+    to_compact(content)
+}
+
+/// Shows that its texts are short, by their types.
+fn texts_are_short(content: &Record)
+    ensures { HasShortTexts content.now }
+{
+    match content {
+        Record::Base(page) => {
+            key_is_short(page.low());
+            bound_is_short(page.high());
+            items_are_short(page.items().as_slice());
+        }
+        Record::Put(put) => {
+            key_is_short(&put.key);
+            value_bytes(&put.value);
+        }
+        Record::Delete(delete) => key_is_short(&delete.key),
+        Record::Split(split) => key_is_short(&split.separator),
+        Record::Term(term) => key_is_short(&term.separator),
+        Record::Hold(hold) => key_is_short(&hold.separator),
+        Record::Remove(_) => {}
+        Record::Merge(merge) => {
+            key_is_short(&merge.low);
+            bound_is_short(merge.high.as_ref());
+            items_are_short(merge.items.as_slice());
+        }
+        Record::Unterm(unterm) => key_is_short(&unterm.separator),
+    }
+}
+
+fn key_is_short(key: &Key)
+    ensures { IsShort key.now }
+{
+    key_bytes(key);
+}
+
+fn bound_is_short(bound: Option<&Key>)
+    ensures { IfSome (option_copied bound.entry) IsShort }
+{
+    match bound {
+        None => {}
+        Some(key) => key_is_short(key),
+    }
+}
+
+fn items_are_short(items: &[Item])
+    ensures { All IsShortItem items.now }
+{
+    for item in items {
+        item_is_short(item);
+    }
+}
+
+fn item_is_short(item: &Item)
+    ensures { IsShortItem item.now }
+{
+    key_is_short(&item.key);
+    match &item.content {
+        Content::Value(value) => {
+            value_bytes(value);
+        }
+        Content::Child { .. } => {}
+    }
 }
 
 /// Writes the compact words of the record into a row in which nothing was written yet.

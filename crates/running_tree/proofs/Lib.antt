@@ -1,4 +1,5 @@
 pub mod Advancing
+mod Agreeing
 mod Alone
 mod Ascending
 pub mod Begun

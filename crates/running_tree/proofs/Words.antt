@@ -35,7 +35,8 @@ pub use Rattle.record_slots.specs.Layout.{row_size}
 pub use Rattle.record_slots.specs.Spelling.{words_of}
 pub use Rattle.round_model.specs.Machines.{AreThere}
 pub use Rattle.table_rule.specs.Running.{Running, Each, ExtendsFor}
-pub use Rattle.table_rule.specs.Steps.{IsLawfulStep, Took, ReadsFirst}
+pub use Rattle.table_rule.specs.Steps.{IsLawfulStep, Took}
+pub use Rattle.running_tree.specs.Told.{ReadsFirst}
 pub use Rattle.table_rule.specs.Views.{Mine, alone, dealt, dealt_from, first_part, other_parts, with_run, seen_of, HasPart, IsRefreshed, SitsAt, part, IsOf}
 pub use Rattle.table_rule.specs.declared.view.Part.{Part}
 pub use Rattle.table_rule.specs.declared.view.Reach.TheVariants.{Idle, Noted}

@@ -1,11 +1,15 @@
 //! The words of a closed table, as the slots and rows of a memory.
-ghost use Rattle.std.specs.Prelude.{◌≡◌, ◌<◌, ℕ, length, slice_index};
+ghost use Rattle.std.specs.Prelude.{◌≡◌, ◌<◌, ℕ, Some, true, false, length, slice_index};
+ghost use Rattle.deltas.specs.Memory.{Memory};
+ghost use Rattle.deltas.specs.declared.record.Record.{Record as RecordSeen};
+ghost use Rattle.compact_rows.specs.Seen.{seen};
 ghost use Rattle.record_slots.specs.Layout.{last_at, row_size};
-ghost use Rattle.running_tree.specs.Closed.{AreFilled};
+ghost use Rattle.running_tree.specs.Closed.{AreFilled, KeepMemory};
 ghost use Rattle.tree_words.specs.Layout.{row_at};
 
 use atomic_table::Closed;
 use bw_model::Limits;
+use compact_rows::seen_in;
 use deltas::{Record, RecordRows};
 use record_slots::{ROW_WORDS, read_words, rows_have_words, spelling_is_one};
 use std::alloc::Allocator;
@@ -30,13 +34,54 @@ impl<'a, A: Allocator> RecordRows for ClosedRows<'a, A> {
     }
 
     fn record(&self, row: u32) -> Record {
-        rows_have_words();
-        spelling_is_one();
-        match read_words(&row_of(self.closed, row)) {
-            Ok(record) => record,
-            Err(_) => unreachable!(),
+        if self.limits.is_large {
+            compact_record(self, row)
+        } else {
+            spelt_record(self, row)
         }
     }
+}
+
+/// The record of a row of a small tree.
+fn spelt_record<A: Allocator>(rows: &ClosedRows<A>, row: u32) -> Record
+    requires stands { (memory : Memory) × (content : RecordSeen) × (AreFilled rows.now.closed.now.words.filled rows.now.closed.now.words.len × KeepMemory rows.now.limits.now rows.now.closed.now.words.items memory) × (memory.rows row ≡ Some content) }
+    requires small { rows.now.limits.now.is_large ≡ false }
+    ensures { (memory : Memory) → AreFilled rows.now.closed.now.words.filled rows.now.closed.now.words.len × KeepMemory rows.now.limits.now rows.now.closed.now.words.items memory
+        → memory.rows row ≡ Some result }
+{
+    rows_have_words();
+    spelling_is_one();
+    match read_words(&row_of(rows.closed, row)) {
+        Ok(record) => record,
+        Err(_) => unreachable!(),
+    }
+}
+
+/// The record of a row of a large tree.
+fn compact_record<A: Allocator>(rows: &ClosedRows<A>, row: u32) -> Record
+    requires stands { (memory : Memory) × (content : RecordSeen) × (AreFilled rows.now.closed.now.words.filled rows.now.closed.now.words.len × KeepMemory rows.now.limits.now rows.now.closed.now.words.items memory) × (memory.rows row ≡ Some content) }
+    requires large { rows.now.limits.now.is_large ≡ true }
+    ensures { (memory : Memory) → AreFilled rows.now.closed.now.words.filled rows.now.closed.now.words.len × KeepMemory rows.now.limits.now rows.now.closed.now.words.items memory
+        → memory.rows row ≡ Some result }
+{
+    rows_have_words();
+    spelling_is_one();
+    match read_words(&spread(&row_of(rows.closed, row))) {
+        Ok(record) => record,
+        Err(_) => unreachable!(),
+    }
+}
+
+/// The words of the spelling of the record that begins with these words.
+fn spread(words: &[u64; ROW_WORDS]) -> [u64; ROW_WORDS]
+    ensures long { length result ≡ row_size }
+    ensures words { (at : ℕ) → at < row_size → slice_index result at ≡ seen words.now at }
+{
+    let mut row = [0; ROW_WORDS];
+    for at in 0..ROW_WORDS {
+        row[at] = seen_in(words, at);
+    }
+    row
 }
 
 /// The words of a row.

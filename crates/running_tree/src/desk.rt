@@ -1,11 +1,15 @@
 //! The rows of a running tree, and who looks at them.
-ghost use Rattle.std.specs.Prelude.{◌≡◌, ◌<◌, slice_index};
+ghost use Rattle.std.specs.Prelude.{◌≡◌, ◌<◌, Some, true, slice_index};
 ghost use Rattle.deltas.specs.declared.record.Record.{Record};
 ghost use Rattle.record_slots.specs.Spelling.{words_of};
+ghost use Rattle.record_slots.specs.Spells.{HasSpelling};
 ghost use Rattle.record_slots.specs.declared.layout.TheConstants.{ROW_WORDS};
+ghost use Rattle.tree_words.specs.Words.{stored, used_in};
+ghost use Rattle.running_tree.specs.Stands.{Stands};
 
 use crate::lawful_runs::runs_keep_rows_apart;
 use crate::tree::Tree;
+use compact_rows::{CompactRows, look_spread, records_have_room};
 use row_search::Rows;
 use std::alloc::Allocator;
 use table_rule::{TableSeat, look_at};
@@ -26,17 +30,69 @@ impl<A: Allocator> Rows for Tree<A> {
 
     ghost has = { λ tree desk row content. Stands tree.limits tree.table desk.place.table_id desk.number desk.place.me row content };
 
-    /// One load, which is no step: what the seat's actor has read stays until it leaves.
+    /// Loads, which are no steps: what the seat's actor has read stays until it leaves. In a small tree it is one.
     #[inline]
     fn look(&self, pass: &mut Desk, row: u32, at: usize) -> u64 {
-        runs_keep_rows_apart();
-        look_at(
-            &self.table.shared,
-            &mut pass.place,
-            &self.limits,
-            pass.number,
-            row,
-            at,
-        )
+        if self.limits.is_large {
+            return look_compact(self, pass, row, at);
+        }
+        look_word(self, pass, row, at)
     }
+}
+
+impl<A: Allocator> CompactRows for Tree<A> {
+    ghost use Rattle.std.specs.Prelude.{◌≡◌, true};
+    ghost use Rattle.record_slots.specs.Spells.{HasSpelling};
+    ghost use Rattle.running_tree.specs.Stands.{Stands, read_by};
+
+    type Pass = Desk;
+
+    ghost content = { λ desk row. read_by desk.place.me desk.number row };
+
+    ghost has = { λ tree desk row content. Stands tree.limits tree.table desk.place.table_id desk.number desk.place.me row content × HasSpelling content × (tree.limits.is_large ≡ true) };
+
+    #[inline]
+    fn look(&self, pass: &mut Desk, row: u32, at: usize) -> u64 {
+        records_have_room();
+        look_word(self, pass, row, at)
+    }
+
+    fn keeps_spelling(&self, pass: &Desk) {
+        let _ = pass;
+        records_have_room();
+    }
+}
+
+/// A word that a record has in its row, by one load.
+#[inline]
+fn look_word<A: Allocator>(tree: &Tree<A>, desk: &mut Desk, row: u32, at: usize) -> u64
+    requires has { (content : Record) × Stands tree.now.limits tree.now.table desk.old.place.table_id desk.old.number desk.old.place.me row content }
+    requires within { at < ROW_WORDS }
+    ensures same { desk.new ≡ desk.old }
+    ensures word { (content : Record) → Stands tree.now.limits tree.now.table desk.old.place.table_id desk.old.number desk.old.place.me row content
+        → at < used_in tree.now.limits (Some content) → result ≡ slice_index (stored tree.now.limits content) at }
+    ensures spelt { (content : Record) → Stands tree.now.limits tree.now.table desk.old.place.table_id desk.old.number desk.old.place.me row content → HasSpelling content }
+{
+    runs_keep_rows_apart();
+    look_at(
+        &tree.table.shared,
+        &mut desk.place,
+        &tree.limits,
+        desk.number,
+        row,
+        at,
+    )
+}
+
+/// A word of the spelling of a record of a large tree.
+fn look_compact<A: Allocator>(tree: &Tree<A>, desk: &mut Desk, row: u32, at: usize) -> u64
+    requires has { (content : Record) × Stands tree.now.limits tree.now.table desk.old.place.table_id desk.old.number desk.old.place.me row content }
+    requires within { at < ROW_WORDS }
+    requires large { tree.now.limits.is_large ≡ true }
+    ensures same { desk.new ≡ desk.old }
+    ensures word { (content : Record) → Stands tree.now.limits tree.now.table desk.old.place.table_id desk.old.number desk.old.place.me row content
+        → result ≡ slice_index (words_of content) at }
+{
+    look_word(tree, desk, row, 0);
+    look_spread(tree, desk, row, at)
 }

@@ -1,5 +1,9 @@
 //! One step on the words of the tree.
-ghost use Rattle.std.specs.Prelude.{◌≡◌, ◌≢◌, ◌<◌, None, Some};
+ghost use Rattle.std.specs.Prelude.{◌≡◌, ◌≢◌, ◌<◌, None, Some, true, false, slice_index};
+ghost use Rattle.deltas.specs.declared.record.Record.{Record as RecordSeen};
+ghost use Rattle.record_slots.specs.Spelling.{words_of};
+ghost use Rattle.record_slots.specs.Spells.{HasSpelling};
+ghost use Rattle.tree_words.specs.Words.{stored};
 ghost use Rattle.bw_model.specs.Lent.{step_of_loan};
 ghost use Rattle.bw_model.specs.declared.step.Answer.TheVariants as Answer;
 ghost use Rattle.bw_model.specs.declared.step.Step.TheVariants.{Leave};
@@ -16,7 +20,8 @@ ghost use Rattle.table_rule.specs.Views.{SitsAt, IsOf, seen_of};
 use crate::lawful_runs::{TreeWords, runs_keep_rows_apart};
 use bw_model::{Limits, Reply, Step, Told};
 use deltas::Record;
-use record_slots::{WrittenRow, write_record};
+use compact_rows::{compact_of, records_have_room, words_are_seen};
+use record_slots::{FORM, FORM_UNIT, WrittenRow, write_record};
 use table_rule::{TableSeat, act, place_row, read_first};
 
 /// What a step answers.
@@ -54,7 +59,7 @@ pub(crate) fn take(
         Step::Row(row) => {
             runs_keep_rows_apart();
             let first = read_first(words, place, limits, number, *row);
-            Taken::First(*row, first)
+            Taken::First(*row, spelt_first(limits, first))
         }
         Step::Place(row, record) => {
             place_record(words, place, limits, number, *row, record);
@@ -91,8 +96,20 @@ pub(crate) fn take_leave(
     );
 }
 
-/// Places a record into a row. Not inlined: no other step needs room for its words.
-#[inline(never)]
+/// The first word of a record's spelling, by the one that it has in its row.
+fn spelt_first(limits: &Limits, first: u64) -> u64
+    ensures { (content : RecordSeen) → HasSpelling content → first ≡ slice_index (stored limits.now content) 0 → result ≡ slice_index (words_of content) 0 }
+{
+    words_are_seen();
+    records_have_room();
+    if limits.is_large {
+        first % FORM_UNIT + FORM_UNIT * FORM
+    } else {
+        first
+    }
+}
+
+/// Places a record into a row.
 fn place_record(
     words: &TreeWords,
     place: &mut TableSeat,
@@ -111,8 +128,70 @@ fn place_record(
     ensures seat { SitsAt limits.now number Idle place.new.me }
     ensures took { Took IsLawfulRun limits.now number (seen_of place.old.me) None (Step.Place row content.now) Answer.Done None (seen_of place.new.me) }
 {
+    if limits.is_large {
+        place_compact(words, place, limits, number, row, content);
+    } else {
+        place_spelt(words, place, limits, number, row, content);
+    }
+}
+
+/// The same in a large tree. Not inlined: no other step needs room for its words.
+#[inline(never)]
+fn place_compact(
+    words: &TreeWords,
+    place: &mut TableSeat,
+    limits: &Limits,
+    number: u8,
+    row: u32,
+    content: &Record,
+)
+    requires large { limits.now.is_large ≡ true }
+    requires table { IsOf limits.now words.now.key words.now.table_id place.old.table_id }
+    requires there { number < limits.now.actors }
+    requires within { IsWithin limits.now (Step.Place row content.now) }
+    requires seat { SitsAt limits.now number Idle place.old.me }
+    requires known { May number (knows (seen_of place.old.me) number) (Step.Place row content.now) }
+    requires may { IsLawfulStep IsLawfulRun limits.now number (seen_of place.old.me) None (Step.Place row content.now) None }
+    ensures same { place.new.table_id ≡ place.old.table_id }
+    ensures seat { SitsAt limits.now number Idle place.new.me }
+    ensures took { Took IsLawfulRun limits.now number (seen_of place.old.me) None (Step.Place row content.now) Answer.Done None (seen_of place.new.me) }
+{
+    runs_keep_rows_apart();
+    let spelt = compact_of(content);
+    place_row(words, place, limits, number, row, content, spelt.words());
+}
+
+/// The same in a small tree. Not inlined: no other step needs room for its words.
+#[inline(never)]
+fn place_spelt(
+    words: &TreeWords,
+    place: &mut TableSeat,
+    limits: &Limits,
+    number: u8,
+    row: u32,
+    content: &Record,
+)
+    requires small { limits.now.is_large ≡ false }
+    requires table { IsOf limits.now words.now.key words.now.table_id place.old.table_id }
+    requires there { number < limits.now.actors }
+    requires within { IsWithin limits.now (Step.Place row content.now) }
+    requires seat { SitsAt limits.now number Idle place.old.me }
+    requires known { May number (knows (seen_of place.old.me) number) (Step.Place row content.now) }
+    requires may { IsLawfulStep IsLawfulRun limits.now number (seen_of place.old.me) None (Step.Place row content.now) None }
+    ensures same { place.new.table_id ≡ place.old.table_id }
+    ensures seat { SitsAt limits.now number Idle place.new.me }
+    ensures took { Took IsLawfulRun limits.now number (seen_of place.old.me) None (Step.Place row content.now) Answer.Done None (seen_of place.new.me) }
+{
     runs_keep_rows_apart();
     let mut spelt = WrittenRow::new();
     write_record(&mut spelt, content);
-    place_row(words, place, limits, number, row, content, spelt.words());
+    place_row(
+        words,
+        place,
+        limits,
+        number,
+        row,
+        content,
+        &spelt.words()[..],
+    );
 }

@@ -88,6 +88,13 @@ module _ (limits : Limits) (law : Limits → List Entry → Type 0) (apart : Kee
                 word_is s h actor row place (may_now s h there) within small used'
                 ∙ ap (λ o. get_or (words_in limits o) place 0) stands
                 ∙ (λ k. get_or (stored (tree k) content) (place_same k) 0),
+            λ limits' actor' row' place' content is' small' has word.
+                let who : actor ≡ actor' = same_actor limits limits' actor actor' Idle Idle me is is' in
+                let row_same : row ≡ row' = omega arith in
+                let seen : (knows h.run actor).read.seen row ≡ Some content = ap (λ k. k.read.seen row)
+                (knows_now limits law s h id actor (seen_of me) Idle tt there) ∙ ap (λ (z : ℕ × ℕ). (knows (seen_of me) z.0).read.seen z.1)
+                (λ k. (who k, row_same k)) ∙ has.seen in
+                (h.kept row content (apart.stands actor row content h.run h.legal seen)).spelling,
           ),
         )
 

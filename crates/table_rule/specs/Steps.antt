@@ -88,12 +88,14 @@ Watches law made me found me' =
     (limits : Limits) (actor : ℕ) (step : StepOf Record) → SitsAt limits actor Idle me → actor < 16 → HasWord limits step → operation_of step ≡ Load → made.word ≡ changed_word limits actor step
     → SitsAt limits actor Idle me' × Watched law limits actor (seen_of me) step found (seen_of me')
 
--- A word of a row whose record was read is looked at, and the seat is as it was. It is a word of the record, if the record has so many. No step
--- is taken.
+-- A word of a row whose record was read is looked at, and the seat is as it was. It is a word of the record, if the record has so many; and
+-- words can spell the record. No step is taken.
 abbrev pub Looks : Made (Unit {0}) → Mine → ℕ → Mine → Type 0
 Looks made me found me' =
     (me' ≡ me) × ((limits : Limits) (actor row place : ℕ) (content : Record) → SitsAt limits actor Idle me → place < row_size → place < used_in limits (Some content)
     → HasReadRecord (knows (seen_of me) actor) row content → made.word ≡ row_at row place → found ≡ slice_index (stored limits content) place)
+    × ((limits : Limits) (actor row place : ℕ) (content : Record) → SitsAt limits actor Idle me → place < row_size → HasReadRecord (knows (seen_of me) actor) row content
+    → made.word ≡ row_at row place → HasSpelling content)
 
 -- how many words a record uses, by its first word; and how many the one or the other of two uses
 abbrev pub used_by : ℕ → ℕ

@@ -8,6 +8,7 @@ ghost use Rattle.traces.specs.discipline.Knowledge.{knows};
 ghost use Rattle.table_rule.specs.declared.view.Reach.TheVariants.{Idle};
 ghost use Rattle.table_rule.specs.Running.{KeepsRowsApart, KnowsReadable};
 ghost use Rattle.table_rule.specs.Steps.{HasReadRecord, IsLawfulStep, ReadsFirst};
+ghost use Rattle.record_slots.specs.Spells.{HasSpelling};
 ghost use Rattle.tree_words.specs.Words.{stored, used_in};
 ghost use Rattle.table_rule.specs.Views.{SitsAt, IsOf, seen_of};
 
@@ -58,6 +59,7 @@ pub fn look_at<P: Law>(
     ensures same { seat.new ≡ seat.old }
     ensures found { (content : Record) → HasReadRecord (knows (seen_of seat.old.me) actor) row content → at < used_in limits.now (Some content)
         → result ≡ slice_index (stored limits.now content) at }
+    ensures spelt { (content : Record) → HasReadRecord (knows (seen_of seat.old.me) actor) row content → HasSpelling content }
 {
     let _ = limits;
     let _ = actor;

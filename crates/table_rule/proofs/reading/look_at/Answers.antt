@@ -17,6 +17,11 @@ returns-clause-found g c content has used =
     let base = c.row_place.ensures in
     c.load.ensures.2.1 c.args.limits.now c.args.actor c.args.row c.args.at content c.requires.seat c.requires.word used has (omega (arith, base))
 
+pub returns-clause-spelt : goal.returns-clause-spelt
+returns-clause-spelt g c content has =
+    let base = c.row_place.ensures in
+    c.load.ensures.2.2 c.args.limits.now c.args.actor c.args.row c.args.at content c.requires.seat c.requires.word has (omega (arith, base))
+
 -- A seat is its table, its number, and what it knows.
 pub returns-clause-same : goal.returns-clause-same
 returns-clause-same g c =
