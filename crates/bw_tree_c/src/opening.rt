@@ -1,5 +1,5 @@
 //! A tree is opened.
-ghost use Rattle.std.specs.Prelude.{◌≡◌, ◌↔◌, IfSome, IsSome, IsTrue};
+ghost use Rattle.std.specs.Prelude.{◌≡◌, ◌⊎◌, ◌↔◌, IfSome, IsSome, IsTrue};
 ghost use Rattle.std.specs.Arc.{arc_value};
 ghost use Rattle.tree_limits.specs.Room.{AreProposed, AreProposedLarge};
 ghost use Rattle.running_tree.specs.Trees.{AreSeatsOf};
@@ -59,6 +59,7 @@ pub extern "C" fn bwtree_raw_limits_for_many_keys(
 #[unsafe(no_mangle)]
 pub extern "C" fn bwtree_raw_open(alloc: Global, limits: &TreeLimits, tree: &mut TreeHandle) -> u32
     ensures bad { (result ≡ BAD_LIMITS) ↔ (AreOpenable limits.now → ⊥) }
+    ensures told { (result ≡ OK) ⊎ (result ≡ BAD_LIMITS) ⊎ (result ≡ OPEN) ⊎ (result ≡ NO_MEMORY) }
     ensures ok { result ≡ OK → HasOpened limits.now tree.new.kept.value }
     ensures open { result ≡ OPEN → IsSome tree.old.kept.value }
     ensures same { (result ≡ OK → ⊥) → tree.new ≡ tree.old }

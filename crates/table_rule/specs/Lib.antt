@@ -3,3 +3,4 @@ pub mod Views
 pub mod Steps
 pub mod Closing
 pub mod Longest
+pub mod Growing

@@ -25,7 +25,10 @@ mod watching;
 
 pub use placing::place_row;
 pub use reading::{look_at, read_first};
-pub use rule::{Law, Rule, TableSeat, Words, closing_spells, longest_is_seen, opening_keeps};
+pub use rule::{
+    Law, Rule, TableSeat, Words, closing_spells, history_grows, keeps_real_time, longest_is_seen,
+    opening_keeps,
+};
 pub use seats::{blank, cut, join, note, refresh};
 pub use steps::act;
 pub use view::{Part, Reach, View};
