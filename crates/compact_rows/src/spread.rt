@@ -102,13 +102,7 @@ fn header_seen(first: u64, at: usize) -> u64
 }
 
 /// A word of the two keys, or of the PID before them.
-fn keys_look<R: CompactRows>(
-    rows: &R,
-    pass: &mut R::Pass,
-    row: u32,
-    first: u64,
-    at: usize,
-) -> u64
+fn keys_look<R: CompactRows>(rows: &R, pass: &mut R::Pass, row: u32, first: u64, at: usize) -> u64
     requires has { (content : Record) × R.has rows.now pass.old row content }
     requires spelt { (content : Record) → R.has rows.now pass.old row content → IsCompact content (compact_words content) }
     requires first { (content : Record) → R.has rows.now pass.old row content → first ≡ slice_index (compact_words content) 0 }
@@ -208,7 +202,7 @@ fn item_look<R: CompactRows>(
     ensures same { pass.new ≡ pass.old }
     ensures word { (content : Record) → R.has rows.now pass.old row content
         → result ≡ item_seen (compact_words content) (level_seen (compact_words content)) (slice_index (compact_words content) (2 + item))
-            (slice_index (compact_words content) (2 + count_seen (compact_words content) + item)) place }
+        (slice_index (compact_words content) (2 + count_seen (compact_words content) + item)) place }
 {
     if place == 1 {
         return rows.look(pass, row, 2 + item);
@@ -220,7 +214,14 @@ fn item_look<R: CompactRows>(
     if place == 9 {
         return code / CONTENT_UNIT;
     }
-    rest_look(rows, pass, row, first / LEVEL_UNIT % PART_LIMIT, code, place)
+    rest_look(
+        rows,
+        pass,
+        row,
+        first / LEVEL_UNIT % PART_LIMIT,
+        code,
+        place,
+    )
 }
 
 /// A word of an item's text, by the item's word.

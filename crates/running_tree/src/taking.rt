@@ -19,8 +19,8 @@ ghost use Rattle.table_rule.specs.Views.{SitsAt, IsOf, seen_of};
 
 use crate::lawful_runs::{TreeWords, runs_keep_rows_apart};
 use bw_model::{Limits, Reply, Step, Told};
-use deltas::Record;
 use compact_rows::{compact_of, records_have_room, words_are_seen};
+use deltas::Record;
 use record_slots::{FORM, FORM_UNIT, WrittenRow, write_record};
 use table_rule::{TableSeat, act, place_row, read_first};
 

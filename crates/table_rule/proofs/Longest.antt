@@ -139,7 +139,7 @@ history_grows limits law s t now later on =
     let has : HasSeen t.views found.part.actor next.0 = next.1 in
     let fit : PartFits limits t.words later.run has.part = each_get (PartFits limits t.words later.run) has.view has.place has.part (later.each has.id has.view has.at) has.there in
     starts_on now.run next.0 later.run next.2
-        (subst (StartsWith later.run) has.saw (starts has.part.reach has.part.actor has.part.seen later.run fit.extends))
+    (subst (StartsWith later.run) has.saw (starts has.part.reach has.part.actor has.part.seen later.run fit.extends))
 
 -- what a part has seen begins the longest run
 begun_by : (limits : Limits) (law : List Entry → Type 0) (s : State (Unit {0}) (List Part)) (now : Running limits law s) (actor : ℕ) (seen : List Entry)

@@ -11,6 +11,8 @@ look-code-requires g c =
 pub rest_look-requires-clause-has : goal.rest_look-requires-clause-has
 rest_look-requires-clause-has g c =
     let a = c.requires.has.0 in
-    let h = c.requires.has.1 in
-    (a, subst (λ p. g.R.CompactRows.has c.args.rows.now p c.args.row a) (sym c.look-code.ensures.same) h,
-    text_room a (c.requires.spelt a h) c.args.count c.args.item (c.requires.counts a h) c.requires.there c.args.first c.look-code.result (c.requires.first a h) (c.look-code.ensures.word a h))
+    let h = c.requires.has.1 in (
+      a,
+      subst (λ p. g.R.CompactRows.has c.args.rows.now p c.args.row a) (sym c.look-code.ensures.same) h,
+      text_room a (c.requires.spelt a h) c.args.count c.args.item (c.requires.counts a h) c.requires.there c.args.first c.look-code.result (c.requires.first a h) (c.look-code.ensures.word a h),
+    )

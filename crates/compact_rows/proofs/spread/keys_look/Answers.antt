@@ -8,17 +8,21 @@ use Rattle.compact_rows.proofs.spread.keys_look.Goals as goal
 pub text_look-requires-clause-has : goal.text_look-requires-clause-has
 text_look-requires-clause-has g c =
     let a = c.requires.has.0 in
-    let h = c.requires.has.1 in
-    (a, subst (λ p. g.R.CompactRows.has c.args.rows.now p c.args.row a) (sym c.look-second.ensures.same) h,
-    first_room a (c.requires.spelt a h) c.args.first (c.requires.first a h) c.look-second.result c.words_for.result (c.look-second.ensures.word a h) c.words_for.ensures)
+    let h = c.requires.has.1 in (
+      a,
+      subst (λ p. g.R.CompactRows.has c.args.rows.now p c.args.row a) (sym c.look-second.ensures.same) h,
+      first_room a (c.requires.spelt a h) c.args.first (c.requires.first a h) c.look-second.result c.words_for.result (c.look-second.ensures.word a h) c.words_for.ensures,
+    )
 
 pub text_look-requires-2-clause-has : goal.text_look-requires-2-clause-has
 text_look-requires-2-clause-has g c =
     let a = c.requires.has.0 in
-    let h = c.requires.has.1 in
-    (a, subst (λ p. g.R.CompactRows.has c.args.rows.now p c.args.row a) (sym c.look-second.ensures.same) h,
-    second_room a (c.requires.spelt a h) c.args.first (c.requires.first a h) c.look-second.result c.words_for-2.result c.bound_size.result (c.look-second.ensures.word a h)
-    c.words_for-2.ensures c.bound_size.ensures)
+    let h = c.requires.has.1 in (
+      a,
+      subst (λ p. g.R.CompactRows.has c.args.rows.now p c.args.row a) (sym c.look-second.ensures.same) h,
+      second_room a (c.requires.spelt a h) c.args.first (c.requires.first a h) c.look-second.result c.words_for-2.result c.bound_size.result (c.look-second.ensures.word a h)
+          c.words_for-2.ensures c.bound_size.ensures,
+    )
 
 pub returns-then-at-lt12-clause-word : goal.returns-then-at-lt12-clause-word
 returns-then-at-lt12-clause-word g c content h =
