@@ -9,3 +9,4 @@ pub mod OwnKeys
 pub mod OneSeat
 pub mod ReadBack
 pub mod Told
+pub mod SpentSteps

@@ -1,4 +1,5 @@
 pub mod InOrder
 pub mod Fits
+pub mod Budgets
 pub mod OwnKeys
 pub mod Examples

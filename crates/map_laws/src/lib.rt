@@ -9,10 +9,12 @@
 //! run (`op_machine`, specs/theorem), and nothing of how a tree comes to that.
 #![tactic(auto)]
 
+mod budgets;
 mod call_laws;
 mod examples;
 mod key_laws;
 
+pub use budgets::lookups_are_done;
 pub use call_laws::{calls_are_operations, replies_fit, seats_replies_fit};
 pub use examples::{calls_stand_in_order, kinds_of_replies, own_replies_are_a_maps};
 pub use key_laws::{one_seat, own_keys, own_reads};

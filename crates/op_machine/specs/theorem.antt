@@ -14,7 +14,7 @@ pub mod Direct
 pub mod Progress
 pub mod Linearized
 pub mod Examples
-pub mod Unhindered
+pub mod UntilRemoval
 pub mod ReadersEnd
 pub mod Whole
 pub mod Updates

@@ -5,7 +5,7 @@ use Rattle.bw_model.specs.declared.step.Answer.TheVariants.{Content}
 use Rattle.bw_model.specs.declared.step.Step.TheVariants.{Row}
 use Rattle.deltas.specs.declared.record.Record.TheVariants as delta
 use Rattle.op_machine.specs.theorem.Direct.{IsCause, IsDirect, Meets}
-use Rattle.progress.specs.Readers.{ReadersReadAtOnce}
+use Rattle.op_machine.specs.theorem.UntilRemoval.{ReadersEndUntilRemoval}
 use Rattle.progress.proofs.Cleared.{was_removed}
 use Rattle.progress.proofs.Placed.{none_stands}
 
@@ -40,8 +40,8 @@ none_listed : (P : ℕ → Type 0) (places : List ℕ) → ((place : ℕ) → P 
 none_listed P [] never all = refl
 none_listed P (place ∷ places) never all = absurd (never place (All-head P place places all))
 
-pub reads_at_once : ReadersReadAtOnce
-reads_at_once limits entries run keeps direct = record {
+pub readers_end : (limits : Limits) (entries : List Entry) → IsRun limits entries → KeepsPhases limits entries → IsDirect limits entries → ReadersEndUntilRemoval limits entries
+readers_end limits entries run keeps direct = record {
   few = λ op n begun reader own none.
       let h = direct.few op n begun own in
       let empty : length h.0 ≡ 0 = none_listed (λ c. (c ≤ n) × IsCause limits entries op c) h.0 (λ c is. no_cause limits entries run keeps direct op begun n none reader c is.0 is.1) h.2 in

@@ -5,11 +5,12 @@ use Rattle.progress.proofs.Words.{Memory, not_true, Entry, Step, cause_worth, Is
 use Rattle.progress.proofs.Words.{TakesOwnStep, IsInPhase, KeepsPhases, owned, AreAmong, ChangesTree, PlacesNoRemoval, steps_from, takes_number}
 use Rattle.bw_model.specs.declared.step.Link.TheVariants as link
 use Rattle.bw_model.specs.declared.step.Step.TheVariants.{Exchange, Slot, TakePid, TakeRow}
-use Rattle.op_machine.specs.theorem.Unhindered.{Hinders, TakesBeside}
+use Rattle.op_machine.specs.theorem.Progress.{Hinders, TakesBeside}
 use Rattle.progress.proofs.Begun.{one_of}
 use Rattle.progress.proofs.Between.{take_of}
 use Rattle.progress.proofs.Counted.{Each}
-use Rattle.progress.proofs.Payers.{IsIn, Pays, all_distinct, more_paid, most_of, paid_by, pays_for}
+use Rattle.progress.proofs.Numbered.{IsIn}
+use Rattle.progress.proofs.Payers.{Pays, all_distinct, more_paid, most_of, paid_by, pays_for}
 use Rattle.progress.proofs.Settled.{cleared_none, owned_none}
 use Rattle.progress.proofs.Tallies.{Listed, one_at_most, passes, passes_in, tally, tally_either, tally_most}
 
@@ -155,8 +156,8 @@ module _ (limits : Limits) (entries : List Entry) where
     pub few_hinder : (cs : List ℕ) → IsStrictlyIncreasing cs → All (λ c. (c ≤ n) × IsCause limits entries op c) cs → length cs ≤ tally (hinder op.actor) op.start (suc n - op.start)
     few_hinder cs up all =
         let paid = paid_by limits entries run op (λ c. (c ≤ n) × IsCause limits entries op c) (pays_for limits entries run op keeps direct begun n none) cs (all_distinct cs up) all in
-        let pass = all_hinder cs paid.places (most_of limits entries run op keeps direct begun n none cs all) paid.each in
-        let most = tally_most (hinder op.actor) op.start (suc n - op.start) paid.places paid.distinct pass in
+        let pass = all_hinder cs paid.numbers (most_of limits entries run op keeps direct begun n none cs all) paid.each in
+        let most = tally_most (hinder op.actor) op.start (suc n - op.start) paid.numbers paid.distinct pass in
         rw paid.as_many at most
 
     -- what hinders pays

@@ -3,13 +3,13 @@ use Rattle.progress.proofs.Words.{◌≡◌, ◌<◌, ◌≤◌, ◌+◌, ◌-�
 use Rattle.progress.proofs.Words.{mul-le-mul_left, cases_lt, All-head, All-tail, All, Limits, Number, Whether, Entry, cause_worth, IsRun, IsCause, IsDirect, IsExchangeOf, IsTake, TakesNone}
 use Rattle.progress.proofs.Words.{IsOperation, IsOwnStep, Operation, TakesOwnStep, KeepsPhases, PlacesNoRemoval, steps_from}
 use Rattle.bw_model.specs.declared.step.Step.TheVariants.{Exchange, Slot}
-use Rattle.progress.specs.Unhindered.{RunsAreUnhindered}
+use Rattle.op_machine.specs.theorem.UntilRemoval.{OperationsEndUntilRemoval}
 use Rattle.progress.proofs.Between.{take_of}
 use Rattle.progress.proofs.Counted.{AreDistinct, Each, IsNotAmong}
 use Rattle.progress.proofs.Hindering.{among_hinder, hinder, paid_by_hinder, pays_hinder}
-use Rattle.progress.proofs.Payers.{IsIn, Pays, all_distinct, apart_from, by_order, pays_for, same_cause}
+use Rattle.progress.proofs.Numbered.{IsIn, numbered}
+use Rattle.progress.proofs.Payers.{MissesBefore, Pays, all_distinct, by_order, one_miss, pays_for, same_cause}
 use Rattle.progress.proofs.Settled.{cleared_none}
-use Rattle.progress.proofs.Spans.{is_take}
 use Rattle.progress.proofs.Tallies.{listed, tally, tally_most, tally_same, tally_split, tally_within}
 
 -- a test that passes at the first places, and goes on as another one after them
@@ -38,22 +38,13 @@ module _ (limits : Limits) (entries : List Entry) (run : IsRun limits entries) (
     pub took : TakesOwnStep entries op c (Exchange slot old new) (Whether false)
     pub calm : TakesNone limits entries op since c (IsExchangeOf slot)
 
-  -- its take missed what it had read as free before entry m
-  record MissesEarlier (c : ℕ) : Type 0 where
-    pub pids : Bool
-    pub number : ℕ
-    pub since : ℕ
-    pub low : since < m
-    pub took : TakesOwnStep entries op c (take_of pids number) (Whether false)
-    pub calm : TakesNone limits entries op since c IsTake
-
   -- an entry from m on pays for it
   abbrev PaysLater : ℕ → ℕ → Type 0
   PaysLater j c = (k : ℕ) × (m ≤ k) × (j ≡ suc limits.pids + (k - m)) × Pays limits entries run op k c
 
   -- Each cause from entry m on has a number: the slot, one more than all of these, or the entry that pays, after that.
   abbrev HasNumber : ℕ → ℕ → Type 0
-  HasNumber j c = (m ≤ c) × (c ≤ n) × (((j < limits.pids) × LosesEarlier j c) ⊎ ((j ≡ limits.pids) × MissesEarlier c) ⊎ PaysLater j c)
+  HasNumber j c = (m ≤ c) × (c ≤ n) × (((j < limits.pids) × LosesEarlier j c) ⊎ ((j ≡ limits.pids) × MissesBefore limits entries run op m c) ⊎ PaysLater j c)
 
   apart : (j k : ℕ) → j < limits.pids → j ≡ suc limits.pids + (k - m) → ⊥
   apart j k lt e = omega arith
@@ -68,9 +59,7 @@ module _ (limits : Limits) (entries : List Entry) (run : IsRun limits entries) (
   same_number j c d (low, high, inl p) (low', high', inr (inr q)) = absurd (apart j q.0 p.0 q.2)
   same_number j c d (low, high, inr (inl p)) (low', high', inl q) = absurd (let lt : j < limits.pids = q.0 in let e : j ≡ limits.pids = p.0 in omega arith)
   same_number j c d (low, high, inr (inr p)) (low', high', inl q) = absurd (apart j p.0 q.0 p.2)
-  same_number j c d (low, high, inr (inl p)) (low', high', inr (inl q)) =
-      by_order c d (λ lt. let l : q.1.since < m = q.1.low in q.1.calm c _ _ (omega arith) lt p.1.took (is_take p.1.pids p.1.number))
-      (λ lt. let l : p.1.since < m = p.1.low in p.1.calm d _ _ (omega arith) lt q.1.took (is_take q.1.pids q.1.number))
+  same_number j c d (low, high, inr (inl p)) (low', high', inr (inl q)) = one_miss limits entries run op m c d low low' p.1 q.1
   same_number j c d (low, high, inr (inl p)) (low', high', inr (inr q)) = absurd (beyond j q.0 p.0 q.2)
   same_number j c d (low, high, inr (inr p)) (low', high', inr (inl q)) = absurd (beyond j p.0 q.0 p.2)
   same_number j c d (low, high, inr (inr (k, le, e, p))) (low', high', inr (inr (i, le', e', q))) =
@@ -100,36 +89,6 @@ module _ (limits : Limits) (entries : List Entry) (run : IsRun limits entries) (
           let before : p.since < k = p.low in
           (limits.pids, (low, high, inr (inl (refl, record { pids = p.pids; number = p.number; since = p.since; low = omega arith; took = p.took; calm = p.none }))))
 
-  -- different causes have different numbers
-  record Numbered (cs : List ℕ) : Type 0 where
-    pub numbers : List ℕ
-    pub as_many : length numbers ≡ length cs
-    pub distinct : AreDistinct numbers
-    pub each : Each (λ j. (d : ℕ) × IsIn d cs × HasNumber j d) numbers
-
-  fresh : (c j : ℕ) (cs js : List ℕ) → IsNotAmong c cs → HasNumber j c → Each (λ i. (d : ℕ) × IsIn d cs × HasNumber i d) js → IsNotAmong j js
-  fresh c j cs [] other has each = tt
-  fresh c j cs (i ∷ is) other has each = (
-    λ same. apart_from c each.0.0 cs other each.0.1 (same_number j c each.0.0 has (subst (λ x. HasNumber x each.0.0) (sym same) each.0.2)),
-    fresh c j cs is other has each.1,
-  )
-
-  more : (c : ℕ) (cs js : List ℕ) → Each (λ j. (d : ℕ) × IsIn d cs × HasNumber j d) js → Each (λ j. (d : ℕ) × IsIn d (c ∷ cs) × HasNumber j d) js
-  more c cs [] each = tt
-  more c cs (j ∷ js) each = ((each.0.0, inr each.0.1, each.0.2), more c cs js each.1)
-
-  numbered : (cs : List ℕ) → AreDistinct cs → All (λ c. (m ≤ c) × (c ≤ n) × IsCause limits entries op c) cs → Numbered cs
-  numbered [] once all = record { numbers = []; as_many = refl; distinct = tt; each = tt }
-  numbered (c ∷ cs) once all =
-      let rest = numbered cs once.1 (All-tail (λ c. (m ≤ c) × (c ≤ n) × IsCause limits entries op c) c cs all) in
-      let has = number_of c (All-head (λ c. (m ≤ c) × (c ≤ n) × IsCause limits entries op c) c cs all) in
-      record {
-        numbers = has.0 ∷ rest.numbers;
-        as_many = ap suc rest.as_many;
-        distinct = (fresh c has.0 cs rest.numbers once.0 has.1 rest.each, rest.distinct);
-        each = ((c, inl refl, has.1), more c cs rest.numbers rest.each);
-      }
-
   -- whether a number is that of a slot or of free numbers, or of an entry that hinders
   abbrev counts : ℕ → Bool
   counts j = late (λ i. hinder limits entries op.actor (m + i)) (suc limits.pids) j
@@ -153,7 +112,7 @@ module _ (limits : Limits) (entries : List Entry) (run : IsRun limits entries) (
   few_since : m ≤ n → (cs : List ℕ) → AreDistinct cs → All (λ c. (m ≤ c) × (c ≤ n) × IsCause limits entries op c) cs
       → length cs ≤ suc limits.pids + tally (hinder limits entries op.actor) m (suc n - m)
   few_since le cs once all =
-      let has = numbered cs once all in
+      let has = numbered HasNumber same_number (λ c. (m ≤ c) × (c ≤ n) × IsCause limits entries op c) number_of cs once all in
       let most : length has.numbers ≤ tally counts 0 (suc limits.pids + (suc n - m)) = tally_most counts 0 (suc limits.pids + (suc n - m)) has.numbers
       has.distinct (all_pass cs has.numbers has.each) in
       let split : tally counts 0 (suc limits.pids + (suc n - m)) ≡ tally counts 0 (suc limits.pids) + tally counts (0 + suc limits.pids) (suc n - m) = tally_split
@@ -174,8 +133,8 @@ module _ (limits : Limits) (entries : List Entry) (run : IsRun limits entries) (
       (cause_worth limits) (omega (arith, most)) in
       omega (arith, paid, grown)
 
-pub unhindered : RunsAreUnhindered
-unhindered limits entries run keeps direct = record {
+pub operations_end : (limits : Limits) (entries : List Entry) → IsRun limits entries → KeepsPhases limits entries → IsDirect limits entries → OperationsEndUntilRemoval limits entries
+operations_end limits entries run keeps direct = record {
   few = λ op n begun own none.
       let list = listed (hinder limits entries op.actor) op.start (suc n - op.start) in
       let start : op.start < n = own.2.1.begun in

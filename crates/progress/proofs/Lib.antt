@@ -6,6 +6,7 @@ mod Cleared
 mod Counted
 mod Hindering
 mod Later
+mod Numbered
 mod Payers
 mod Placed
 mod ReaderOthers

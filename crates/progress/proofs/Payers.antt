@@ -8,6 +8,7 @@ use Rattle.bw_model.specs.declared.step.Link.TheVariants as link
 use Rattle.progress.proofs.Between.{take_of}
 use Rattle.progress.proofs.Causes.{meets_none}
 use Rattle.progress.proofs.Counted.{AreDistinct, Each, IsNotAmong}
+use Rattle.progress.proofs.Numbered.{IsIn, Numbered, numbered}
 use Rattle.progress.proofs.Spans.{ExchangedBeside, TakenBeside, is_take, lost_by_change, missed_by_take, of_own, same_step}
 
 tail_up : (c : ℕ) (cs : List ℕ) → IsStrictlyIncreasing (c ∷ cs) → IsStrictlyIncreasing cs
@@ -31,15 +32,6 @@ not_among c (d ∷ ds) h = (λ same. let lt : c < d = h.0 in omega arith, not_am
 pub all_distinct : (cs : List ℕ) → IsStrictlyIncreasing cs → AreDistinct cs
 all_distinct [] up = tt
 all_distinct (c ∷ cs) up = (not_among c cs (above_first c cs up), all_distinct cs (tail_up c cs up))
-
-abbrev pub IsIn : ℕ → List ℕ → Type 0
-IsIn d [] = ⊥
-IsIn d (c ∷ cs) = (d ≡ c) ⊎ IsIn d cs
-
-pub apart_from : (c d : ℕ) (cs : List ℕ) → IsNotAmong c cs → IsIn d cs → c ≡ d → ⊥
-apart_from c d [] other within same = absurd within
-apart_from c d (e ∷ es) other (inl here) same = other.0 (same ∙ here)
-apart_from c d (e ∷ es) other (inr there) same = apart_from c d es other.1 there same
 
 pub by_order : (c d : ℕ) → (c < d → ⊥) → (d < c → ⊥) → c ≡ d
 by_order c d lower higher = elim (cases_lt c d) [ inl lt ↦ absurd (lower lt) | inr le ↦ elim (cases_lt d c) [ inl lt ↦ absurd (higher lt) | inr ge ↦ omega arith ] ]
@@ -114,38 +106,31 @@ module _ (limits : Limits) (entries : List Entry) (run : IsRun limits entries) (
   same_cause k c d (low, high, inr (inr p)) (low', high', inr (inr q)) =
       by_order c d (λ lt. q.none c _ _ (omega (arith, q.low, p.high)) lt p.took (is_take p.pids p.number)) (λ lt. p.none d _ _ (omega (arith, p.low, q.high)) lt q.took (is_take q.pids q.number))
 
+  -- its take missed what it had read as free before entry m
+  pub record MissesBefore (m c : ℕ) : Type 0 where
+    pub pids : Bool
+    pub number : ℕ
+    pub since : ℕ
+    pub low : since < m
+    pub took : TakesOwnStep entries op c (take_of pids number) (Whether false)
+    pub calm : TakesNone limits entries op since c IsTake
+
+  -- so one does from there on at most
+  pub one_miss : (m c d : ℕ) → m ≤ c → m ≤ d → MissesBefore m c → MissesBefore m d → c ≡ d
+  one_miss m c d low low' p q =
+      by_order c d (λ lt. q.calm c _ _ (let l : q.since < m = q.low in omega (arith, l, low)) lt p.took (is_take p.pids p.number))
+      (λ lt. p.calm d _ _ (let l : p.since < m = p.low in omega (arith, l, low')) lt q.took (is_take q.pids q.number))
+
   -- for each of these causes an entry after the begin, and different ones for different ones
-  pub record PaidBy (cs : List ℕ) : Type 0 where
-    pub places : List ℕ
-    pub as_many : length places ≡ length cs
-    pub distinct : AreDistinct places
-    pub each : Each (λ j. (d : ℕ) × IsIn d cs × Pays (op.start + j) d) places
-
-  fresh_place : (c j : ℕ) (cs js : List ℕ) → IsNotAmong c cs → Pays (op.start + j) c → Each (λ i. (d : ℕ) × IsIn d cs × Pays (op.start + i) d) js → IsNotAmong j js
-  fresh_place c j cs [] other pays each = tt
-  fresh_place c j cs (i ∷ is) other pays each = (
-    λ same. apart_from c each.0.0 cs other each.0.1 (same_cause (op.start + j) c each.0.0 pays (subst (λ x. Pays (op.start + x) each.0.0) (sym same) each.0.2)),
-    fresh_place c j cs is other pays each.1,
-  )
-
-  more_causes : (c : ℕ) (cs js : List ℕ) → Each (λ j. (d : ℕ) × IsIn d cs × Pays (op.start + j) d) js → Each (λ j. (d : ℕ) × IsIn d (c ∷ cs) × Pays (op.start + j) d) js
-  more_causes c cs [] each = tt
-  more_causes c cs (j ∷ js) each = ((each.0.0, inr each.0.1, each.0.2), more_causes c cs js each.1)
-
-  pub paid_by : (P : ℕ → Type 0) → ((c : ℕ) → P c → (k : ℕ) × Pays k c) → (cs : List ℕ) → AreDistinct cs → All P cs → PaidBy cs
-  paid_by P pay [] once all = record { places = []; as_many = refl; distinct = tt; each = tt }
-  paid_by P pay (c ∷ cs) once all =
-      let rest = paid_by P pay cs once.1 (All-tail P c cs all) in
-      let paid = pay c (All-head P c cs all) in
-      let low : op.start < paid.0 = paid.1.0 in
-      let at : op.start + (paid.0 - op.start) ≡ paid.0 = omega arith in
-      let pays : Pays (op.start + (paid.0 - op.start)) c = subst (λ k. Pays k c) (sym at) paid.1 in
-      record {
-        places = (paid.0 - op.start) ∷ rest.places;
-        as_many = ap suc rest.as_many;
-        distinct = (fresh_place c (paid.0 - op.start) cs rest.places once.0 pays rest.each, rest.distinct);
-        each = ((c, inl refl, pays), more_causes c cs rest.places rest.each);
-      }
+  pub paid_by : (P : ℕ → Type 0) → ((c : ℕ) → P c → (k : ℕ) × Pays k c) → (cs : List ℕ) → AreDistinct cs → All P cs → Numbered (λ j d. Pays (op.start + j) d) cs
+  paid_by P pay cs once all = numbered (λ j d. Pays (op.start + j) d) (λ j c d. same_cause (op.start + j) c d) P place cs once all
+    where
+      place : (c : ℕ) → P c → (j : ℕ) × Pays (op.start + j) c
+      place c is =
+          let paid = pay c is in
+          let low : op.start < paid.0 = paid.1.0 in
+          let at : op.start + (paid.0 - op.start) ≡ paid.0 = omega arith in
+          (paid.0 - op.start, subst (λ k. Pays k c) (sym at) paid.1)
 
   module _ (keeps : KeepsPhases limits entries) (direct : IsDirect limits entries) (begun : IsOperation entries op) (n : ℕ) (none : PlacesNoRemoval (take n entries)) where
     -- what a cause needed

@@ -42,9 +42,9 @@ pub use Rattle.op_machine.specs.theorem.Links.{link_of}
 pub use Rattle.op_machine.specs.theorem.Operations.{Operation, TakesOwnStep, IsOperation, IsOwnStep}
 pub use Rattle.op_machine.specs.theorem.Phases.{Phase, MovesPhase, MovesAt, IsInPhase, KeepsPhases, free, owned, cleared, takes, removes, merges, unterms, reuses, splits, becomes_root}
 pub use Rattle.op_machine.specs.theorem.Phases.{terms, under_root, holds}
-pub use Rattle.op_machine.specs.theorem.Progress.{PlacesNoRemoval, AreAmong, ChangesTree, steps_from, takes_number, is_begin}
+pub use Rattle.op_machine.specs.theorem.Progress.{AreAmong, ChangesTree, Hinders, RunsAlone, steps_from, takes_number, is_begin}
 pub use Rattle.op_machine.specs.theorem.ReadersEnd.{one_memory}
-pub use Rattle.op_machine.specs.theorem.Unhindered.{Hinders, RunsAlone}
+pub use Rattle.op_machine.specs.theorem.UntilRemoval.{PlacesNoRemoval}
 pub use Rattle.round_model.proofs.Responding.{by_step}
 pub use Rattle.round_model.specs.Descents.{Page, Root, WayState}
 pub use Rattle.round_model.specs.ReadEnds.{ReadEnd, Again, Removed, Leaf, Beside}

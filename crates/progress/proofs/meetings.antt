@@ -4,6 +4,7 @@ pub mod Meeting
 pub mod Stepping
 pub mod Among
 pub mod Paying
+pub mod Since
 pub mod Whole
 pub mod Shapes
 pub mod Pays

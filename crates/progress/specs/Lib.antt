@@ -4,8 +4,7 @@ pub mod RoundsEnd
 pub mod RoundExample
 pub mod ReadersAmong
 pub mod ReaderStates
-pub mod Readers
-pub mod Unhindered
+pub mod UntilRemoval
 pub mod WritersAmong
 pub mod Writers
 pub mod WriterStates

@@ -7,8 +7,8 @@ ghost use Rattle.traces.specs.declared.trace.Entry.{Entry};
 ghost use Rattle.table_rule.specs.Running.{KeepsRowsApart};
 
 use progress::{
-    opens_with_readers, opens_with_writers, readers_go_on, readers_read_at_once, runs_are_whole,
-    runs_make_progress, writers_go_on,
+    opens_with_readers, opens_with_writers, readers_go_on, runs_make_progress,
+    runs_progress_until_removal, writers_go_on,
 };
 use table_rule::{Law, Words};
 use tree_law::{
@@ -54,9 +54,8 @@ pub(crate) fn runs_are_one_history()
     is_one_map();
     keeps_phases();
     index_is_exact();
-    readers_read_at_once();
     runs_make_progress();
-    runs_are_whole();
+    runs_progress_until_removal();
     frees_by_rule();
 }
 

@@ -1,8 +1,7 @@
 //! The law over runs, beside the code that comes under it, and what the core's turns rest on: laws of the crates below.
 ghost use Rattle.progress.specs.ReaderStates.{ReadersGoOn};
-ghost use Rattle.progress.specs.Readers.{ReadersReadAtOnce};
-ghost use Rattle.progress.specs.Unhindered.{LoneOperationsEnd, RunsAreLockFree, RunsAreUnhindered};
-ghost use Rattle.progress.specs.Writers.{RunsAreWhole, RunsEnd};
+ghost use Rattle.progress.specs.UntilRemoval.{RunsProgressUntilRemoval};
+ghost use Rattle.progress.specs.Writers.{RunsMakeProgress};
 ghost use Rattle.progress.specs.WriterStates.{WritersGoOn};
 ghost use Rattle.tree_law.specs.Changes.{IsPaidState, StepsPay};
 ghost use Rattle.tree_law.specs.Direct.{BeginsDirectly, StepsDirectly};
@@ -72,19 +71,14 @@ pub(crate) fn states_are_lawful()
     ensures linearized { StatesAreLinearized }
     ensures phases { StatesKeepPhases }
     ensures index { StatesAreIndexed }
-    ensures reads { ReadersReadAtOnce }
-    ensures unhindered { RunsAreUnhindered }
-    ensures alone { LoneOperationsEnd }
-    ensures together { RunsAreLockFree }
-    ensures ends { RunsEnd }
-    ensures whole { RunsAreWhole }
+    ensures progress { RunsMakeProgress }
+    ensures until_removal { RunsProgressUntilRemoval }
     ensures freed { StatesFreeByRule }
 {
     tree_law::is_one_map();
     tree_law::keeps_phases();
     tree_law::index_is_exact();
-    progress::readers_read_at_once();
     progress::runs_make_progress();
-    progress::runs_are_whole();
+    progress::runs_progress_until_removal();
     tree_law::frees_by_rule();
 }

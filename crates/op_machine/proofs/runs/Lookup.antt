@@ -5,25 +5,26 @@ use Rattle.op_machine.proofs.Words.{EndAtLeaves, Finishes, IsOperation, IsOwnSte
 use Rattle.op_machine.proofs.Words.{IsAnswered, IsQuiet, HasMapOf, IsChainOf, level_in, IsChainOf-unique, slice_get_below, HasFewChanges, IsFaithful, KnowsRow, Phase, MovesAt}
 use Rattle.op_machine.proofs.Words.{MovesPhase, KeepsPhases, indexed, takes, splits, becomes_root, terms, under_root, holds, removes, merges, unterms, reuses, IsFreedByRule, UpdatesAtLinks}
 use Rattle.std.proofs.Common.{◌≡◌, ◌<◌, ◌≤◌, ℕ, suc, List, [], ◌∷◌, ◌++◌, length, Bool, true, false, Some, None, refl, sym, subst, ap, arith, inl, inr, lit<, lit≤, ◌+◌, ◌*◌, ◌∙◌}
-use Rattle.std.specs.Prelude.{drop, min, slice_get, slice_range, take, ◌-◌}
+use Rattle.std.specs.Prelude.{drop, if◌then◌else◌, min, slice_get, slice_range, take, ◌-◌}
 use Rattle.std.specs.List.{count_by}
 use Rattle.std.proofs.lemmas.Bool.{cases_lt}
 use Rattle.std.proofs.lemmas.List.{length-drop, length-take, take_all}
 use Rattle.std.proofs.lemmas.List.Sums.{count_by-le-length}
+use Rattle.bw_model.specs.Replies.{is_writer}
 use Rattle.bw_model.specs.declared.command.Reply.{Reply}
 use Rattle.bw_model.specs.declared.command.Reply.TheVariants as reply
 use Rattle.bw_model.specs.declared.step.Step.TheVariants.{Slot, Row, Place, Exchange, TakePid, TakeRow, ReusePids, ReuseRows}
 use Rattle.bw_model.specs.declared.step.Answer.TheVariants.{Number}
 use Rattle.traces.specs.declared.trace.Entry.TheVariants.{Begin, Step}
 use Rattle.op_machine.specs.theorem.Direct.{IsDirect, is_step_of}
-use Rattle.op_machine.specs.theorem.Progress.{AreAmong, ChangesTree, ReadsAtOnce, is_begin as begins_one, is_end, is_step, steps_from, takes_number}
+use Rattle.op_machine.specs.theorem.Progress.{AreAmong, ChangesTree, is_begin as begins_one, is_end, is_step, steps_from, takes_number}
 use Rattle.op_machine.specs.theorem.Readers.{IsReading}
 use Rattle.op_machine.specs.theorem.Index.{IsExactIndex, IsPageOfLevel, IsRootLevel}
 use Rattle.op_machine.specs.theorem.Examples.{small, opening_leaf, lookup}
 use Rattle.op_machine.specs.theorem.Linearized.{IsLinearized, IsOrderly}
 use Rattle.op_machine.specs.theorem.ReadersEnd.{ReadersEnd, one_memory}
-use Rattle.op_machine.specs.theorem.Unhindered.{EndsAlone, IsLockFree, IsUnhindered}
-use Rattle.op_machine.specs.theorem.Whole.{AreLockFree, MakesProgress, hindrance_worth}
+use Rattle.op_machine.specs.theorem.UntilRemoval.{AreLockFreeUntilRemoval, EndAloneUntilRemoval, MakesProgressUntilRemoval, OperationsEndUntilRemoval}
+use Rattle.op_machine.specs.theorem.Whole.{AreLockFree, MakesProgress, hindrance_worth, most_worth}
 use Rattle.op_machine.proofs.Listed.{EachAt-get, UpTo-at, passes_at, same_operation, stands_at}
 use Rattle.op_machine.proofs.runs.Kinds.{is_begin, is_done, leaf_at, one_begin, one_reply, one_row, outside, reads_row}
 use Rattle.op_machine.proofs.MapLaws.{one_leaf}
@@ -264,9 +265,6 @@ is_direct = record {
     some : ◌≡◌ {A = Answer Record} (Number 1) (Number 0) → ⊥
     some none = cc
 
-reads_at_once : ReadsAtOnce small lookup
-reads_at_once = record { few = λ operation n is reader own none. few_steps operation n is (at_most n own) }
-
 -- a lookup changes nothing
 has_few_changes : HasFewChanges small lookup
 unfolding only_looks
@@ -334,8 +332,8 @@ is_linearized = record {
   faithful = is_faithful;
 }
 
-unhindered : IsUnhindered small lookup
-unhindered = record {
+ends_until_removal : OperationsEndUntilRemoval small lookup
+ends_until_removal = record {
   few = λ operation n is own none. ([], record { increasing = λ k h. absurd (omega arith); each = λ k d h. absurd (omega arith) }, once_more (few_steps operation n is (at_most n own)));
   since =
       λ operation m n is after le own none. ([], record { increasing = λ k h. absurd (omega arith); each = λ k d h. absurd (omega arith) }, tenfold_more (cause_worth small) (few_since operation m n));
@@ -363,8 +361,8 @@ readers_end = record {
     as_many : {m : ℕ} → m ≤ 7 → m ≤ one_memory small + 3
     as_many h = let some = most in omega (arith, h, some)
 
-ends_alone : EndsAlone small lookup
-ends_alone = record {
+alone_until_removal : EndAloneUntilRemoval small lookup
+alone_until_removal = record {
   few = λ operation m n is after own alone none.
       ([], record { increasing = λ k h. absurd (omega arith); each = λ k d h. absurd (omega arith) }, enough (cause_worth small) (few_steps operation n is (at_most n own)));
   whole = λ operation n is own alone none. enough (cause_worth small) (few_steps operation n is (at_most n own));
@@ -377,9 +375,9 @@ ends_alone = record {
     more_than : {m : ℕ} (worth : ℕ) → m ≤ worth * (0 + 10) → m ≤ worth * (155 * 64 + 8 * 2 + 11)
     more_than worth h = omega arith
 
-lock_free : IsLockFree small lookup
+lock_free_until_removal : AreLockFreeUntilRemoval small lookup
 unfolding cause_worth
-lock_free = record {
+lock_free_until_removal = record {
   few = λ n none. elim (cases_lt 7 n) [
     | inl lt ↦ let whole : take n lookup ≡ lookup = take_all n lookup (omega arith) in rw whole (lit≤ tt)
     | inr le ↦ UpTo-at (λ k. count_by is_step (take k lookup) ≤ cause_worth small * (count_by begins_one (take k lookup) + 2 * (32 * count_by begins_one (take k lookup) + 64 + 64))) 7
@@ -392,17 +390,25 @@ lock_free = record {
   ];
 }
 
+until_removal : MakesProgressUntilRemoval small lookup
+until_removal = record {
+  readers = record { few = λ operation n is reader own none. few_steps operation n is (at_most n own) };
+  ends = ends_until_removal;
+  alone = alone_until_removal;
+  together = lock_free_until_removal;
+}
+
 all_lock_free : AreLockFree small lookup
 unfolding cause_worth
 all_lock_free = record {
   few = λ n. elim (cases_lt 7 n) [
     | inl lt ↦ let whole : take n lookup ≡ lookup = take_all n lookup (omega arith) in rw whole (lit≤ tt)
-    | inr le ↦ UpTo-at (λ k. count_by is_step (take k lookup) ≤ hindrance_worth small * (count_by begins_one (take k lookup) + 2 * (32 * count_by begins_one (take k lookup) + 64 + 64))) 7
+    | inr le ↦ UpTo-at (λ k. count_by is_step (take k lookup) ≤ most_worth small * (count_by begins_one (take k lookup) + 2 * (32 * count_by begins_one (take k lookup) + 64 + 64))) 7
         (lit≤ tt, (lit≤ tt, (lit≤ tt, (lit≤ tt, (lit≤ tt, (lit≤ tt, (lit≤ tt, lit≤ tt))))))) n le
   ];
   ended = λ n. elim (cases_lt 7 n) [
     | inl lt ↦ let whole : take n lookup ≡ lookup = take_all n lookup (omega arith) in rw whole (lit≤ tt)
-    | inr le ↦ UpTo-at (λ k. count_by is_step (take k lookup) ≤ hindrance_worth small * (count_by is_end (take k lookup) + 2 + 2 * (32 * (count_by is_end (take k lookup) + 2) + 64 + 64))) 7
+    | inr le ↦ UpTo-at (λ k. count_by is_step (take k lookup) ≤ most_worth small * (count_by is_end (take k lookup) + 2 + 2 * (32 * (count_by is_end (take k lookup) + 2) + 64 + 64))) 7
         (lit≤ tt, (lit≤ tt, (lit≤ tt, (lit≤ tt, (lit≤ tt, (lit≤ tt, (lit≤ tt, lit≤ tt))))))) n le
   ];
 }
@@ -410,20 +416,39 @@ all_lock_free = record {
 makes_progress : MakesProgress small lookup
 makes_progress = record {
   ends = record {
-    few = λ operation n is own. ([], record { increasing = λ k h. absurd (omega arith); each = λ k d h. absurd (omega arith) }, once (cause_worth small) (one_memory small) (few_steps operation n is (at_most n own)));
+    few = λ operation n is own.
+        let paid = once (hindrance_worth small operation.command) (some (is_writer operation.command)) (seven_since operation operation.start n) in
+        ([], record { increasing = λ k h. absurd (omega arith); each = λ k d h. absurd (omega arith) }, paid);
+    since = λ operation m n is after le own.
+        let paid = twice (hindrance_worth small operation.command) (some (is_writer operation.command)) (seven_since operation m n) in
+        ([], record { increasing = λ k h. absurd (omega arith); each = λ k d h. absurd (omega arith) }, paid);
   };
   alone = record {
     few = λ operation m n is after own alone.
-        ([], record { increasing = λ k h. absurd (omega arith); each = λ k d h. absurd (omega arith) }, with_store (cause_worth small) (one_memory small) (few_steps operation n is (at_most n own)));
+        let paid = with_store (hindrance_worth small operation.command) (some (is_writer operation.command)) (seven_since operation operation.start n) in
+        ([], record { increasing = λ k h. absurd (omega arith); each = λ k d h. absurd (omega arith) }, paid);
+    since = λ operation m n is after le own alone. within_store (hindrance_worth small operation.command) (some (is_writer operation.command)) (seven_since operation m n);
   };
   together = all_lock_free;
 }
   where
-    once : {m : ℕ} (worth one : ℕ) → m ≤ worth → m ≤ (worth * (22 + 1) + one + 3) * (0 + 1)
-    once worth one h = omega (arith, h)
+    -- whether it writes or reads
+    some : (writer : Bool) → 7 ≤ (if writer then cause_worth small * (22 + 1) else one_memory small + 3)
+    unfolding cause_worth
+    some true = lit≤ tt
+    some false = lit≤ tt
 
-    with_store : {m : ℕ} (worth one : ℕ) → m ≤ worth → m ≤ (worth * (22 + 1) + one + 3) * (0 + 154 * 64 + 8 * 2 + 1)
-    with_store worth one h = omega (arith, h)
+    once : {m : ℕ} (worth : ℕ) → 7 ≤ worth → m ≤ 7 → m ≤ worth * (0 + 1)
+    once worth least h = omega (arith, least, h)
+
+    twice : {m : ℕ} (worth : ℕ) → 7 ≤ worth → m ≤ 7 → m ≤ worth * (0 + 2)
+    twice worth least h = omega (arith, least, h)
+
+    with_store : {m : ℕ} (worth : ℕ) → 7 ≤ worth → m ≤ 7 → m ≤ worth * (0 + 154 * 64 + 8 * 2 + 1)
+    with_store worth least h = omega (arith, least, h)
+
+    within_store : {m : ℕ} (worth : ℕ) → 7 ≤ worth → m ≤ 7 → m ≤ worth * (154 * 64 + 8 * 2 + 2)
+    within_store worth least h = omega (arith, least, h)
 
 pub is_orderly : IsOrderly small lookup
 is_orderly = record {
@@ -433,9 +458,6 @@ is_orderly = record {
   few_changes = has_few_changes;
   progress = makes_progress;
   readers = readers_end;
-  reads = reads_at_once;
-  unhindered = unhindered;
-  alone = ends_alone;
-  together = lock_free;
+  until_removal = until_removal;
   freed = is_freed_by_rule;
 }

@@ -14,10 +14,9 @@ use Rattle.op_machine.specs.theorem.Phases.{KeepsPhases}
 use Rattle.op_machine.specs.theorem.Index.{IsExactIndex}
 use Rattle.op_machine.specs.theorem.Changes.{HasFewChanges}
 use Rattle.op_machine.specs.theorem.Direct.{IsDirect}
-use Rattle.op_machine.specs.theorem.Progress.{ReadsAtOnce}
 use Rattle.op_machine.specs.theorem.ReadersEnd.{ReadersEnd}
 use Rattle.op_machine.specs.theorem.Reuse.{IsFreedByRule}
-use Rattle.op_machine.specs.theorem.Unhindered.{EndsAlone, IsLockFree, IsUnhindered}
+use Rattle.op_machine.specs.theorem.UntilRemoval.{MakesProgressUntilRemoval}
 use Rattle.op_machine.specs.theorem.Whole.{MakesProgress}
 
 -- The entries are a run of the turns, in which each operation ends with its only Leave, with linearization points: each finished
@@ -36,8 +35,8 @@ pub record IsLinearized (limits : Limits) (turns : List Turn) (entries : List En
 
 -- What stands beside it: the life of each page, the terms of each level, bounded steps, few changes, and the rule by which rows and PIDs are used
 -- again. Changes of the tree, and the numbers that others take, pay for an operation's steps, it ends where it runs alone, and all together are
--- lock-free; and a reader takes few steps for each change of the tree. As long as no removal was ever placed: readers that take few steps whatever
--- others do, what hinders a writer, that each operation ends where it runs alone, and few steps of all together, each by a smaller number.
+-- lock-free; and a reader takes few steps for each change of the tree. Until the first removal a reader takes few steps whatever others do, and the
+-- rest of this holds by smaller numbers.
 pub record IsOrderly (limits : Limits) (entries : List Entry) : Type 0 where
   pub phases : KeepsPhases limits entries
   pub index : IsExactIndex limits entries
@@ -45,8 +44,5 @@ pub record IsOrderly (limits : Limits) (entries : List Entry) : Type 0 where
   pub few_changes : HasFewChanges limits entries
   pub progress : MakesProgress limits entries
   pub readers : ReadersEnd limits entries
-  pub reads : ReadsAtOnce limits entries
-  pub unhindered : IsUnhindered limits entries
-  pub alone : EndsAlone limits entries
-  pub together : IsLockFree limits entries
+  pub until_removal : MakesProgressUntilRemoval limits entries
   pub freed : IsFreedByRule limits entries

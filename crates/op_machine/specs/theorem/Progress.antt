@@ -1,33 +1,37 @@
--- Changes of the tree, and readers that take few steps whatever others do.
-use Rattle.std.specs.Prelude.{◌≡◌, ◌≢◌, ◌≤◌, ℕ, suc, List, Bool, true, false, None, Some, slice_range, take}
+-- What costs an operation steps: changes of the tree, and the numbers that others take; and how steps are counted.
+use Rattle.std.specs.Prelude.{◌≢◌, ◌≤◌, ◌⊎◌, ℕ, suc, List, Bool, true, false, None, Some, slice_range}
 use Rattle.std.specs.List.{All, count_by}
 use Rattle.std.specs.List.Sorted.{IsStrictlyIncreasing}
 use Rattle.tree_limits.specs.declared.limits.Limits.{Limits}
-use Rattle.bw_model.specs.Replies.{is_writer}
 use Rattle.bw_model.specs.declared.step.Answer.{Answer}
 use Rattle.bw_model.specs.declared.step.Answer.TheVariants.{Whether}
 use Rattle.bw_model.specs.declared.step.Link.{Link}
 use Rattle.bw_model.specs.declared.step.Link.TheVariants as link
-use Rattle.bw_model.specs.declared.step.Step.TheVariants.{Place, TakePid, TakeRow}
+use Rattle.bw_model.specs.declared.step.Step.{Step as StepOf}
+use Rattle.bw_model.specs.declared.step.Step.TheVariants.{TakePid, TakeRow}
 use Rattle.deltas.specs.Memory.{Memory}
 use Rattle.deltas.specs.declared.record.Record.{Record}
-use Rattle.deltas.specs.declared.record.Record.TheVariants as delta
-use Rattle.deltas.specs.declared.record.Remove.{Remove}
 use Rattle.traces.specs.declared.trace.Entry.{Entry}
 use Rattle.traces.specs.declared.trace.Entry.TheVariants.{Begin, Step}
-use Rattle.traces.specs.discipline.Recalled.{cause_worth}
-use Rattle.traces.specs.trace.Trace.{Happens, TakesStep}
+use Rattle.traces.specs.trace.Trace.{Happens, IsStep, TakesStep}
 use Rattle.op_machine.specs.theorem.Direct.{is_step_of}
 use Rattle.op_machine.specs.theorem.Links.{Wins}
-use Rattle.op_machine.specs.theorem.Operations.{Operation, IsOperation, IsOwnStep}
 
 -- The entry changes the tree: an exchange that won, and neither filled the slot of an own page nor emptied it again.
 abbrev pub ChangesTree : Memory → Entry → Type 0
 ChangesTree memory entry = (actor slot old new : ℕ) × (kind : Link) × Wins memory entry actor slot old new kind × (kind ≢ link.Ready) × (kind ≢ link.Undo)
 
--- No removal was ever placed.
-abbrev pub PlacesNoRemoval : List Entry → Type 0
-PlacesNoRemoval entries = (n actor row : ℕ) (remove : Remove) (answer : Answer Record) → ¬ TakesStep entries n actor (Place row (delta.Remove remove)) answer
+-- Another actor takes a row or a PID.
+abbrev pub TakesBeside : ℕ → Memory → Entry → Type 0
+TakesBeside actor memory entry = (other number : ℕ) × (other ≢ actor) × (IsStep entry other (TakePid number) (Whether true) ⊎ IsStep entry other (TakeRow number) (Whether true))
+
+-- The entry may cost the actor's operation steps: it changes the tree, or another actor takes a number by it.
+abbrev pub Hinders : ℕ → Memory → Entry → Type 0
+Hinders actor memory entry = ChangesTree memory entry ⊎ TakesBeside actor memory entry
+
+-- All entries from m to n are steps of the actor.
+abbrev pub RunsAlone : List Entry → ℕ → ℕ → ℕ → Type 0
+RunsAlone entries actor m n = (k : ℕ) → m ≤ k → k ≤ n → (step : StepOf Record) × (answer : Answer Record) × TakesStep entries k actor step answer
 
 abbrev pub is_begin : Entry → Bool
 is_begin (Begin actor command) = true
@@ -58,8 +62,3 @@ module _ (limits : Limits) (entries : List Entry) where
   pub record AreAmong (m n : ℕ) (Kind : Memory → Entry → Type 0) (places : List ℕ) : Type 0 where
     pub increasing : IsStrictlyIncreasing places
     pub each : All (λ place. (m ≤ place) × (place ≤ n) × Happens limits entries place Kind) places
-
-  -- A lookup or a cursor page takes no more steps than a cause is worth, whatever others do, as long as no removal was ever placed.
-  pub record ReadsAtOnce : Type 0 where
-    pub few : (operation : Operation) (n : ℕ) → IsOperation entries operation → is_writer operation.command ≡ false → IsOwnStep entries operation n
-        → PlacesNoRemoval (take n entries) → steps_from entries operation.actor operation.start n ≤ cause_worth limits

@@ -5,8 +5,7 @@ use Rattle.bw_model.specs.Replies.{is_writer}
 use Rattle.traces.specs.declared.trace.Entry.{Entry}
 use Rattle.round_model.specs.Walks.{few_reads}
 use Rattle.op_machine.specs.theorem.Operations.{Operation, IsOperation, IsOwnStep}
-use Rattle.op_machine.specs.theorem.Progress.{AreAmong, ChangesTree, steps_from}
-use Rattle.op_machine.specs.theorem.Unhindered.{RunsAlone}
+use Rattle.op_machine.specs.theorem.Progress.{AreAmong, ChangesTree, RunsAlone, steps_from}
 
 -- how many steps a reader's round takes at most: of each page once the slot and 13 records, and so many once more on each of 16
 -- levels, for a removed page that the round then goes round

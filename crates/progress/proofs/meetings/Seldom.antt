@@ -81,10 +81,6 @@ module _ (limits : Limits) (entries : List Entry) where
       let none = first_none op begun in
       omega (arith, whole, rest, split, none)
 
-  -- where the changes since each begin pay, all is so
-  all_since : ((op : Operation) (n : ℕ) → IsOperation entries op → is_writer op.command ≡ true → IsOwnStep entries op n → Since limits entries op.actor op.start n) → MeetsSeldom limits entries
-  all_since since = record { few = λ op n begun writer own. since op n begun writer own }
-
   -- from the entry after the begin on
   at_start : (op : Operation) (n : ℕ) → IsOperation entries op → op.start < n → Since limits entries op.actor (suc op.start) n → Since limits entries op.actor op.start n
   at_start op n begun after h = (
@@ -99,40 +95,48 @@ module _ (limits : Limits) (entries : List Entry) where
     subst (λ (met : ℕ). met ≤ (1 + length h.0) * most_meets) (sym (from_begin op n begun after)) h.2,
   )
 
+  -- where the changes since each later entry pay, all is so
+  all_since : ((op : Operation) (m n : ℕ) → IsOperation entries op → is_writer op.command ≡ true → op.start < m → m ≤ n → IsOwnStep entries op n → Since limits entries op.actor m n)
+      → MeetsSeldom limits entries
+  all_since since = record {
+    few = λ op n begun writer own.
+        let after : op.start < n = own.2.1.begun in
+        at_start op n begun after (since op (suc op.start) n begun writer (omega arith) (omega (arith, after)) own);
+    since = since;
+  }
+
 module _ (limits : Limits) (entries : List Entry) (last : Entry) (kept : IsWritersState limits entries) (later : IsState limits (entries ++ last ∷ []))
     (direct : IsDirect limits (entries ++ last ∷ [])) where
   abbrev longer : List Entry
   longer = entries ++ last ∷ []
 
-  since_kept : (op : Operation) (n : ℕ) → IsOperation entries op → is_writer op.command ≡ true → IsOwnStep entries op n → Since limits longer op.actor op.start n
-  since_kept op n begun writer own =
-      let h = kept.seldom.few op n begun writer own in
-      let after : op.start < n = own.2.1.begun in
+  since_kept : (op : Operation) (m n : ℕ) → IsOperation entries op → is_writer op.command ≡ true → op.start < m → m ≤ n → IsOwnStep entries op n → Since limits longer op.actor m n
+  since_kept op m n begun writer after le own =
+      let h = kept.seldom.since op m n begun writer after le own in
       let below : n < length entries = step_below entries last op n own in (
         h.0,
         record {
           increasing = h.1.increasing;
-          each = All-weaker (λ place. (op.start ≤ place) × (place ≤ n) × Happens limits entries place ChangesTree) (λ place. (op.start ≤ place) × (place ≤ n) × Happens limits longer place ChangesTree)
+          each = All-weaker (λ place. (m ≤ place) × (place ≤ n) × Happens limits entries place ChangesTree) (λ place. (m ≤ place) × (place ≤ n) × Happens limits longer place ChangesTree)
               (λ place g. (g.0, g.1, Happens-kept (last ∷ []) g.2)) h.0 h.1.each;
         },
         subst (λ (met : ℕ). met ≤ (1 + length h.0) * most_meets)
-            (sym (ap (count_by (meets_at op.actor)) (range_kept entries last op.start (suc n) (omega (arith, after)) (omega (arith, below))))) h.2,
+            (sym (ap (count_by (meets_at op.actor)) (range_kept entries last m (suc n) (omega (arith, le)) (omega (arith, below))))) h.2,
       )
 
   -- where the last entry is paid for
   pub grown : ((op : Operation) (s : StepOf Record) (x : Answer Record) (reply : Option Reply) (m : ℕ) → IsLast entries op → is_writer op.command ≡ true → last ≡ Step op.actor s x reply
       → op.start < m → m ≤ length entries → Met limits longer op.actor m) → IsWritersState limits longer
   grown paid = record {
-    seldom = all_since limits longer (λ op n begun writer own.
+    seldom = all_since limits longer (λ op m n begun writer after le own.
         let before : IsOperation entries op = operation_old entries last op n begun own in
         elim (step_cases entries last op n own) [
-          | inl old ↦ since_kept op n before writer old
+          | inl old ↦ since_kept op m n before writer after le old
           | inr at ↦
               let same : n ≡ length entries = at.0 in
-              let after : op.start < n = own.2.1.begun in
               let long : length longer ≡ suc (length entries) = pushed_length entries last in
-              let h = paid op at.1.0 at.1.1 at.1.2 (suc op.start) (record { begun = before; unended = at.2 }) writer at.1.3 (omega arith) (omega (arith, after, same)) in
-              at_start limits longer op n begun after (since_last limits longer op.actor (suc op.start) n (omega (arith, same, long)) h)
+              let h = paid op at.1.0 at.1.1 at.1.2 m (record { begun = before; unended = at.2 }) writer at.1.3 after (omega (arith, le, same)) in
+              since_last limits longer op.actor m n (omega (arith, same, long)) h
         ]);
     states = λ n. elim (cases_lt (length entries) n) [
       | inl past ↦ let long = pushed_length entries last in subst (IsState limits) (sym (take_all n longer (omega (arith, past, long)))) later
@@ -146,7 +150,7 @@ module _ (limits : Limits) (entries : List Entry) (last : Entry) (kept : IsWrite
 
 pub opens : Opens IsState → Opens IsDirectState → Opens IsWritersState
 opens states directs limits = record {
-  seldom = all_since limits [] (λ op n begun writer own. absurd (let below = slice_get_below [] n _ own.2.1.entry in omega (arith, below)));
+  seldom = all_since limits [] (λ op m n begun writer after le own. absurd (let below = slice_get_below [] n _ own.2.1.entry in omega (arith, below)));
   states = λ n. subst (IsState limits) (sym (take_all n [] (omega arith))) (states limits);
   directs = λ n. subst (IsDirect limits) (sym (take_all n [] (omega arith))) (directs limits).direct;
 }

@@ -12,19 +12,10 @@ returns-clause-orderly g c = rw (← c.self.view_is) (record {
   index = c.states_are_lawful.ensures.index _ _ c.self.invariant.state;
   direct = c.self.invariant.direct.direct;
   few_changes = c.self.invariant.paid.few;
-  progress = (
-      let whole = c.states_are_lawful.ensures.whole _ _ c.self.invariant.state.run c.self.invariant.direct.direct c.self.invariant.readers.ends c.self.invariant.writers.seldom c.self.invariant.paid.few in
-      record {
-        ends = c.states_are_lawful.ensures.ends _ _ c.self.invariant.state.run c.self.invariant.direct.direct c.self.invariant.readers.ends c.self.invariant.writers.seldom;
-        alone = whole.0;
-        together = whole.1;
-      }
-      );
+  progress =
+      c.states_are_lawful.ensures.progress _ _ c.self.invariant.state.run c.self.invariant.direct.direct c.self.invariant.readers.ends c.self.invariant.writers.seldom c.self.invariant.paid.few;
   readers = c.self.invariant.readers.ends;
-  reads = c.states_are_lawful.ensures.reads _ _ c.self.invariant.state.run (c.states_are_lawful.ensures.phases _ _ c.self.invariant.state) c.self.invariant.direct.direct;
-  unhindered = c.states_are_lawful.ensures.unhindered _ _ c.self.invariant.state.run (c.states_are_lawful.ensures.phases _ _ c.self.invariant.state) c.self.invariant.direct.direct;
-  alone = c.states_are_lawful.ensures.alone _ _ c.self.invariant.state.run (c.states_are_lawful.ensures.phases _ _ c.self.invariant.state) c.self.invariant.direct.direct c.self.invariant.paid.few;
-  together =
-      c.states_are_lawful.ensures.together _ _ c.self.invariant.state.run (c.states_are_lawful.ensures.phases _ _ c.self.invariant.state) c.self.invariant.direct.direct c.self.invariant.paid.few;
+  until_removal =
+      c.states_are_lawful.ensures.until_removal _ _ c.self.invariant.state.run (c.states_are_lawful.ensures.phases _ _ c.self.invariant.state) c.self.invariant.direct.direct c.self.invariant.paid.few;
   freed = c.states_are_lawful.ensures.freed _ _ c.self.invariant.state;
 })

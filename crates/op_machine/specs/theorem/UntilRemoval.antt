@@ -1,34 +1,32 @@
--- Progress as long as no removal was ever placed: what costs an operation steps, that it ends where it runs alone, and how few steps all take.
-use Rattle.std.specs.Prelude.{◌≢◌, ◌<◌, ◌≤◌, ◌+◌, ◌*◌, ◌⊎◌, ℕ, suc, List, length, take, true}
+-- Progress until the first removal, by smaller numbers than those of every run: a reader takes few steps whatever others do, what costs an operation
+-- steps, that it ends where it runs alone, and how few steps all take.
+use Rattle.std.specs.Prelude.{◌≡◌, ◌<◌, ◌≤◌, ◌+◌, ◌*◌, ℕ, suc, List, length, take, false}
 use Rattle.std.specs.List.{count_by}
 use Rattle.tree_limits.specs.declared.limits.Limits.{Limits}
+use Rattle.bw_model.specs.Replies.{is_writer}
 use Rattle.bw_model.specs.declared.step.Answer.{Answer}
-use Rattle.bw_model.specs.declared.step.Answer.TheVariants.{Whether}
-use Rattle.bw_model.specs.declared.step.Step.{Step as StepOf}
-use Rattle.bw_model.specs.declared.step.Step.TheVariants.{TakePid, TakeRow}
-use Rattle.deltas.specs.Memory.{Memory}
+use Rattle.bw_model.specs.declared.step.Step.TheVariants.{Place}
 use Rattle.deltas.specs.declared.record.Record.{Record}
+use Rattle.deltas.specs.declared.record.Record.TheVariants as delta
+use Rattle.deltas.specs.declared.record.Remove.{Remove}
 use Rattle.traces.specs.declared.trace.Entry.{Entry}
 use Rattle.traces.specs.discipline.Recalled.{cause_worth}
-use Rattle.traces.specs.trace.Trace.{IsStep, TakesStep}
+use Rattle.traces.specs.trace.Trace.{TakesStep}
 use Rattle.op_machine.specs.theorem.Operations.{Operation, IsOperation, IsOwnStep}
-use Rattle.op_machine.specs.theorem.Progress.{AreAmong, ChangesTree, PlacesNoRemoval, is_begin, is_end, is_step, steps_from}
+use Rattle.op_machine.specs.theorem.Progress.{AreAmong, Hinders, RunsAlone, is_begin, is_end, is_step, steps_from}
 
--- Another actor takes a row or a PID.
-abbrev pub TakesBeside : ℕ → Memory → Entry → Type 0
-TakesBeside actor memory entry = (other number : ℕ) × (other ≢ actor) × (IsStep entry other (TakePid number) (Whether true) ⊎ IsStep entry other (TakeRow number) (Whether true))
-
--- The entry may cost the actor's operation steps: it changes the tree, or another actor takes a number by it.
-abbrev pub Hinders : ℕ → Memory → Entry → Type 0
-Hinders actor memory entry = ChangesTree memory entry ⊎ TakesBeside actor memory entry
-
--- All entries from m to n are steps of the actor.
-abbrev pub RunsAlone : List Entry → ℕ → ℕ → ℕ → Type 0
-RunsAlone entries actor m n = (k : ℕ) → m ≤ k → k ≤ n → (step : StepOf Record) × (answer : Answer Record) × TakesStep entries k actor step answer
+-- No removal was ever placed.
+abbrev pub PlacesNoRemoval : List Entry → Type 0
+PlacesNoRemoval entries = (n actor row : ℕ) (remove : Remove) (answer : Answer Record) → ¬ TakesStep entries n actor (Place row (delta.Remove remove)) answer
 
 module _ (limits : Limits) (entries : List Entry) where
+  -- A lookup or a cursor page takes no more steps than a cause is worth, whatever others do.
+  pub record ReadersEndUntilRemoval : Type 0 where
+    pub few : (operation : Operation) (n : ℕ) → IsOperation entries operation → is_writer operation.command ≡ false → IsOwnStep entries operation n
+        → PlacesNoRemoval (take n entries) → steps_from entries operation.actor operation.start n ≤ cause_worth limits
+
   -- The changes of the tree, and the numbers that others took, since it began pay for an operation's steps.
-  pub record IsUnhindered : Type 0 where
+  pub record OperationsEndUntilRemoval : Type 0 where
     pub few : (operation : Operation) (n : ℕ) → IsOperation entries operation → IsOwnStep entries operation n → PlacesNoRemoval (take n entries)
         → (hindrances : List ℕ) × AreAmong limits entries operation.start n (Hinders operation.actor) hindrances
         × (steps_from entries operation.actor operation.start n ≤ cause_worth limits * (length hindrances + 1))
@@ -40,7 +38,7 @@ module _ (limits : Limits) (entries : List Entry) where
   -- An operation that runs alone from entry m on ends: what hindered it until then, and the changes that the tree has in store, pay for all its
   -- steps. Where it runs alone from its begin on, these changes do. However long others were in its way, it takes no more steps from entry m on
   -- than the limits say. (Obstruction-freedom)
-  pub record EndsAlone : Type 0 where
+  pub record EndAloneUntilRemoval : Type 0 where
     pub few : (operation : Operation) (m n : ℕ) → IsOperation entries operation → operation.start < m → IsOwnStep entries operation n
         → RunsAlone entries operation.actor m n → PlacesNoRemoval (take n entries)
         → (hindrances : List ℕ) × AreAmong limits entries operation.start m (Hinders operation.actor) hindrances
@@ -54,9 +52,16 @@ module _ (limits : Limits) (entries : List Entry) where
 
   -- All operations together take few steps for each that was begun, and for the numbers that there are. So they do for each that has ended, and each
   -- actor: as long as steps are taken, operations end. (Lock-freedom)
-  pub record IsLockFree : Type 0 where
+  pub record AreLockFreeUntilRemoval : Type 0 where
     pub few : (n : ℕ) → PlacesNoRemoval (take n entries)
         → count_by is_step (take n entries) ≤ cause_worth limits * (count_by is_begin (take n entries) + limits.actors * (32 * count_by is_begin (take n entries) + limits.rows + limits.pids))
     pub ended : (n : ℕ) → PlacesNoRemoval (take n entries)
         → count_by is_step (take n entries) ≤ cause_worth limits *
         (count_by is_end (take n entries) + limits.actors + limits.actors * (32 * (count_by is_end (take n entries) + limits.actors) + limits.rows + limits.pids))
+
+-- what a run says of progress until the first removal
+pub record MakesProgressUntilRemoval (limits : Limits) (entries : List Entry) : Type 0 where
+  pub readers : ReadersEndUntilRemoval limits entries
+  pub ends : OperationsEndUntilRemoval limits entries
+  pub alone : EndAloneUntilRemoval limits entries
+  pub together : AreLockFreeUntilRemoval limits entries
