@@ -11,3 +11,5 @@ mod Watched
 mod Dealt
 mod Left
 mod Longest
+mod Later
+mod Growing

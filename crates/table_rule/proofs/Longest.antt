@@ -1,11 +1,10 @@
 -- The longest run is one that a seat has seen: its last entry is an actor's, and each actor stands in a seat.
-use Rattle.std.proofs.Common.{◌≡◌, ◌≢◌, ◌⊎◌, inl, inr, ℕ, zero, suc, ◌<◌, ◌≤◌, Bool, true, false, List, [], ◌∷◌, ◌++◌, sym, refl, ap, ◌∙◌, subst, arith, append-nil, append_assoc, eq-eqb}
+use Rattle.std.proofs.Common.{◌≡◌, ◌≢◌, ℕ, zero, suc, ◌<◌, ◌≤◌, Bool, true, false, List, [], ◌∷◌, ◌++◌, sym, refl, ap, ◌∙◌, subst, arith, append-nil, eq-eqb}
 use Rattle.std.specs.Prelude.{if◌then◌else◌, Some, slice_get}
 use Rattle.std.proofs.lemmas.Bool.{eqb-true}
 use mathlib.Core.Option.{some}
 use Rattle.atomic_table.specs.Table.{State}
 use lib.ListN.{get_elem?}
-use Rattle.bw_model.specs.declared.command.Command.{Command}
 use Rattle.tree_limits.specs.declared.limits.Limits.{Limits}
 use Rattle.traces.specs.declared.trace.Entry.{Entry}
 use Rattle.traces.specs.declared.trace.Entry.TheVariants.{Begin, Step}
@@ -14,8 +13,7 @@ use Rattle.table_rule.specs.declared.view.Reach.{Reach}
 use Rattle.table_rule.specs.declared.view.Reach.TheVariants.{Idle, Writing, Noted}
 use Rattle.table_rule.specs.declared.view.Part.{Part}
 use Rattle.table_rule.specs.Longest.{IsSeen, LongestIsSeen}
-use Rattle.table_rule.specs.Growing.{HasSat, HasSeen, HistoryGrows, KeepsRealTime}
-use Rattle.table_rule.specs.Running.{Each, ExtendsFor, PartFits, Running, StartsWith, entry_actor, everywhere, is_at, times}
+use Rattle.table_rule.specs.Running.{Each, PartFits, Running, entry_actor, everywhere, is_at, times}
 use Rattle.table_rule.proofs.Parts.{Stands, goes_extends, mark}
 
 -- the last entry is the actor's
@@ -24,7 +22,7 @@ EndsBy actor [] = ⊥
 EndsBy actor (entry ∷ []) = entry_actor entry ≡ actor
 EndsBy actor (first ∷ second ∷ rest) = EndsBy actor (second ∷ rest)
 
-is_own : (actor : ℕ) (entry : Entry) → entry_actor entry ≡ actor → is_entry_of actor entry ≡ true
+pub is_own : (actor : ℕ) (entry : Entry) → entry_actor entry ≡ actor → is_entry_of actor entry ≡ true
 is_own actor (Begin other command) e = eq-eqb actor other (sym e)
 is_own actor (Step other step answer reply) e = eq-eqb actor other (sym e)
 
@@ -91,7 +89,7 @@ stands_as actor other Idle is = (tt, eqb-true other actor is)
 stands_as actor other (Writing row first words) is = (tt, eqb-true other actor is)
 stands_as actor other Noted is = cc
 
-each_get : (P : Part → Type 0) (parts : List Part) (n : ℕ) (part : Part) → Each P parts → slice_get parts n ≡ Some part → P part
+pub each_get : (P : Part → Type 0) (parts : List Part) (n : ℕ) (part : Part) → Each P parts → slice_get parts n ≡ Some part → P part
 each_get P [] n part each at = cc
 each_get P (first ∷ parts) zero part each at = let same : first ≡ part = cc in subst P same each.0
 each_get P (first ∷ parts) (suc n) part each at = each_get P parts n part each.1 at
@@ -114,100 +112,3 @@ longest_seen limits law s h =
       stands = λ e. subst Stands e is.0;
       saw = all.2 part.seen (subst (λ (actor : ℕ). Extends actor part.seen h.run) is.1 (goes_extends part.reach part.actor part.seen h.run is.0 fit.extends));
     }
-
-stands_by : (reach : Reach) → reach ≢ Noted → Stands reach
-stands_by Idle stands = tt
-stands_by (Writing row first words) stands = tt
-stands_by Noted stands = absurd (stands refl)
-
--- a seat or a note: the run goes on from what was seen
-starts : (reach : Reach) (actor : ℕ) (seen run : List Entry) → ExtendsFor reach actor seen run → StartsWith run seen
-starts Idle actor seen run goes = (goes.0, goes.1)
-starts (Writing row first words) actor seen run goes = (goes.0, goes.1)
-starts Noted actor seen run goes = goes
-
-starts_on : (first second third : List Entry) → StartsWith second first → StartsWith third second → StartsWith third first
-starts_on first second third one two =
-    (one.0 ++ two.0, two.1 ∙ ap (λ (run : List Entry). run ++ two.0) one.1 ∙ append_assoc first one.0 two.0)
-
-pub history_grows : (limits : Limits) (law : List Entry → Type 0) → HistoryGrows limits law
-history_grows limits law s t now later on =
-    let found : IsSeen s.views now.run = longest_seen limits law s now in
-    let had : HasSeen s.views found.part.actor now.run =
-    record { id = found.id; view = found.view; at = found.at; place = found.place; part = found.part; there = found.there; own = refl; saw = found.saw } in
-    let next = on found.part.actor now.run had in
-    let has : HasSeen t.views found.part.actor next.0 = next.1 in
-    let fit : PartFits limits t.words later.run has.part = each_get (PartFits limits t.words later.run) has.view has.place has.part (later.each has.id has.view has.at) has.there in
-    starts_on now.run next.0 later.run next.2
-    (subst (StartsWith later.run) has.saw (starts has.part.reach has.part.actor has.part.seen later.run fit.extends))
-
--- what a part has seen begins the longest run
-begun_by : (limits : Limits) (law : List Entry → Type 0) (s : State (Unit {0}) (List Part)) (now : Running limits law s) (actor : ℕ) (seen : List Entry)
-    → HasSeen s.views actor seen → StartsWith now.run seen
-begun_by limits law s now actor seen has =
-    let fit : PartFits limits s.words now.run has.part = each_get (PartFits limits s.words now.run) has.view has.place has.part (now.each has.id has.view has.at) has.there in
-    subst (StartsWith now.run) has.saw (starts has.part.reach has.part.actor has.part.seen now.run fit.extends)
-
-cancel : (front one other : List Entry) → front ++ one ≡ front ++ other → one ≡ other
-cancel [] one other e = e
-cancel (entry ∷ front) one other e = cancel front one other (let same = e in cc)
-
--- of two fronts of one run the first begins the second, or goes on behind it
-fronts : (first second more rest : List Entry) → first ++ more ≡ second ++ rest → StartsWith second first ⊎ ((entry : Entry) × (behind : List Entry) × (first ≡ second ++ entry ∷ behind))
-fronts [] second more rest e = inl (second, refl)
-fronts (entry ∷ first) [] more rest e = inr (entry, first, refl)
-fronts (one ∷ first) (other ∷ second) more rest e = by (fronts first second more rest (let same = e in cc))
-  where
-    heads : one ≡ other
-    heads = let same = e in cc
-
-    by : StartsWith second first ⊎ ((entry : Entry) × (behind : List Entry) × (first ≡ second ++ entry ∷ behind))
-        → StartsWith (other ∷ second) (one ∷ first) ⊎ ((entry : Entry) × (behind : List Entry) × (one ∷ first ≡ other ∷ second ++ entry ∷ behind))
-    by (inl goes) = inl (goes.0, let is = goes.1 in cc)
-    by (inr goes) = inr (goes.0, goes.1, let is = goes.2 in cc)
-
-has_own : (actor : ℕ) (command : Command) (front behind : List Entry) → own_entries actor (front ++ Begin actor command ∷ behind) ≢ []
-has_own actor command [] behind none =
-    let one : Begin actor command ∷ own_entries actor behind ≡ [] =
-    sym (ap (λ (own : Bool). if own then Begin actor command ∷ own_entries actor behind else own_entries actor behind) (is_own actor (Begin actor command) refl)) ∙ none in cc
-has_own actor command (entry ∷ front) behind none = by (is_entry_of actor entry) (has_own actor command front behind) none
-  where
-    by : (own : Bool) → own_entries actor (front ++ Begin actor command ∷ behind) ≢ []
-        → (if own then entry ∷ own_entries actor (front ++ Begin actor command ∷ behind) else own_entries actor (front ++ Begin actor command ∷ behind)) ≢ []
-    by true more none = cc
-    by false more none = more none
-
-pub real_time : (limits : Limits) (law : List Entry → Type 0) → KeepsRealTime limits law
-real_time limits law s t now later on actor other before old run rest command saw sat has extends =
-    starts_on before now.run run (begun_by limits law s now actor before saw) (by (fronts now.run run grown.0 (Begin other command ∷ (rest ++ began.0)) one_run))
-  where
-    grown : StartsWith later.run now.run
-    grown = history_grows limits law s t now later on
-
-    began : StartsWith later.run (run ++ Begin other command ∷ rest)
-    began = begun_by limits law t later other (run ++ Begin other command ∷ rest) has
-
-    one_run : now.run ++ grown.0 ≡ run ++ (Begin other command ∷ (rest ++ began.0))
-    one_run = sym grown.1 ∙ began.1 ∙ append_assoc run (Begin other command ∷ rest) began.0
-
-    part : Part
-    part = sat.saw.part
-
-    stand : Extends other old now.run
-    stand =
-        let fit : PartFits limits s.words now.run part = each_get (PartFits limits s.words now.run) sat.saw.view sat.saw.place part (now.each sat.saw.id sat.saw.view sat.saw.at) sat.saw.there in
-        subst (λ (seen : List Entry). Extends other seen now.run) sat.saw.saw (subst (λ (a : ℕ). Extends a part.seen now.run) sat.saw.own (goes_extends part.reach part.actor part.seen now.run (stands_by part.reach sat.stands) fit.extends))
-
-    by : StartsWith run now.run ⊎ ((entry : Entry) × (behind : List Entry) × (now.run ≡ run ++ entry ∷ behind)) → StartsWith run now.run
-    by (inl goes) = goes
-    by (inr goes) =
-        let entry : Entry = goes.0 in
-        let behind : List Entry = goes.1 in
-        let both : run ++ (entry ∷ (behind ++ grown.0)) ≡ run ++ (Begin other command ∷ (rest ++ began.0)) =
-        sym (append_assoc run (entry ∷ behind) grown.0) ∙ ap (λ (r : List Entry). r ++ grown.0) (sym goes.2) ∙ one_run in
-        let tails : entry ∷ (behind ++ grown.0) ≡ Begin other command ∷ (rest ++ began.0) = cancel run (entry ∷ (behind ++ grown.0)) (Begin other command ∷ (rest ++ began.0)) both in
-        let is : entry ≡ Begin other command = cc in
-        let all : old ++ stand.0 ≡ old ++ (extends.0 ++ Begin other command ∷ behind) =
-        sym stand.1 ∙ goes.2 ∙ ap (λ (e : Entry). run ++ e ∷ behind) is ∙ ap (λ (r : List Entry). r ++ Begin other command ∷ behind) extends.1 ∙ append_assoc old extends.0 (Begin other command ∷ behind) in
-        let others : stand.0 ≡ extends.0 ++ Begin other command ∷ behind = cancel old stand.0 (extends.0 ++ Begin other command ∷ behind) all in
-        absurd (has_own other command extends.0 behind (ap (own_entries other) (sym others) ∙ stand.2))

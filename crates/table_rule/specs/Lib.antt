@@ -3,4 +3,5 @@ pub mod Views
 pub mod Steps
 pub mod Closing
 pub mod Longest
+pub mod Moments
 pub mod Growing

@@ -13,6 +13,7 @@
 //! a law (`Law`) that keeps the rows of actors apart.
 #![tactic(auto)]
 
+mod moments;
 mod placing;
 mod plays;
 mod reading;
@@ -23,12 +24,12 @@ mod used;
 mod view;
 mod watching;
 
+pub use moments::{
+    history_grows, keeps_real_time, nothing_is_forgotten, operations_are_moments,
+};
 pub use placing::place_row;
 pub use reading::{look_at, read_first};
-pub use rule::{
-    Law, Rule, TableSeat, Words, closing_spells, history_grows, keeps_real_time, longest_is_seen,
-    opening_keeps,
-};
+pub use rule::{Law, Rule, TableSeat, Words, closing_spells, longest_is_seen, opening_keeps};
 pub use seats::{blank, cut, join, note, refresh};
 pub use steps::act;
 pub use view::{Part, Reach, View};

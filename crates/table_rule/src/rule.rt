@@ -3,7 +3,6 @@ ghost use Rattle.std.specs.Prelude.{[]};
 ghost use Rattle.atomic_table.specs.Table.{opening};
 ghost use Rattle.tree_limits.specs.declared.limits.Limits.{Limits as LimitsSeen};
 ghost use Rattle.table_rule.specs.Closing.{LeavesWords};
-ghost use Rattle.table_rule.specs.Growing.{HistoryGrows, KeepsRealTime};
 ghost use Rattle.table_rule.specs.Longest.{LongestIsSeen};
 ghost use Rattle.table_rule.specs.Running.{Running};
 ghost use Rattle.table_rule.specs.Views.{dealt};
@@ -60,14 +59,4 @@ pub fn closing_spells<P: Law>()
 /// The longest run is one that a seat has seen: its last entry is an actor's, which has seen it in its seat.
 pub fn longest_is_seen<P: Law>()
     ensures { (limits : LimitsSeen) → LongestIsSeen limits (P.law limits) }
-{}
-
-/// Of two moments of a table the later longest run begins with the earlier one: each actor has seen what it had seen, and one of them had seen all.
-pub fn history_grows<P: Law>()
-    ensures { (limits : LimitsSeen) → HistoryGrows limits (P.law limits) }
-{}
-
-/// Real time: all of a call that has returned comes before a call that begins afterwards, whoever makes the two.
-pub fn keeps_real_time<P: Law>()
-    ensures { (limits : LimitsSeen) → KeepsRealTime limits (P.law limits) }
 {}

@@ -1,5 +1,0 @@
-use Rattle.table_rule.proofs.Longest.{real_time}
-use Rattle.table_rule.proofs.rule.keeps_real_time.Goals as goal
-
-pub returns : goal.returns
-returns g c = λ limits. real_time limits (g.P.Law.law limits)
