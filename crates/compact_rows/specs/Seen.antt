@@ -1,10 +1,10 @@
--- What words of a compact row say of the words that spell its record in a row of today's form.
+-- Each word of the row of record_slots (`words_of`), computed from the compact words of the same record.
 use Rattle.std.specs.Prelude.{ℕ, ◌+◌, ◌*◌, ◌-◌, ◌/◌, ◌%◌, ◌==◌, List, if◌then◌else◌, ltb, slice_index}
 use Rattle.record_slots.specs.Layout.{count_unit, form_unit, item_size, items_at, level_unit, no_bound, part_limit, this_form}
 use Rattle.compact_rows.specs.Layout.{content_unit, first_unit, length_unit, next_unit, second_unit}
 use Rattle.compact_rows.specs.Spelling.{words_for}
 
--- a word of a text that has so many words from a place on; behind them there are zeros
+-- word j of a text of `size` words, which begins at word `at`; 0 behind its end
 abbrev pub text_seen : List ℕ → ℕ → ℕ → ℕ → ℕ
 text_seen words at size j = if ltb j size then slice_index words (at + j) else 0
 
@@ -38,7 +38,7 @@ first_seen words j = text_seen words (first_text_at words) (words_for (first_len
 abbrev pub second_seen : List ℕ → ℕ → ℕ
 second_seen words j = text_seen words (second_text_at words) (bound_size (second_length words)) j
 
--- Of an item's word: where its text stands, its key's length, how many words of the key stand there, and the number of its content.
+-- Of an item's code: where its text begins, its key's length, how many words of the key stand there, and a value's length or a child's PID.
 abbrev pub code_at : ℕ → ℕ
 code_at code = code % length_unit
 
@@ -55,7 +55,7 @@ code_number code = code / content_unit
 abbrev pub value_seen : List ℕ → ℕ → ℕ → ℕ → ℕ
 value_seen words level code j = if level == 0 then text_seen words (code_at code + code_tail code) (words_for (code_number code)) j else 0
 
--- word j of an item, by its two words
+-- word j of an item, by its head and its code
 abbrev pub item_seen : List ℕ → ℕ → ℕ → ℕ → ℕ → ℕ
 item_seen words level head code j =
     if j == 0 then code / length_unit % length_unit
@@ -64,16 +64,16 @@ item_seen words level head code j =
     else if j == 9 then code_number code
     else value_seen words level code (j - 10)
 
--- word j of the item at a place
+-- word j of the item with this number
 abbrev pub place_seen : List ℕ → ℕ → ℕ → ℕ
 place_seen words place j =
     if ltb place (count_seen words) then item_seen words (level_seen words) (slice_index words (2 + place)) (slice_index words (2 + count_seen words + place)) j else 0
 
--- word k behind the first words of a row
+-- word k behind the two keys
 abbrev pub items_seen : List ℕ → ℕ → ℕ
 items_seen words k = place_seen words (k / item_size) (k % item_size)
 
--- each word of a row of today's form that spells the same record
+-- word `at` of the row of record_slots that spells the same record
 abbrev pub seen : List ℕ → ℕ → ℕ
 seen words at =
     if at == 0 then slice_index words 0 % form_unit + form_unit * this_form.number

@@ -1,4 +1,4 @@
--- The words that spell a record in a compact row: no word is there that the record doesn't use.
+-- The compact spelling of a record: the words that it uses, and no others. docs/FORMATS.md has a table and worked rows.
 use Rattle.std.specs.Prelude.{ℕ, ◌+◌, ◌*◌, ◌-◌, ◌/◌, List, [], ◌∷◌, ◌++◌, length, drop, Option, None, Some, if◌then◌else◌}
 use Rattle.base_page.specs.declared.item.Content.{Content}
 use Rattle.base_page.specs.declared.item.Content.TheVariants.{Value, Child}
@@ -19,7 +19,7 @@ words_for count = (count + 7) / 8
 abbrev pub packed : List ℕ → List ℕ
 packed bytes = text_words (words_for (length bytes)) bytes
 
--- The first eight bytes of an item's key stand apart from the others, side by side with those of the other items.
+-- the head of an item: the first eight bytes of its key, which stand beside those of the other items
 abbrev pub head_word : Item → ℕ
 head_word item = big_endian 8 item.key
 
@@ -32,11 +32,11 @@ abbrev pub content_text : Content → List ℕ
 content_text (Value value) = packed value
 content_text (Child page held) = []
 
--- the other bytes of the key, and a value
+-- the text of an item: the other bytes of its key, and a value
 abbrev pub item_text : Item → List ℕ
 item_text item = packed (drop 8 item.key) ++ content_text item.content
 
--- where the text stands, the key's length, the mark of a held term, and a value's length or a child's PID
+-- the code of an item: where its text begins, the key's length, the mark of a held term, and a value's length or a child's PID
 abbrev pub item_code : ℕ → Item → ℕ
 item_code at item = at + length_unit * length item.key + (if is_held item.content then mark_unit else 0) + content_unit * content_number item.content
 
@@ -44,7 +44,7 @@ abbrev pub heads : List Item → List ℕ
 heads [] = []
 heads (item ∷ items) = head_word item ∷ heads items
 
--- the words of the items whose texts stand from a place on
+-- the codes of the items whose texts begin at word `at`
 abbrev pub codes : ℕ → List Item → List ℕ
 codes at [] = []
 codes at (item ∷ items) = item_code at item ∷ codes (at + length (item_text item)) items
@@ -71,7 +71,7 @@ second_word row = row.page + first_unit * length row.first + second_unit * bound
 abbrev pub texts_at : Row → ℕ
 texts_at row = 2 + 2 * row.count + (length (packed row.first) + length (bound_text row.second))
 
--- A row: its numbers in two words, the first bytes of each item's key, a word for each item, the two keys, and what the items have more.
+-- A row: its numbers in two words, the items' heads, their codes, the two keys, and the items' texts.
 abbrev pub compact_row : Row → List Item → List ℕ
 compact_row row items = first_word row ∷ second_word row ∷ (heads items ++ (codes (texts_at row) items ++ (packed row.first ++ (bound_text row.second ++ texts items))))
 

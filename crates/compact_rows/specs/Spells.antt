@@ -1,4 +1,4 @@
--- Which words spell a record in a compact row.
+-- Which compact words spell a record.
 use Rattle.std.specs.Prelude.{◌≡◌, ◌≤◌, ℕ, List, length}
 use Rattle.deltas.specs.declared.record.Record.{Record}
 use Rattle.deltas.specs.Spellable.{IsSpellable}
@@ -6,7 +6,7 @@ use Rattle.record_slots.specs.Spells.{HasShortTexts}
 use Rattle.compact_rows.specs.Layout.{most_words}
 use Rattle.compact_rows.specs.Spelling.{compact_words}
 
--- The words spell the record, and are no more than a row has.
+-- The words are the compact spelling of the record, and a row has room for them.
 pub record IsCompact (content : Record) (words : List ℕ) : Type 0 where
   pub spellable : IsSpellable content
   pub short : HasShortTexts content

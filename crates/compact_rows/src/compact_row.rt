@@ -1,11 +1,11 @@
-//! Compact words that are written where they lie.
+//! A place for the compact words of one record, which are written one after another where they lie.
 ghost use Rattle.std.specs.Prelude.{◌≡◌, ◌<◌, ◌≤◌, ◌++◌, ◌∷◌, [], length};
 ghost use Rattle.compact_rows.specs.declared.layout.TheConstants.{MOST_WORDS};
 
 use crate::layout::MOST_WORDS;
 use std::marker::Model;
 
-/// Compact words that are written from the first one on, with room for 4 KB.
+/// The compact words of one record, with room for the longest: 4 KB.
 #[derive(Drop)]
 pub struct CompactRow {
     words: [u64; MOST_WORDS],

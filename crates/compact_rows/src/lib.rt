@@ -1,10 +1,16 @@
-//! Records in compact rows: no word is there that a record doesn't use.
+//! Records in compact rows, as a large tree stores them: a row has the words that its record uses, and no others.
 //!
-//! Look first at `to_compact` and `from_compact`: each record that has room has one spelling, and words are read as a record exactly where they
-//! spell it. specs/Spelling has the layout. The first bytes of all keys stand side by side, so a bisection looks at one word a step.
+//! Look first at `to_compact` and `from_compact`: each record that a row can spell has one compact spelling (`compact_words` in
+//! specs/Spelling), and words are read as a record exactly where they spell it. docs/FORMATS.md draws the layout. The first eight bytes of
+//! all keys stand side by side, so that a bisection reads one word a step.
 //!
-//! `seen_in` says of compact words each word of the row of today's form that spells the same record, and `Spread` makes of compact rows such
-//! rows as `row_search` searches, so that all its searches are searches of compact rows, where they lie.
+//! Everything above the memory speaks of the other spelling, that of `record_slots` (`words_of`), in small and in large trees. `seen_in` computes
+//! each word of that row from the compact words, and `look_spread` does so by looks at them, where they lie: `Spread` makes compact rows `Rows` of
+//! `row_search`, whose searches need not know in which form a record is stored.
+//!
+//! Called by `tree_words` and `table_rule`, whose definitions name `compact_words`, and by `running_tree`, which writes (`compact_of`), looks
+//! (`CompactRows`, `look_spread`) and reads whole rows (`seen_in`). It knows no limits, so not which trees are large; no table, and no
+//! chain: the row under a record is a number.
 
 #![tactic(auto)]
 
@@ -13,6 +19,7 @@ mod laws;
 mod layout;
 mod read;
 mod seen;
+mod short;
 mod spread;
 mod write;
 

@@ -1,4 +1,4 @@
-//! Records read from compact words.
+//! Reading a record from compact words, with an exact refusal.
 ghost use Rattle.std.specs.Prelude.{◌≡◌, ◌≢◌, ◌<◌, ℕ, MatchBool, slice_index, length};
 ghost use Rattle.record_slots.specs.Layout.{row_size};
 ghost use Rattle.record_slots.specs.Spells.{FindsOne};
@@ -11,8 +11,10 @@ use crate::write::to_compact;
 use deltas::Record;
 use record_slots::{BadRow, ROW_WORDS, read_words, spelling_is_one};
 
-/// The record that the compact words spell; refused exactly where they spell none. The words of the row of today's form are read, and the
-/// record is written again: so no words are taken but those that spell it.
+/// The record that the compact words spell. `BadRow` is returned exactly where they spell none.
+///
+/// The words are spread to a row of `record_slots`, that row is read, and the record is written again as compact words: only where these are the
+/// given words, they spell it. So each rule of a row has one home, there, and nothing is refused or accepted by a second set of tests.
 pub fn from_compact(words: &[u64]) -> Result<Record, BadRow>
     ensures { FindsOne (λ content. IsCompact content words.now) result }
 {
@@ -27,7 +29,7 @@ pub fn from_compact(words: &[u64]) -> Result<Record, BadRow>
     }
 }
 
-/// The row of today's form that spells the same record.
+/// The row of `record_slots` that spells the same record, where the words spell one.
 fn spread(words: &[u64]) -> [u64; ROW_WORDS]
     ensures long { length result ≡ row_size }
     ensures words { (at : ℕ) → at < row_size → slice_index result at ≡ seen words.now at }

@@ -1,4 +1,4 @@
-//! What compact words say of a row of today's form.
+//! Each word of the row of `record_slots`, computed from the compact words of the same record.
 ghost use Rattle.std.specs.Prelude.{◌≡◌, ◌<◌, ◌≤◌, slice_index};
 ghost use Rattle.compact_rows.specs.Seen.{bound_size, code_at, code_tail, count_seen, first_length, first_seen, item_seen, items_seen, level_seen, place_seen, second_length, second_seen, seen, text_seen, value_seen};
 ghost use Rattle.compact_rows.specs.Spelling.{words_for};
@@ -9,7 +9,8 @@ use record_slots::{
     FIRST_ITEM, FORM, FORM_UNIT, ITEM_UNIT, ITEM_WORDS, LEVEL_UNIT, NO_BOUND, PART_LIMIT, ROW_WORDS,
 };
 
-/// A word of the row of today's form that spells the same record. Words that spell none have some.
+/// Word `at` of the row of `record_slots` that spells the same record. Of words that spell no record some number is returned: it is total, and
+/// needs no test before it.
 pub fn seen_in(words: &[u64], at: usize) -> u64
     requires { at < ROW_WORDS }
     ensures { result ≡ seen words.now at }
@@ -33,7 +34,7 @@ pub fn seen_in(words: &[u64], at: usize) -> u64
     }
 }
 
-/// A word; behind the last one there are zeros.
+/// Word `at`; 0 behind the last one.
 fn word_at(words: &[u64], at: usize) -> u64
     ensures { result ≡ slice_index words.now at }
 {
@@ -87,7 +88,7 @@ fn second_length(words: &[u64]) -> u64
     word_at(words, 1) / SECOND_UNIT
 }
 
-/// A word of a text.
+/// Word `place` of a text of `size` words, which begins at word `at`; 0 behind its end.
 fn text_in(words: &[u64], at: usize, size: u64, place: usize) -> u64
     requires few { at ≤ 281474976710656 }
     requires low { place < ROW_WORDS }
@@ -116,7 +117,7 @@ fn second_in(words: &[u64], place: usize) -> u64
     text_in(words, at, bound_size(second_length(words)), place)
 }
 
-/// A word behind the first words of a row.
+/// A word behind the two keys: words of items.
 fn items_in(words: &[u64], place: usize) -> u64
     requires { place < ROW_WORDS }
     ensures { result ≡ items_seen words.now place }
@@ -124,7 +125,7 @@ fn items_in(words: &[u64], place: usize) -> u64
     place_in(words, place / ITEM_WORDS, place % ITEM_WORDS)
 }
 
-/// A word of the item at a place.
+/// Word `place` of an item, by its number.
 fn place_in(words: &[u64], item: usize, place: usize) -> u64
     requires item { item < ROW_WORDS }
     requires low { place < ROW_WORDS }
@@ -140,7 +141,7 @@ fn place_in(words: &[u64], item: usize, place: usize) -> u64
     }
 }
 
-/// A word of an item, by its two words.
+/// Word `place` of an item, by its head and its code.
 fn item_in(words: &[u64], level: u64, head: u64, code: u64, place: usize) -> u64
     requires { place < ROW_WORDS }
     ensures { result ≡ item_seen words.now level head code place }
@@ -158,7 +159,7 @@ fn item_in(words: &[u64], level: u64, head: u64, code: u64, place: usize) -> u64
     }
 }
 
-/// A word of a value.
+/// Word `place` of a value; a child has none.
 fn value_in(words: &[u64], level: u64, code: u64, place: usize) -> u64
     requires { place < ROW_WORDS }
     ensures { result ≡ value_seen words.now level code place }
@@ -171,7 +172,7 @@ fn value_in(words: &[u64], level: u64, code: u64, place: usize) -> u64
     }
 }
 
-/// Where an item's text stands.
+/// Where an item's text begins, by its code.
 pub(crate) fn code_at(code: u64) -> usize
     ensures at { result ≡ code_at code }
     ensures few { result < 65536 }
@@ -179,7 +180,7 @@ pub(crate) fn code_at(code: u64) -> usize
     (code % LENGTH_UNIT) as usize
 }
 
-/// How many words of an item's key stand there.
+/// How many words the key takes there, behind its first eight bytes, by its code.
 pub(crate) fn code_tail(code: u64) -> u64
     ensures tail { result ≡ code_tail code }
     ensures few { result < 32 }

@@ -1,4 +1,4 @@
-//! Compact rows as rows of today's form: each word of such a row is looked at in the compact one.
+//! Compact rows as `Rows` of `row_search`: each word of a row of `record_slots` is computed by at most three looks at the compact row.
 ghost use Rattle.std.specs.Prelude.{◌≡◌, ◌≢◌, ◌<◌, ◌≤◌, ◌+◌, ◌/◌, ◌%◌, ℕ, length, slice_index};
 ghost use Rattle.deltas.specs.declared.record.Record.{Record};
 ghost use Rattle.record_slots.specs.Spelling.{words_of};
@@ -17,7 +17,7 @@ use record_slots::{
 };
 use row_search::Rows;
 
-/// Compact rows in which records were read, and stay: any word that a record has there is looked at where it lies.
+/// Compact rows in which records were read, and stay: each word that a record has there can be looked at where it lies.
 pub trait CompactRows {
     ghost use Rattle.std.specs.Prelude.{ℕ};
     ghost use Rattle.deltas.specs.declared.record.Record.{Record};
@@ -36,12 +36,12 @@ pub trait CompactRows {
         ensures same { pass.new ≡ pass.old }
         ensures word { (content : Record) → has self.now pass.old row content → result ≡ slice_index (compact_words content) at };
 
-    /// Shows that compact words can spell what was read, at no cost.
+    /// Shows that what was read has a compact spelling, at no cost.
     fn keeps_spelling(&self, pass: &Self::Pass)
         ensures { (row : ℕ) (content : Record) → has self.now pass.now row content → IsCompact content (compact_words content) };
 }
 
-/// Compact rows, as `row_search` searches rows.
+/// Compact rows, as `row_search` searches them.
 #[derive(Drop)]
 pub struct Spread<R> {
     rows: R,
@@ -59,7 +59,7 @@ impl<R: CompactRows> Rows for Spread<R> {
     }
 }
 
-/// A word of the row of today's form that spells a record which was read, and stays.
+/// Word `at` of the row of `record_slots` that spells the record which was read in this compact row, and stays.
 pub fn look_spread<R: CompactRows>(rows: &R, pass: &mut R::Pass, row: u32, at: usize) -> u64
     requires has { (content : Record) × R.has rows.now pass.old row content }
     requires within { at < ROW_WORDS }
@@ -88,7 +88,7 @@ fn first_look<R: CompactRows>(rows: &R, pass: &mut R::Pass, row: u32) -> u64
     rows.look(pass, row, 0)
 }
 
-/// What a row's first word says of its first two words in today's form.
+/// The first two words of the row of `record_slots`, by the first compact word.
 fn header_seen(first: u64, at: usize) -> u64
     requires { at < 2 }
     ensures header { at ≡ 0 → result ≡ first % 16777216 + 33554432 }
@@ -101,7 +101,7 @@ fn header_seen(first: u64, at: usize) -> u64
     }
 }
 
-/// A word of the two keys, or of the PID before them.
+/// A word of the PID and the two keys.
 fn keys_look<R: CompactRows>(rows: &R, pass: &mut R::Pass, row: u32, first: u64, at: usize) -> u64
     requires has { (content : Record) × R.has rows.now pass.old row content }
     requires spelt { (content : Record) → R.has rows.now pass.old row content → IsCompact content (compact_words content) }
@@ -137,7 +137,7 @@ fn keys_look<R: CompactRows>(rows: &R, pass: &mut R::Pass, row: u32, first: u64,
     )
 }
 
-/// A word of a text.
+/// Word `place` of a text of `size` words, which begins at word `at`; 0 behind its end.
 fn text_look<R: CompactRows>(
     rows: &R,
     pass: &mut R::Pass,
@@ -182,7 +182,7 @@ fn items_look<R: CompactRows>(
     item_look(rows, pass, row, first, count, item, place % ITEM_WORDS)
 }
 
-/// A word of the item at a place: the first bytes of its key stand apart.
+/// Word `place` of an item, by its number: by its head alone, or by its code and its text.
 fn item_look<R: CompactRows>(
     rows: &R,
     pass: &mut R::Pass,
@@ -224,7 +224,7 @@ fn item_look<R: CompactRows>(
     )
 }
 
-/// A word of an item's text, by the item's word.
+/// A word of an item's text, by its code.
 fn rest_look<R: CompactRows>(
     rows: &R,
     pass: &mut R::Pass,

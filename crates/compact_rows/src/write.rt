@@ -1,4 +1,4 @@
-//! Records written as compact words.
+//! Writing a record as compact words, in one pass.
 ghost use Rattle.std.specs.Prelude.{◌≡◌, ◌<◌, ◌≤◌, ◌+◌, ◌*◌, ◌++◌, [], IfSome, Some, drop, length, option_copied};
 ghost use Rattle.std.specs.List.{All};
 ghost use Rattle.bw_model.specs.Bytes.{IsShort, longest};
@@ -13,12 +13,13 @@ use crate::laws::records_have_room;
 use crate::layout::{
     COMPACT_FORM, CONTENT_UNIT, FIRST_UNIT, LENGTH_UNIT, MARK_UNIT, NEXT_UNIT, SECOND_UNIT,
 };
+use crate::short::{texts_are_short, value_bytes};
 use base_page::{Content, Item};
-use bw_model::{Key, Value};
+use bw_model::Key;
 use deltas::Record;
 use record_slots::{FORM_UNIT, ITEM_UNIT, LEVEL_UNIT, NO_BOUND, key_bytes, word_at};
 
-/// The compact words of the record; where a row can spell it, they do.
+/// The compact words of a record that has room. Where a row can spell it, they are its compact spelling.
 pub fn to_compact(content: &Record) -> CompactRow
     requires room { length (compact_words content.now) ≤ most_words }
     ensures words { result ≡ compact_words content.now }
@@ -29,7 +30,7 @@ pub fn to_compact(content: &Record) -> CompactRow
     row
 }
 
-/// The compact words of a record that a row can spell.
+/// The compact spelling of a record that a row can spell, and which so has room.
 pub fn compact_of(content: &Record) -> CompactRow
     requires { IsSpellable content.now }
     ensures { IsCompact content.now result }
@@ -37,69 +38,6 @@ pub fn compact_of(content: &Record) -> CompactRow
     texts_are_short(content);
     records_have_room();
     to_compact(content)
-}
-
-/// Shows that its texts are short, by their types.
-fn texts_are_short(content: &Record)
-    ensures { HasShortTexts content.now }
-{
-    match content {
-        Record::Base(page) => {
-            key_is_short(page.low());
-            bound_is_short(page.high());
-            items_are_short(page.items().as_slice());
-        }
-        Record::Put(put) => {
-            key_is_short(&put.key);
-            value_bytes(&put.value);
-        }
-        Record::Delete(delete) => key_is_short(&delete.key),
-        Record::Split(split) => key_is_short(&split.separator),
-        Record::Term(term) => key_is_short(&term.separator),
-        Record::Hold(hold) => key_is_short(&hold.separator),
-        Record::Remove(_) => {}
-        Record::Merge(merge) => {
-            key_is_short(&merge.low);
-            bound_is_short(merge.high.as_ref());
-            items_are_short(merge.items.as_slice());
-        }
-        Record::Unterm(unterm) => key_is_short(&unterm.separator),
-    }
-}
-
-fn key_is_short(key: &Key)
-    ensures { IsShort key.now }
-{
-    key_bytes(key);
-}
-
-fn bound_is_short(bound: Option<&Key>)
-    ensures { IfSome (option_copied bound.entry) IsShort }
-{
-    match bound {
-        None => {}
-        Some(key) => key_is_short(key),
-    }
-}
-
-fn items_are_short(items: &[Item])
-    ensures { All IsShortItem items.now }
-{
-    for item in items {
-        item_is_short(item);
-    }
-}
-
-fn item_is_short(item: &Item)
-    ensures { IsShortItem item.now }
-{
-    key_is_short(&item.key);
-    match &item.content {
-        Content::Value(value) => {
-            value_bytes(value);
-        }
-        Content::Child { .. } => {}
-    }
 }
 
 /// Writes the compact words of the record into a row in which nothing was written yet.
@@ -198,7 +136,7 @@ fn write_link(row: &mut CompactRow, kind: u8, level: u8, next: u32, page: u32, f
     )
 }
 
-/// Writes a row of these parts, whose texts are short by their types.
+/// Writes a row of these parts: two words of numbers, heads, codes, the two keys, and the items' texts.
 fn write_row(
     row: &mut CompactRow,
     kind: u8,
@@ -250,7 +188,7 @@ fn second_word(page: u32, first: usize, second: u64) -> u64
     u64::from(page) + FIRST_UNIT * first as u64 + SECOND_UNIT * second
 }
 
-/// The length of a bound, with one that says that there is none.
+/// The length of a bound; 255 for no bound.
 fn bound_length(bound: Option<&Key>) -> u64
     ensures length { result ≡ bound_length (option_copied bound.entry) }
     ensures few { result ≤ 255 }
@@ -281,7 +219,7 @@ fn words_for(count: usize) -> usize
     (count + 7) / 8
 }
 
-/// The first bytes of the items' keys.
+/// The heads: the first eight bytes of each item's key, big-endian.
 fn push_heads(row: &mut CompactRow, items: &[Item])
     requires { length row.old + length items.now ≤ most_words }
     ensures words { row.new ≡ row.old ++ heads items.now }
@@ -292,7 +230,7 @@ fn push_heads(row: &mut CompactRow, items: &[Item])
     }
 }
 
-/// The words of the items whose texts stand from a place on.
+/// The codes of the items whose texts begin at word `at`.
 fn push_codes(row: &mut CompactRow, at: usize, items: &[Item])
     requires room { length row.old + length items.now ≤ most_words }
     requires low { at + length (texts items.now) ≤ most_words }
@@ -306,7 +244,7 @@ fn push_codes(row: &mut CompactRow, at: usize, items: &[Item])
     }
 }
 
-/// The word of an item whose text stands there.
+/// The code of an item whose text begins at word `at`.
 fn item_code(at: usize, item: &Item) -> u64
     requires { at ≤ most_words }
     ensures { result ≡ item_code at item.now }
@@ -356,7 +294,7 @@ fn push_text(row: &mut CompactRow, item: &Item)
     }
 }
 
-/// The end of a page, if it has one.
+/// The second key, if there is one.
 fn push_bound(row: &mut CompactRow, bound: Option<&Key>)
     requires { length row.old + length (bound_text (option_copied bound)) ≤ most_words }
     ensures words { row.new ≡ row.old ++ bound_text (option_copied bound.entry) }
@@ -380,19 +318,3 @@ fn push_words(row: &mut CompactRow, bytes: &[u8], from: usize)
         row.push(word_at(bytes, from + 8 * place));
     }
 }
-
-/// The bytes of a value, which are few.
-fn value_bytes(value: &Value) -> &[u8]
-    ensures bytes { result.now ≡ value.now }
-    ensures short { IsShort value.now }
-{
-    let bytes = value.as_slice();
-    are_short(bytes);
-    bytes
-}
-
-/// Shows that as many bytes as a key or a value has at most are short, at no cost.
-fn are_short(bytes: &[u8])
-    requires { length bytes.now ≤ longest }
-    ensures { IsShort bytes.now }
-{}

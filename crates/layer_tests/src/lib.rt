@@ -1,6 +1,6 @@
 //! What the layers below the operation do by hand: tests alone, over their public calls.
 //!
-//! Rows and their spelling at the edges, rows of the first form, limbo lists, sweeps, plans and changes; `built` makes the pages that
+//! Rows and their spelling at the edges, compact rows, rows of the first form, limbo lists, sweeps, plans and changes; `built` makes the pages that
 //! they need. What equations and exact conditions say is asked by no test once more.
 //!
 //! Called by nobody, and apart from those crates, since a crate with tests is proved a second time with them.
@@ -10,6 +10,10 @@
 mod built;
 #[cfg(test)]
 mod changes;
+#[cfg(test)]
+mod compact_by_hand;
+#[cfg(test)]
+mod compact_drawn;
 #[cfg(test)]
 mod first_rows;
 #[cfg(test)]

@@ -10,7 +10,7 @@ use record_slots::ROW_WORDS;
 const ROWS: u32 = 100_000;
 
 /// A word of 64 bits.
-fn draw(words: &mut Pcg32) -> u64 {
+pub(crate) fn draw(words: &mut Pcg32) -> u64 {
     u64::from(words.next_word()) << 32 | u64::from(words.next_word())
 }
 
@@ -36,7 +36,7 @@ fn drawn_words_spell_nothing(rt: HostRuntime) {
 }
 
 /// A word that may be of use in a row: any one, a small one, a text of three bytes, a header, or one with one bit.
-fn other_word(words: &mut Pcg32, kind: u32) -> u64 {
+pub(crate) fn other_word(words: &mut Pcg32, kind: u32) -> u64 {
     let any = draw(words);
     match kind {
         0 => any,

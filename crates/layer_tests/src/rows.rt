@@ -41,7 +41,7 @@ pub(crate) const PUT: Words = &[
 ];
 
 /// `k09` is absent, over row 7.
-const DELETE: Words = &[(0, 0x02000003), (1, 7), (3, 3), (4, 0x6b30390000000000)];
+pub(crate) const DELETE: Words = &[(0, 0x02000003), (1, 7), (3, 3), (4, 0x6b30390000000000)];
 
 /// A leaf is split at `k09`, with page 2 to the right, over row 11.
 pub(crate) const SPLIT: Words = &[
@@ -53,7 +53,7 @@ pub(crate) const SPLIT: Words = &[
 ];
 
 /// The term of `k09` and child 2 is added on level 15, over row 16383.
-const TERM: Words = &[
+pub(crate) const TERM: Words = &[
     (0, 0x02000f05),
     (1, 16383),
     (2, 2),
@@ -71,10 +71,10 @@ pub(crate) const HOLD: Words = &[
 ];
 
 /// A page of level 1 is removed, over row 9.
-const REMOVE: Words = &[(0, 0x02000107), (1, 9)];
+pub(crate) const REMOVE: Words = &[(0, 0x02000107), (1, 9)];
 
 /// The leaf from `k09` up to `l`, with page 4095 to its right and one item, comes to its left page, over row 3.
-const MERGE: Words = &[
+pub(crate) const MERGE: Words = &[
     (0, 0x02010008),
     (1, 3),
     (2, 4095),
@@ -89,7 +89,7 @@ const MERGE: Words = &[
 ];
 
 /// The term of `k09` and child 2 goes, over row 4.
-const UNTERM: Words = &[
+pub(crate) const UNTERM: Words = &[
     (0, 0x02000109),
     (1, 4),
     (2, 2),
@@ -98,7 +98,7 @@ const UNTERM: Words = &[
 ];
 
 /// An index page over all keys, with child 1 at the empty key and child 2, which is held, at `k09`.
-const INDEX: Words = &[
+pub(crate) const INDEX: Words = &[
     (0, 0x02020101),
     (12, 255),
     (30, 1),

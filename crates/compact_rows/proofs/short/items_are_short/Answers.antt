@@ -3,7 +3,7 @@ use Rattle.std.specs.List.{All}
 use Rattle.std.proofs.lemmas.List.{take_all}
 use Rattle.std.proofs.lemmas.List.Elements.{All-more}
 use Rattle.record_slots.specs.Spells.{IsShortItem}
-use Rattle.compact_rows.proofs.write.items_are_short.Goals as goal
+use Rattle.compact_rows.proofs.short.items_are_short.Goals as goal
 
 pub loop-item-preserved : goal.loop-item-preserved
 loop-item-preserved c =
