@@ -36,7 +36,7 @@ libdir=$2
 includedir=$3
 
 Name: bwtree
-Description: An ordered map in memory for many threads, proved linearizable
+Description: An ordered in-memory map for many threads, proved linearizable (Herlihy and Wing) and lock-free
 Version: $version
 Libs: -L"\${libdir}" -lbwtree
 Libs.private: -lpthread

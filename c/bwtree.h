@@ -24,8 +24,10 @@
  *   - The library calls malloc and free, when a tree is opened and closed, and never in another call. No call is made from a signal handler, nor,
  *     in a process with threads, from a child that was forked.
  *
- * What an order of calls promises: docs/C.md. In short: there is one history of all calls of all threads on a tree. Calls on one seat stand in it in
- * the order in which they were made.
+ * Order: the tree is linearizable (Herlihy and Wing), proved over all states of the tree. All calls of all threads form one sequential history of an
+ * ordered map. Each call takes effect at one of its own atomic steps, so a call that has returned precedes a call that begins afterwards, whatever
+ * threads and seats make the two. In a program's own proof, order between two seats comes from meeting or a note, because the language has no clock.
+ * What happens-before gives in C: docs/C.md, Order.
  */
 #ifndef BWTREE_H
 #define BWTREE_H

@@ -1,7 +1,7 @@
 // bwtree.hpp: bwtree.h for C++17. A tree is moved, not copied, and lends its seats; what is no ordinary answer throws bw::error.
 //
 // Any number of threads may call a tree's functions. A seat is used by one thread at a time, and may go from thread to thread as any object does.
-// The tree is closed when the object and all its seats are gone, or by close(). What bwtree.h says of stacks, signals and forks holds here, too.
+// The tree is closed when the object and all its seats are gone, or by close(). What bwtree.h says of order, stacks, signals and forks holds here, too.
 #ifndef BWTREE_HPP
 #define BWTREE_HPP
 

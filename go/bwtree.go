@@ -3,6 +3,10 @@
 // A Tree is shared by goroutines, and lends its seats, 1 to 16 of them. A Seat is where calls are made, by one goroutine at a time. Keys and values
 // have at most 64 bytes.
 //
+// The tree is linearizable (Herlihy and Wing), proved over all states of the tree: all calls form one sequential history of an ordered map, in which a
+// call that has returned precedes a call that begins afterwards, whatever goroutines and seats make the two. In a program's own proof, order between two
+// seats comes from meeting or a note, because the language has no clock.
+//
 // cgo finds bwtree.h and libbwtree by pkg-config: PKG_CONFIG_PATH names the folder of bwtree.pc.
 package bwtree
 

@@ -5,6 +5,10 @@
 
 Threads share a tree, and each leases a seat of it: a mapping for one thread at a time. Keys and values have at most 64 bytes.
 
+The tree is linearizable (Herlihy and Wing), proved over all states of the tree: all calls form one sequential history of an ordered map, in which a
+call that has returned precedes a call that begins afterwards, whatever threads and seats make the two. In a program's own proof, order between two
+seats comes from meeting or a note, because the language has no clock.
+
 The library is looked for where BWTREE_LIB says, a file or a folder, then where `./bwtree build` puts it, then where the system's loader looks.
 """
 

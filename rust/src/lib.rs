@@ -13,8 +13,11 @@
 //! # Ok::<(), bwtree::Error>(())
 //! ```
 //!
-//! All calls on a tree have one order, in which each answers as a plain ordered map does; calls on one seat stand in it as they were made. A thread
-//! that calls has 512 KB of stack, as Rust's own threads have.
+//! The tree is linearizable (Herlihy and Wing), proved over all states of the tree: all calls form one sequential history of an ordered map, in which a
+//! call that has returned precedes a call that begins afterwards, whatever threads and seats make the two. In a program's own proof, order between two
+//! seats comes from meeting or a note, because the language has no clock.
+//!
+//! A thread that calls needs 512 KB of stack, which Rust's own threads have.
 mod ffi;
 
 use ffi::*;
