@@ -194,23 +194,68 @@ watched_sees law limits actor step found me me' sat sits h = record {
 pub operations_turn : (law : Limits → List Entry → Type 0) → OperationsTurn law
 operations_turn law = record {
   acts = λ limits actor begun step reply me me' found sat h. let told = h limits actor sat in steps record {
-    limits = limits; actor = actor; reach = Idle; stands = idle_stands; sat = sat; sits = told.0; begun = begun; step = step; answer = answer_by step found; reply = reply; took = told.1;
+    limits = limits;
+    actor = actor;
+    reach = Idle;
+    stands = idle_stands;
+    sat = sat;
+    sits = told.0;
+    begun = begun;
+    step = step;
+    answer = answer_by step found;
+    reply = reply;
+    took = told.1;
   };
   reads = λ limits actor row made me me' found sat word h. let told = h limits actor row sat word in steps record {
-    limits = limits; actor = actor; reach = Idle; stands = idle_stands; sat = sat; sits = told.0; begun = None; step = Row row; answer = Content told.1.0; reply = None; took = told.1.3;
+    limits = limits;
+    actor = actor;
+    reach = Idle;
+    stands = idle_stands;
+    sat = sat;
+    sits = told.0;
+    begun = None;
+    step = Row row;
+    answer = Content told.1.0;
+    reply = None;
+    took = told.1.3;
   };
   looks = λ made me me' found h. looks h.0;
   watches = λ limits actor step made me me' found sat few has reads word h. let told = h limits actor step sat few has reads word in
       sees limits (watched_sees law limits actor step found me me' sat told.0 told.1);
   measures = λ limits actor row made me me' found sat word h. let told = h limits actor row sat word in places record {
-    limits = limits; actor = actor; reach = Idle; reach' = Writing row found []; stands = idle_stands; stands' = writing_stands row found []; sat = sat; sits = told.0; saw = told.1;
+    limits = limits;
+    actor = actor;
+    reach = Idle;
+    reach' = Writing row found [];
+    stands = idle_stands;
+    stands' = writing_stands row found [];
+    sat = sat;
+    sits = told.0;
+    saw = told.1;
   };
   fills = λ limits actor row first written me me' found sat h. let told = h limits actor row first written sat in places record {
-    limits = limits; actor = actor; reach = Writing row first written; reach' = Writing row first (written ++ found ∷ []);
-    stands = writing_stands row first written; stands' = writing_stands row first (written ++ found ∷ []); sat = sat; sits = told.0; saw = told.1;
+    limits = limits;
+    actor = actor;
+    reach = Writing row first written;
+    reach' = Writing row first (written ++ found ∷ []);
+    stands = writing_stands row first written;
+    stands' = writing_stands row first (written ++ found ∷ []);
+    sat = sat;
+    sits = told.0;
+    saw = told.1;
   };
   places = λ limits actor row first written step me me' found sat h. let told = h limits actor row first written sat in steps record {
-    limits = limits; actor = actor; reach = Writing row first written; stands = writing_stands row first written; sat = sat; sits = told.0; begun = None; step = step; answer = Done; reply = None; took = told.1;
+    limits = limits;
+    actor = actor;
+    reach = Writing row first written;
+    stands = writing_stands row first written;
+    sat = sat;
+    sits = told.0;
+    begun = None;
+    step = step;
+    answer = Done;
+    reply = None;
+    took = told.1;
   };
   refreshes = λ limits made me me' found has h. let first : Part = has.0 in sees first.limits (h first has.1 has.2);
 }

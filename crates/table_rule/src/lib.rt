@@ -24,9 +24,7 @@ mod used;
 mod view;
 mod watching;
 
-pub use moments::{
-    history_grows, keeps_real_time, nothing_is_forgotten, operations_are_moments,
-};
+pub use moments::{history_grows, keeps_real_time, nothing_is_forgotten, operations_are_moments};
 pub use placing::place_row;
 pub use reading::{look_at, read_first};
 pub use rule::{Law, Rule, TableSeat, Words, closing_spells, longest_is_seen, opening_keeps};
