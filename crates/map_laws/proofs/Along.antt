@@ -190,7 +190,7 @@ module _ (run : List Entry) (actor since : ℕ) (D : Calls → ℕ → Type 0) (
         (λ mine. subst (λ (b : Bool). Now (front ++ entry ∷ []) (if b then call_after all entry else all)) (sym mine) (by_own front back entry all is mine now))
         (λ apart. subst (λ (b : Bool). Now (front ++ entry ∷ []) (if b then call_after all entry else all)) (sym apart) (by_other front back entry all is late apart now))
 
-    along : (front back : List Entry) (all : Calls) → run ≡ front ++ back → since ≤ length front → Now front all → Now run (calls_along all (own_entries actor back))
+    pub along : (front back : List Entry) (all : Calls) → run ≡ front ++ back → since ≤ length front → Now front all → Now run (calls_along all (own_entries actor back))
     along front [] all is late now = subst (λ es. Now es all) (sym (is ∙ append-nil front)) now
     along front (entry ∷ back) all is late now =
         let long = pushed_length front entry in

@@ -1,16 +1,14 @@
 -- A call that is spent has taken its budget in own steps of one operation; a lookup's are few for each change of the tree.
 use Rattle.std.proofs.Common.{◌≡◌, ◌<◌, ◌≤◌, ◌+◌, ◌-◌, ◌*◌, ◌⊎◌, ℕ, suc, List, [], ◌∷◌, ◌++◌, length, take, drop, Bool, true, false, cond, Option, Some, None, refl, sym}
-use Rattle.std.proofs.Common.{ap, subst, ◌∙◌, inl, inr, arith, eq-eqb}
+use Rattle.std.proofs.Common.{ap, subst, ◌∙◌, inl, inr, arith, append-nil, eq-eqb}
 use Rattle.std.specs.Prelude.{if◌then◌else◌, slice_get, slice_range, ◌==◌}
-use Rattle.std.specs.List.{All, count_by}
+use Rattle.std.specs.List.{count_by}
 use Rattle.std.proofs.Math.Nat.{mul-le-mul_left}
 use Rattle.std.proofs.lemmas.Bool.Decides.{eqb_tells}
 use Rattle.std.proofs.lemmas.List.{take_all}
 use Rattle.std.proofs.lemmas.List.Elements.{All-weaker}
 use Rattle.std.proofs.lemmas.List.Sums.{fold-append}
 use Rattle.std.proofs.lemmas.Option.{same_Some}
-use Rattle.tree_limits.specs.declared.limits.Limits.{Limits}
-use Rattle.bw_model.specs.Replies.{is_writer}
 use Rattle.bw_model.specs.declared.command.Command.{Command}
 use Rattle.bw_model.specs.declared.command.Reply.{Reply}
 use Rattle.bw_model.specs.declared.step.Answer.{Answer}
@@ -22,19 +20,17 @@ use Rattle.traces.specs.discipline.Disciplined.{is_entry_of, own_entries}
 use Rattle.traces.specs.trace.Run.{IsRun}
 use Rattle.traces.specs.trace.Trace.{Happens, command_of}
 use Rattle.traces.proofs.Cuts.{get_drop}
-use Rattle.traces.proofs.OwnEntries.{own_append, own_on, own_push}
+use Rattle.traces.proofs.OwnEntries.{own_append, own_push}
 use Rattle.traces.proofs.Pushes.{pushed_length, take-push_whole}
 use Rattle.op_machine.proofs.LogLaws.{take-one}
 use Rattle.op_machine.specs.theorem.Direct.{is_step_of}
-use Rattle.op_machine.specs.theorem.Operations.{IsOperation, IsOwnEntry, IsOwnStep}
+use Rattle.op_machine.specs.theorem.Operations.{IsOperation, IsOwnStep}
 use Rattle.op_machine.specs.theorem.Progress.{AreAmong, ChangesTree, steps_from}
 use Rattle.op_machine.specs.theorem.ReadersEnd.{one_memory}
-use Rattle.running_tree.specs.Calls.{IsCalled, IsSpent, calls_along, calls_in, calls_of}
-use Rattle.running_tree.specs.Runs.{IsOneHistory}
+use Rattle.running_tree.specs.Calls.{IsSpent, calls_along, calls_of}
 use Rattle.running_tree.specs.Seats.{IsSame, Seat, unfinished_command}
-use Rattle.running_tree.specs.declared.called.Called.{Called}
 use Rattle.running_tree.specs.declared.called.Called.TheVariants.{Done, Spent}
-use Rattle.map_laws.specs.Budgets.{ChangesAtMost, LookupsAreDone}
+use Rattle.map_laws.specs.Budgets.{LookupsAreDone}
 use Rattle.map_laws.specs.InOrder.{operation_at}
 use Rattle.map_laws.proofs.Along.{Keeps, Now, along}
 use Rattle.map_laws.proofs.Asking.{Calls}
@@ -59,7 +55,7 @@ module _ (run : List Entry) (actor : ℕ) where
   own_still : (n : ℕ) (e : Entry) → slice_get run n ≡ Some e → is_entry_of actor e ≡ false → own (suc n) ≡ own n
   own_still n e at apart =
       ap (λ es. length (own_entries actor es)) (take-one run n e at)
-      ∙ ap length (own_on actor (take n run) (e ∷ []) (ap (λ (b : Bool). if b then e ∷ [] else []) apart))
+      ∙ ap length (own_append actor (take n run) (e ∷ []) ∙ ap (λ (b : Bool). own_entries actor (take n run) ++ (if b then e ∷ [] else [])) apart ∙ append-nil (own_entries actor (take n run)))
 
   steps_next : (start n : ℕ) (e : Entry) → start ≤ n → slice_get run n ≡ Some e → steps start (suc n) ≡ steps start n + cond (is_step_of actor e) 1 0
   steps_next start n e le at =
@@ -99,43 +95,55 @@ module _ (run : List Entry) (actor : ℕ) where
 
     keeps : Keeps run actor early AtRest UnderWay
     keeps = record {
-      begins = λ calls asked n at rest. (rest.0, (omega (arith, rest.1)), λ same.
-          let before = rest.2 same in
-          let one = own_next n (Begin actor asked) at (eq-eqb actor actor refl) in
-          let none : steps n (suc n) ≡ 0 = steps_next n n (Begin actor asked) (omega arith) at ∙ ap (λ k. k + 0) (steps_none n) in
-          record { late = rest.1; after = omega arith; counted = omega (arith, before, one, none); last = inl none });
-      steps = λ calls asked start n step told is entry has under. (under.0, (omega (arith, under.1)), λ same.
-          let u = under.2 same in
-          let one = own_next n (Step actor step told None) entry.entry (eq-eqb actor actor refl) in
-          let more = steps_next start n (Step actor step told None) (let after = u.after in omega (arith, after)) entry.entry in
-          let yes : cond {A = ℕ} (is_step_of actor (Step actor step told None)) 1 0 ≡ 1 = ap (λ (b : Bool). cond {A = ℕ} b 1 0) (mine step told None) in
-          let before = u.counted in
-          let after = u.after in
-          record {
-            late = u.late;
-            after = omega (arith, after);
-            counted = omega (arith, one, more, yes, before);
-            last = inr (n, omega arith, (step, told, None, entry), refl);
-          });
+      begins = λ calls asked n at rest. (
+        rest.0,
+        (omega (arith, rest.1)),
+        λ same.
+            let before = rest.2 same in
+            let one = own_next n (Begin actor asked) at (eq-eqb actor actor refl) in
+            let none : steps n (suc n) ≡ 0 = steps_next n n (Begin actor asked) (omega arith) at ∙ ap (λ k. k + 0) (steps_none n) in
+            record { late = rest.1; after = omega arith; counted = omega (arith, before, one, none); last = inl none },
+      );
+      steps = λ calls asked start n step told is entry has under. (
+        under.0,
+        (omega (arith, under.1)),
+        λ same.
+            let u = under.2 same in
+            let one = own_next n (Step actor step told None) entry.entry (eq-eqb actor actor refl) in
+            let more = steps_next start n (Step actor step told None) (let after = u.after in omega (arith, after)) entry.entry in
+            let yes : cond {A = ℕ} (is_step_of actor (Step actor step told None)) 1 0 ≡ 1 = ap (λ (b : Bool). cond {A = ℕ} b 1 0) (mine step told None) in
+            let before = u.counted in
+            let after = u.after in
+            record {
+              late = u.late;
+              after = omega (arith, after);
+              counted = omega (arith, one, more, yes, before);
+              last = inr (n, omega arith, (step, told, (None, entry)), refl);
+            },
+      );
       ends = λ calls asked start n step told given is entry has under.
           let long : length (calls ++ (asked, Some given) ∷ []) ≡ suc (length calls) = pushed_length calls (asked, Some given) in
           let enough = under.0 in
           (omega (arith, long, enough), (omega (arith, under.1)), λ same. absurd (omega (arith, long, enough, same)));
       waits = λ calls n entry late at apart rest. (rest.0, (omega (arith, late)), λ same. own_still n entry at apart ∙ rest.2 same);
-      lasts = λ calls asked start n entry late at apart under. (under.0, (omega (arith, late)), λ same.
-          let u = under.2 same in
-          let after = u.after in
-          let before = u.counted in
-          let still = own_still n entry at apart in
-          let no : cond {A = ℕ} (is_step_of actor entry) 1 0 ≡ 0 = ap (λ (b : Bool). cond {A = ℕ} b 1 0) (other_steps entry apart) in
-          let next = steps_next start n entry (omega (arith, after)) at in
-          let as_many : steps start n ≡ steps start (suc n) = omega (arith, no, next) in
-          record {
-            late = u.late;
-            after = omega (arith, after);
-            counted = omega (arith, before, still, as_many);
-            last = elim u.last [ inl none ↦ inl (sym as_many ∙ none) | inr h ↦ inr (h.0, (let below = h.1 in omega (arith, below)), h.2, h.3 ∙ as_many) ];
-          });
+      lasts = λ calls asked start n entry late at apart under. (
+        under.0,
+        (omega (arith, late)),
+        λ same.
+            let u = under.2 same in
+            let after = u.after in
+            let before = u.counted in
+            let still = own_still n entry at apart in
+            let no : cond {A = ℕ} (is_step_of actor entry) 1 0 ≡ 0 = ap (λ (b : Bool). cond {A = ℕ} b 1 0) (other_steps entry apart) in
+            let next = steps_next start n entry (omega (arith, after)) at in
+            let as_many : steps start n ≡ steps start (suc n) = omega (arith, no, next) in
+            record {
+              late = u.late;
+              after = omega (arith, after);
+              counted = omega (arith, before, still, as_many);
+              last = elim u.last [ inl none ↦ inl (sym as_many ∙ none) | inr h ↦ inr (h.0, (let below = h.1 in omega (arith, below)), h.2, h.3 ∙ as_many) ];
+            },
+      );
     }
 
 -- A call that is spent: its operation, whose steps from its begin to the last one are its budget.
@@ -151,17 +159,12 @@ record StepsOfSpent (old new : Seat) (command : Command) (budget : ℕ) : Type 0
 spent_steps : (old new : Seat) (command : Command) (budget : ℕ) → IsRun new.limits new.seen → IsSame old new → unfinished_command old ≡ None → 0 < budget → IsSpent old command budget new
     → StepsOfSpent old new command budget
 spent_steps old new command budget is_run same idle some spent =
-    by_now (along new.seen new.actor (length old.seen) Rest Way new.limits is_run (keeps new.seen new.actor (length old.seen) (length olds)) old.seen spent.grows.0 olds spent.grows.1 (omega arith)
+    by_now (along new.seen new.actor (length old.seen) (AtRest new.seen new.actor (length old.seen) (length olds)) (UnderWay new.seen new.actor (length old.seen) (length olds)) new.limits is_run
+    (keeps new.seen new.actor (length old.seen) (length olds)) old.seen spent.grows.0 olds spent.grows.1 (omega arith)
     (inl (subst (λ a. command_of old.seen a ≡ None) (sym same.actor) idle, (omega arith, omega arith, λ e. refl))))
   where
     olds : Calls
     olds = calls_of new.actor old.seen
-
-    abbrev Rest : Calls → ℕ → Type 0
-    Rest = AtRest new.seen new.actor (length old.seen) (length olds)
-
-    abbrev Way : Calls → Command → ℕ → ℕ → Type 0
-    Way = UnderWay new.seen new.actor (length old.seen) (length olds)
 
     -- the calls are those before, and this one
     all_are : calls_along olds (own_entries new.actor spent.grows.0) ≡ olds ++ (command, None) ∷ []
@@ -169,7 +172,7 @@ spent_steps old new command budget is_run same idle some spent =
         sym (along_append [] (own_entries new.actor old.seen) (own_entries new.actor spent.grows.0)) ∙ sym (ap (calls_along []) (own_append new.actor old.seen spent.grows.0))
         ∙ sym (ap (calls_of new.actor) spent.grows.1) ∙ spent.calls ∙ ap (λ a. calls_of a old.seen ++ (command, None) ∷ []) (sym same.actor)
 
-    by_now : Now new.seen new.actor (length old.seen) Rest Way new.seen (calls_along olds (own_entries new.actor spent.grows.0)) → StepsOfSpent old new command budget
+    by_now : Now new.seen new.actor (length old.seen) (AtRest new.seen new.actor (length old.seen) (length olds)) (UnderWay new.seen new.actor (length old.seen) (length olds)) new.seen (calls_along olds (own_entries new.actor spent.grows.0)) → StepsOfSpent old new command budget
     by_now (inl (none, rest)) = absurd (let both : None ≡ Some command = sym none ∙ spent.busy in cc both)
     by_now (inr busy) =
         let long : length (busy.calls ++ (busy.asked, None) ∷ []) ≡ suc (length busy.calls) = pushed_length busy.calls (busy.asked, None) in

@@ -1,11 +1,10 @@
 -- From any entry on: what an operation had read before costs it a slot of each page, and free numbers once, and what hinders it since pays for the rest.
-use Rattle.progress.proofs.Words.{◌≡◌, ◌<◌, ◌≤◌, ◌+◌, ◌-◌, ◌*◌, ◌⊎◌, ℕ, zero, suc, List, [], ◌∷◌, Bool, true, false, length, take, refl, sym, ap, subst, ◌∙◌, inl, inr, arith}
-use Rattle.progress.proofs.Words.{mul-le-mul_left, cases_lt, All-head, All-tail, All, Limits, Number, Whether, Entry, cause_worth, IsRun, IsCause, IsDirect, IsExchangeOf, IsTake, TakesNone}
+use Rattle.progress.proofs.Words.{◌≡◌, ◌<◌, ◌≤◌, ◌+◌, ◌-◌, ◌*◌, ◌⊎◌, ℕ, zero, suc, List, [], ◌∷◌, Bool, true, false, length, take, refl, ap, subst, ◌∙◌, inl, inr, arith}
+use Rattle.progress.proofs.Words.{mul-le-mul_left, cases_lt, All, Limits, Number, Whether, Entry, cause_worth, IsRun, IsCause, IsDirect, IsExchangeOf, TakesNone}
 use Rattle.progress.proofs.Words.{IsOperation, IsOwnStep, Operation, TakesOwnStep, KeepsPhases, PlacesNoRemoval, steps_from}
 use Rattle.bw_model.specs.declared.step.Step.TheVariants.{Exchange, Slot}
 use Rattle.op_machine.specs.theorem.UntilRemoval.{OperationsEndUntilRemoval}
-use Rattle.progress.proofs.Between.{take_of}
-use Rattle.progress.proofs.Counted.{AreDistinct, Each, IsNotAmong}
+use Rattle.progress.proofs.Counted.{AreDistinct, Each}
 use Rattle.progress.proofs.Hindering.{among_hinder, hinder, paid_by_hinder, pays_hinder}
 use Rattle.progress.proofs.Numbered.{IsIn, numbered}
 use Rattle.progress.proofs.Payers.{MissesBefore, Pays, all_distinct, by_order, one_miss, pays_for, same_cause}

@@ -413,31 +413,31 @@ all_lock_free = record {
   ];
 }
 
+-- whether an operation writes or reads
+some_worth : (writer : Bool) → 7 ≤ (if writer then cause_worth small * (22 + 1) else one_memory small + 3)
+unfolding cause_worth
+some_worth true = lit≤ tt
+some_worth false = lit≤ tt
+
 makes_progress : MakesProgress small lookup
 makes_progress = record {
   ends = record {
     few = λ operation n is own.
-        let paid = once (hindrance_worth small operation.command) (some (is_writer operation.command)) (seven_since operation operation.start n) in
+        let paid = once (hindrance_worth small operation.command) (some_worth (is_writer operation.command)) (seven_since operation operation.start n) in
         ([], record { increasing = λ k h. absurd (omega arith); each = λ k d h. absurd (omega arith) }, paid);
     since = λ operation m n is after le own.
-        let paid = twice (hindrance_worth small operation.command) (some (is_writer operation.command)) (seven_since operation m n) in
+        let paid = twice (hindrance_worth small operation.command) (some_worth (is_writer operation.command)) (seven_since operation m n) in
         ([], record { increasing = λ k h. absurd (omega arith); each = λ k d h. absurd (omega arith) }, paid);
   };
   alone = record {
     few = λ operation m n is after own alone.
-        let paid = with_store (hindrance_worth small operation.command) (some (is_writer operation.command)) (seven_since operation operation.start n) in
+        let paid = with_store (hindrance_worth small operation.command) (some_worth (is_writer operation.command)) (seven_since operation operation.start n) in
         ([], record { increasing = λ k h. absurd (omega arith); each = λ k d h. absurd (omega arith) }, paid);
-    since = λ operation m n is after le own alone. within_store (hindrance_worth small operation.command) (some (is_writer operation.command)) (seven_since operation m n);
+    since = λ operation m n is after le own alone. within_store (hindrance_worth small operation.command) (some_worth (is_writer operation.command)) (seven_since operation m n);
   };
   together = all_lock_free;
 }
   where
-    -- whether it writes or reads
-    some : (writer : Bool) → 7 ≤ (if writer then cause_worth small * (22 + 1) else one_memory small + 3)
-    unfolding cause_worth
-    some true = lit≤ tt
-    some false = lit≤ tt
-
     once : {m : ℕ} (worth : ℕ) → 7 ≤ worth → m ≤ 7 → m ≤ worth * (0 + 1)
     once worth least h = omega (arith, least, h)
 

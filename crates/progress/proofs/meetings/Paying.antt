@@ -15,11 +15,11 @@ use Rattle.progress.specs.Writers.{MeetsSeldom}
 use Rattle.op_machine.specs.theorem.Whole.{hindrance_worth, most_meets, most_worth}
 use Rattle.progress.specs.WritersAmong.{meets, meets_at}
 use Rattle.progress.proofs.Counted.{AreDistinct, Each, IsNotAmong}
-use Rattle.progress.proofs.Hindering.{among_hinder, beside, changes_at, changes_by, beside_by, hinder, is_change, takes_beside}
+use Rattle.progress.proofs.Hindering.{beside, changes_at, changes_by, beside_by, hinder, is_change, takes_beside}
 use Rattle.progress.proofs.Numbered.{IsIn}
 use Rattle.progress.proofs.Payers.{Pays, all_distinct, paid_by}
 use Rattle.progress.proofs.Spans.{missed_by_take, of_own}
-use Rattle.progress.proofs.Tallies.{counted_range, listed, passes, passes_in, tally, tally_either, tally_most}
+use Rattle.progress.proofs.Tallies.{counted_range, passes, passes_in, tally, tally_either, tally_most}
 
 -- a list of places, by a test
 pub record Parted (t : ℕ → Bool) (P : ℕ → Type 0) (cs : List ℕ) : Type 0 where
