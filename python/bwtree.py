@@ -230,11 +230,12 @@ class Tree:
     def __enter__(self) -> "Tree":
         return self
 
-    def __exit__(self, *_: object) -> None:
+    def __exit__(self, kind: Optional[type[BaseException]], *_: object) -> None:
+        """Closes the tree. An exception that ends the block is raised in any case; where a seat is lent then, the tree stays open."""
         try:
             self.close()
         except Error as error:
-            if error.status != _CLOSED:
+            if kind is None and error.status != _CLOSED:
                 raise
 
     def __del__(self) -> None:

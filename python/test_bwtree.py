@@ -165,6 +165,21 @@ class Leases(unittest.TestCase):
             tree.close()
 
 
+    def test_exception_in_a_block(self):
+        """It is raised in place of what a lent seat makes of the closing, which is raised where there is no other one."""
+        with self.assertRaises(RuntimeError):
+            with bwtree.Tree(seats=1, keys=10) as tree:
+                seat = tree.seat()
+                raise RuntimeError("of the program")
+        seat[b"a"] = b"x"
+        seat.close()
+        tree.close()
+        with self.assertRaises(bwtree.Error) as raised:
+            with bwtree.Tree(seats=1, keys=10) as tree:
+                seat = tree.seat()
+        self.assertEqual(raised.exception.status, 18)
+
+
 def upsert(seat, key, value):
     """A write is told Full while another thread stands still inside an operation: it is made again until that thread goes on."""
     while True:
