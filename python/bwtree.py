@@ -17,7 +17,7 @@ import ctypes
 import os
 import queue
 from collections.abc import ItemsView, Iterable, Iterator, MutableMapping, ValuesView
-from typing import Any, NamedTuple, Optional
+from typing import Any, NamedTuple, NoReturn, Optional
 
 __all__ = ["Error", "Full", "Room", "Seat", "Swapped", "Tree", "MAX_LENGTH"]
 
@@ -227,6 +227,9 @@ class Tree:
         self._pairs, self._count.value = _NO_PAIRS, 1
         return pairs
 
+    def __reduce__(self) -> NoReturn:
+        raise TypeError("a tree can't be copied or pickled")
+
     def __enter__(self) -> "Tree":
         return self
 
@@ -246,8 +249,10 @@ class Tree:
 class Seat(MutableMapping[bytes, bytes]):
     """A seat of a tree, for one thread at a time. It goes back to its tree by `close`, at the end of a `with`, or when nothing refers to it."""
 
+    _tree: Optional[Tree] = None
+
     def __init__(self, tree: Tree, number: int):
-        self._tree: Optional[Tree] = tree
+        self._tree = tree
         self._number = number
 
     def _handle(self) -> "ctypes._Pointer[_Tree]":
@@ -381,6 +386,9 @@ class Seat(MutableMapping[bytes, bytes]):
             # (an interrupt in the course of another one may have left an operation)
             _resumed(ctypes.pointer(tree._handle), self._number, _Bytes(), _Page())
             tree._free.put(self._number)
+
+    def __reduce__(self) -> NoReturn:
+        raise TypeError("a seat can't be copied or pickled")
 
     def __enter__(self) -> "Seat":
         return self

@@ -1,7 +1,9 @@
 """Tests of bwtree.py: what a tree and its seats answer and raise, leases, and threads."""
 
 import array
+import copy
 import gc
+import pickle
 import queue
 import threading
 import time
@@ -178,6 +180,18 @@ class Leases(unittest.TestCase):
             with bwtree.Tree(seats=1, keys=10) as tree:
                 seat = tree.seat()
         self.assertEqual(raised.exception.status, 18)
+
+
+    def test_copies(self):
+        """Neither a tree nor a seat is copied: two objects of one handle would close it twice, and lend one seat to two threads."""
+        with bwtree.Tree(seats=1, keys=10) as tree, tree.seat() as seat:
+            seat[b"a"] = b"x"
+            for it in (tree, seat):
+                for copied in (copy.copy, copy.deepcopy, pickle.dumps):
+                    with self.assertRaises(TypeError):
+                        copied(it)
+            gc.collect()
+            self.assertEqual(seat[b"a"], b"x")
 
 
 def upsert(seat, key, value):
