@@ -14,8 +14,10 @@ The library is looked for where BWTREE_LIB says, a file or a folder, then where 
 
 import contextlib
 import ctypes
+import functools
 import os
 import queue
+import weakref
 from collections.abc import ItemsView, Iterable, Iterator, MutableMapping, ValuesView
 from typing import Any, NamedTuple, NoReturn, Optional
 
@@ -178,6 +180,8 @@ class Tree:
             _must(propose(seats, keys, ctypes.byref(limits)))
         self._handle = _Tree()
         self._free: "queue.SimpleQueue[int]" = queue.SimpleQueue()
+        # what gives each lent seat back when nothing refers to it any more
+        self._leases: "dict[int, weakref.ref[Seat]]" = {}
         self._seats = 0
         # what a closing hands over, until it is told; there is less room than pairs where nothing is
         self._pairs: "ctypes.Array[_Pair]" = _NO_PAIRS
@@ -191,21 +195,22 @@ class Tree:
 
     def seat(self, timeout: Optional[float] = None) -> "Seat":
         """Leases a seat; waits for one where none is free, at most so many seconds, and then raises queue.Empty."""
-        return Seat(self, self._free.get(timeout=timeout))
+        return Seat(self, timeout)
 
     @contextlib.contextmanager
     def _all_seats(self) -> Iterator["ctypes._Pointer[_Tree]"]:
         """The handle, while all seats are taken. Raises Error where one is lent."""
-        taken: list[int] = []
+        seats: list[Seat] = []
         try:
-            while len(taken) < self._seats:
-                taken.append(self._free.get_nowait())
-            yield ctypes.pointer(self._handle)
+            while len(seats) < self._seats:
+                seats.append(Seat(self, 0))
         except queue.Empty:
+            _give_back(seats)
             raise Error(_BUSY) from None
+        try:
+            yield ctypes.pointer(self._handle)
         finally:
-            for number in taken:
-                self._free.put(number)
+            _give_back(seats)
 
     def close(self) -> None:
         """Closes the tree and frees it. Raises Error where a seat is lent or the tree is closed."""
@@ -251,9 +256,19 @@ class Seat(MutableMapping[bytes, bytes]):
 
     _tree: Optional[Tree] = None
 
-    def __init__(self, tree: Tree, number: int):
+    def __init__(self, tree: Tree, timeout: Optional[float]):
+        # An exception that a signal's handler raises, as of Ctrl-C, loses no number: taking it from the tree's queue into `numbers` and giving it back are one
+        # call of C each, which no handler interrupts. It is given back once, by `close` or when nothing refers to the seat.
+        numbers: list[int] = []
+        self._given_back = map(tree._free.put, iter(numbers))
+        self._lease = weakref.ref(self, functools.partial(next, self._given_back))
+        take = functools.partial(tree._free.get, timeout=timeout)
+        next(map(numbers.append, iter(take, _NOTHING)))
+        self._number = numbers[0]
+        tree._leases[self._number] = self._lease
         self._tree = tree
-        self._number = number
+        # (an interrupt in the course of another one may have left an operation)
+        _resumed(ctypes.pointer(tree._handle), self._number, _Bytes(), _Page())
 
     def _handle(self) -> "ctypes._Pointer[_Tree]":
         if self._tree is None:
@@ -381,11 +396,8 @@ class Seat(MutableMapping[bytes, bytes]):
 
     def close(self) -> None:
         """Gives the seat back to its tree."""
-        tree, self._tree = self._tree, None
-        if tree is not None:
-            # (an interrupt in the course of another one may have left an operation)
-            _resumed(ctypes.pointer(tree._handle), self._number, _Bytes(), _Page())
-            tree._free.put(self._number)
+        self._tree = None
+        next(self._given_back, None)
 
     def __reduce__(self) -> NoReturn:
         raise TypeError("a seat can't be copied or pickled")
@@ -396,8 +408,10 @@ class Seat(MutableMapping[bytes, bytes]):
     def __exit__(self, *_: object) -> None:
         self.close()
 
-    def __del__(self) -> None:
-        self.close()
+
+def _give_back(seats: list[Seat]) -> None:
+    for seat in seats:
+        seat.close()
 
 
 class _Items(ItemsView[bytes, bytes]):

@@ -5,6 +5,8 @@ import copy
 import gc
 import pickle
 import queue
+import random
+import signal
 import threading
 import time
 import unittest
@@ -192,6 +194,47 @@ class Leases(unittest.TestCase):
                         copied(it)
             gc.collect()
             self.assertEqual(seat[b"a"], b"x")
+
+
+    def test_dropped(self):
+        tree = bwtree.Tree(seats=1, keys=10)
+        seat = tree.seat()
+        del seat
+        gc.collect()
+        tree.seat(timeout=0).close()
+        tree.close()
+
+    @unittest.skipUnless(hasattr(signal, "setitimer"), "no timers here")
+    def test_exceptions_from_signals(self):
+        """A signal's handler may raise at any time, as Ctrl-C does: no seat is lost, and all can be closed."""
+
+        class Stop(Exception):
+            pass
+
+        def stop(*_):
+            raise Stop
+
+        def use(tree):
+            for _ in range(10000):
+                with tree.seat() as seat:
+                    seat[b"a"] = b"x"
+                    seat.get(b"a")
+
+        tree, draws = bwtree.Tree(seats=2, keys=10), random.Random(1)
+        before = signal.signal(signal.SIGALRM, stop)
+        try:
+            for _ in range(500):
+                try:
+                    signal.setitimer(signal.ITIMER_REAL, draws.uniform(0.00002, 0.0006))
+                    use(tree)
+                except Stop:
+                    pass
+        finally:
+            signal.setitimer(signal.ITIMER_REAL, 0)
+            signal.signal(signal.SIGALRM, before)
+        gc.collect()
+        self.assertEqual(tree._free.qsize(), 2)
+        tree.close()
 
 
 def upsert(seat, key, value):
