@@ -55,7 +55,8 @@ module _ (run : List Entry) (actor : ℕ) where
   own_still : (n : ℕ) (e : Entry) → slice_get run n ≡ Some e → is_entry_of actor e ≡ false → own (suc n) ≡ own n
   own_still n e at apart =
       ap (λ es. length (own_entries actor es)) (take-one run n e at)
-      ∙ ap length (own_append actor (take n run) (e ∷ []) ∙ ap (λ (b : Bool). own_entries actor (take n run) ++ (if b then e ∷ [] else [])) apart ∙ append-nil (own_entries actor (take n run)))
+      ∙ ap length
+      (own_append actor (take n run) (e ∷ []) ∙ ap (λ (b : Bool). own_entries actor (take n run) ++ (if b then e ∷ [] else [])) apart ∙ append-nil (own_entries actor (take n run)))
 
   steps_next : (start n : ℕ) (e : Entry) → start ≤ n → slice_get run n ≡ Some e → steps start (suc n) ≡ steps start n + cond (is_step_of actor e) 1 0
   steps_next start n e le at =
@@ -156,7 +157,8 @@ record StepsOfSpent (old new : Seat) (command : Command) (budget : ℕ) : Type 0
   own_step : IsOwnStep new.seen (operation_at new.actor start command) last
   counted : steps_from new.seen new.actor start last ≡ budget
 
-spent_steps : (old new : Seat) (command : Command) (budget : ℕ) → IsRun new.limits new.seen → IsSame old new → unfinished_command old ≡ None → 0 < budget → IsSpent old command budget new
+spent_steps : (old new : Seat) (command : Command) (budget : ℕ) → IsRun new.limits new.seen → IsSame old new → unfinished_command old ≡ None
+    → 0 < budget → IsSpent old command budget new
     → StepsOfSpent old new command budget
 spent_steps old new command budget is_run same idle some spent =
     by_now (along new.seen new.actor (length old.seen) (AtRest new.seen new.actor (length old.seen) (length olds)) (UnderWay new.seen new.actor (length old.seen) (length olds)) new.limits is_run
@@ -172,7 +174,8 @@ spent_steps old new command budget is_run same idle some spent =
         sym (along_append [] (own_entries new.actor old.seen) (own_entries new.actor spent.grows.0)) ∙ sym (ap (calls_along []) (own_append new.actor old.seen spent.grows.0))
         ∙ sym (ap (calls_of new.actor) spent.grows.1) ∙ spent.calls ∙ ap (λ a. calls_of a old.seen ++ (command, None) ∷ []) (sym same.actor)
 
-    by_now : Now new.seen new.actor (length old.seen) (AtRest new.seen new.actor (length old.seen) (length olds)) (UnderWay new.seen new.actor (length old.seen) (length olds)) new.seen (calls_along olds (own_entries new.actor spent.grows.0)) → StepsOfSpent old new command budget
+    by_now : Now new.seen new.actor (length old.seen) (AtRest new.seen new.actor (length old.seen) (length olds)) (UnderWay new.seen new.actor (length old.seen) (length olds)) new.seen
+        (calls_along olds (own_entries new.actor spent.grows.0)) → StepsOfSpent old new command budget
     by_now (inl (none, rest)) = absurd (let both : None ≡ Some command = sym none ∙ spent.busy in cc both)
     by_now (inr busy) =
         let long : length (busy.calls ++ (busy.asked, None) ∷ []) ≡ suc (length busy.calls) = pushed_length busy.calls (busy.asked, None) in

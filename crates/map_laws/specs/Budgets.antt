@@ -18,6 +18,6 @@ ChangesAtMost old new most = (changes : List ℕ) → AreAmong new.limits new.se
 -- A lookup or a cursor page is done whose budget is larger than what one memory costs a reader, as much again for each change of the tree meanwhile,
 -- and three steps.
 abbrev pub LookupsAreDone : Type 0
-LookupsAreDone = (old new : Seat) (command : Command) (budget most : ℕ) (called : Called) → IsOneHistory new.limits new.seen → IsSame old new → unfinished_command old ≡ None
-    → is_writer command ≡ false → IsCalled old command budget called new → ChangesAtMost old new most → one_memory new.limits * (most + 1) + 3 < budget
+LookupsAreDone = (old new : Seat) (command : Command) (budget most : ℕ) (called : Called) → IsOneHistory new.limits new.seen → IsSame old new
+    → unfinished_command old ≡ None → is_writer command ≡ false → IsCalled old command budget called new → ChangesAtMost old new most → one_memory new.limits * (most + 1) + 3 < budget
     → (reply : Reply) × (called ≡ Done reply)

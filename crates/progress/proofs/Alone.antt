@@ -1,6 +1,8 @@
 -- An operation that runs alone ends, where nobody has placed a removal.
-use Rattle.progress.proofs.Words.{◌≡◌, ◌<◌, ◌≤◌, ◌+◌, ◌-◌, ◌*◌, ℕ, suc, List, Some, true, cond, length, sym, ap, subst, ◌∙◌, inl, inr, arith, mul-le-mul_left, cases_lt, All-weaker, count_by}
-use Rattle.progress.proofs.Words.{◌||◌, slice_get, slice_range, Limits, Whether, TakePid, TakeRow, Entry, Begin, Step, cause_worth, Happens, memory_at, HasFewChanges, AreAmong, ChangesTree, IsDirect, IsRun, KeepsPhases}
+use Rattle.progress.proofs.Words.{◌≡◌, ◌<◌, ◌≤◌, ◌+◌, ◌-◌, ◌*◌, ℕ, suc, List, Some, true, cond, length, sym, ap, subst, ◌∙◌, inl, inr, arith}
+use Rattle.progress.proofs.Words.{mul-le-mul_left, cases_lt, All-weaker, count_by}
+use Rattle.progress.proofs.Words.{◌||◌, slice_get, slice_range, Limits, Whether, TakePid, TakeRow, Entry, Begin, Step, cause_worth, Happens}
+use Rattle.progress.proofs.Words.{memory_at, HasFewChanges, AreAmong, ChangesTree, IsDirect, IsRun, KeepsPhases}
 use Rattle.progress.proofs.Words.{is_begin, steps_from, Hinders, RunsAlone, Command}
 use Rattle.op_machine.specs.theorem.UntilRemoval.{EndAloneUntilRemoval}
 use Rattle.progress.proofs.Hindering.{among_hinder, changes_at, hinder, takes_beside, paid_by_hinder}
@@ -78,7 +80,8 @@ enough limits worth hindrances steps paid =
     let grown : worth * (hindrances + 1) ≤ worth * (hindrances + 154 * limits.pids + 8 * limits.actors + 1) = mul-le-mul_left worth (omega arith) in
     omega (arith, paid, grown)
 
-pub lone_end : (limits : Limits) (entries : List Entry) → IsRun limits entries → KeepsPhases limits entries → IsDirect limits entries → HasFewChanges limits entries → EndAloneUntilRemoval limits entries
+pub lone_end : (limits : Limits) (entries : List Entry) → IsRun limits entries → KeepsPhases limits entries → IsDirect limits entries
+    → HasFewChanges limits entries → EndAloneUntilRemoval limits entries
 lone_end limits entries run keeps direct changes = record {
   few = λ op m n begun after own alone none.
       let list = listed (hinder limits entries op.actor) op.start (m - op.start) in

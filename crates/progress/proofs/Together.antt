@@ -1,7 +1,9 @@
 -- All operations together take few steps, where nobody has placed a removal.
 use Rattle.std.proofs.Common.{◌≡◌, ◌<◌, ◌≤◌, ◌+◌, ◌-◌, ◌*◌, ◌⊎◌, ℕ, zero, suc, List, [], ◌∷◌, Option, None, Some, Bool, true, false, cond, take, refl, sym, ap, ◌∙◌, inl, inr, arith}
-use Rattle.progress.proofs.Words.{mul-add, mul-le-mul_left, cases_lt, eqb_tells, All-weaker, count_by, ◌==◌, slice_get, Limits, Command, Entry, Begin, Step, cause_worth, IsRun, Happens}
-use Rattle.progress.proofs.Words.{command_of, commands_after, HasFewChanges, IsDirect, KeepsPhases, is_step_of, IsOperation, IsOwnStep, Operation, get_take, take_past}
+use Rattle.progress.proofs.Words.{mul-add, mul-le-mul_left, cases_lt, eqb_tells, All-weaker, count_by, ◌==◌, slice_get, Limits, Command, Entry, Begin}
+use Rattle.progress.proofs.Words.{Step, cause_worth, IsRun, Happens}
+use Rattle.progress.proofs.Words.{command_of, commands_after, HasFewChanges, IsDirect, KeepsPhases, is_step_of, IsOperation, IsOwnStep, Operation}
+use Rattle.progress.proofs.Words.{get_take, take_past}
 use Rattle.op_machine.specs.theorem.Progress.{AreAmong, ChangesTree, is_begin, is_end, is_step, steps_from, takes_number}
 use Rattle.op_machine.specs.theorem.UntilRemoval.{AreLockFreeUntilRemoval, PlacesNoRemoval}
 use Rattle.progress.proofs.Begun.{LastBegin, actor_below, begins_here, command_next, last_begin, one_on}
@@ -336,7 +338,8 @@ by_ends limits worth steps begun ended most few =
     (worth) (omega (arith, inner)) in
     omega (arith, few, outer)
 
-pub lock_free : (limits : Limits) (entries : List Entry) → IsRun limits entries → KeepsPhases limits entries → IsDirect limits entries → HasFewChanges limits entries → AreLockFreeUntilRemoval limits entries
+pub lock_free : (limits : Limits) (entries : List Entry) → IsRun limits entries → KeepsPhases limits entries → IsDirect limits entries
+    → HasFewChanges limits entries → AreLockFreeUntilRemoval limits entries
 lock_free limits entries run keeps direct changes = record {
   few = λ n none. all_few limits entries run (cause_worth limits) n (pays n none) changes;
   ended =

@@ -1,6 +1,7 @@
 -- From any later entry on: one take may miss by what the operation had read before, and what hinders it since pays for the rest.
 use Rattle.std.proofs.Common.{◌≡◌, ◌<◌, ◌≤◌, ◌+◌, ◌-◌, ◌*◌, ◌⊎◌, ℕ, zero, suc, List, [], ◌∷◌, Bool, true, false, length, refl, ap, subst, ◌∙◌, inl, inr, arith}
-use Rattle.progress.proofs.Words.{either, cases_lt, All, IsStrictlyIncreasing, Limits, is_writer, Whether, Entry, IsRun, IsCause, IsDirect, IsOperation, IsOwnStep, Operation, steps_from}
+use Rattle.progress.proofs.Words.{either, cases_lt, All, IsStrictlyIncreasing, Limits, is_writer, Whether, Entry, IsRun, IsCause, IsDirect}
+use Rattle.progress.proofs.Words.{IsOperation, IsOwnStep, Operation, steps_from}
 use Rattle.bw_model.specs.declared.step.Step.TheVariants.{Exchange}
 use Rattle.op_machine.specs.theorem.ReadersEnd.{ReadersEnd}
 use Rattle.op_machine.specs.theorem.Whole.{hindrance_worth}
@@ -10,7 +11,8 @@ use Rattle.progress.proofs.Hindering.{beside, hinder, is_change}
 use Rattle.progress.proofs.Numbered.{IsIn, numbered}
 use Rattle.progress.proofs.Payers.{MissesBefore, Pays, all_distinct, one_miss, same_cause}
 use Rattle.progress.proofs.Tallies.{tally, tally_most, tally_same, tally_split, tally_within}
-use Rattle.progress.proofs.meetings.Paying.{all_of, beside_pays, changes_count, each_mapped, from_on, gone, meets_here, met_few, miss_pays, other_false, parted, reader_scaled, told, two_tallies, writer_scaled}
+use Rattle.progress.proofs.meetings.Paying.{all_of, beside_pays, changes_count, each_mapped, from_on, gone, meets_here, met_few, miss_pays}
+use Rattle.progress.proofs.meetings.Paying.{other_false, parted, reader_scaled, told, two_tallies, writer_scaled}
 
 module _ (limits : Limits) (entries : List Entry) (run : IsRun limits entries) (direct : IsDirect limits entries) (op : Operation) (begun : IsOperation entries op)
     (m n : ℕ) (le : m ≤ n) where
@@ -104,7 +106,8 @@ module _ (limits : Limits) (entries : List Entry) (run : IsRun limits entries) (
       let h = ends.since op m n begun reader after le own in
       let changed = changes_count limits entries m n h.0 h.1 in
       let both = two_tallies limits entries op.actor m (suc n - m) in
-      reader_scaled limits op.command (steps_from entries op.actor m n) (length h.0 + 1) (tally (hinder limits entries op.actor) m (suc n - m) + 2) reader (omega (arith, changed, both)) (omega arith) h.2
+      reader_scaled limits op.command (steps_from entries op.actor m n) (length h.0 + 1) (tally (hinder limits entries op.actor) m (suc n - m) + 2) reader
+      (omega (arith, changed, both)) (omega arith) h.2
 
   pub paid_since : ReadersEnd limits entries → MeetsSeldom limits entries → op.start < m → IsOwnStep entries op n
       → steps_from entries op.actor m n ≤ hindrance_worth limits op.command * (tally (hinder limits entries op.actor) m (suc n - m) + 2)

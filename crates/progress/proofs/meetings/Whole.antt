@@ -1,7 +1,8 @@
 -- Changes of the tree and numbers that others take pay for all steps of a run, an operation that runs alone ends, and all together are lock-free, where
 -- writers meet what is gone seldom.
 use Rattle.std.proofs.Common.{◌<◌, ◌≤◌, ◌+◌, ◌-◌, ◌*◌, ℕ, suc, List, length, take, inl, inr, arith}
-use Rattle.progress.proofs.Words.{mul-le-mul_left, cases_lt, count_by, Limits, Entry, IsRun, HasFewChanges, IsDirect, IsOperation, IsOwnStep, Operation, is_begin, steps_from}
+use Rattle.progress.proofs.Words.{mul-le-mul_left, cases_lt, count_by, Limits, Entry, IsRun, HasFewChanges, IsDirect, IsOperation, IsOwnStep}
+use Rattle.progress.proofs.Words.{Operation, is_begin, steps_from}
 use Rattle.op_machine.specs.theorem.Progress.{is_end, is_step}
 use Rattle.op_machine.specs.theorem.ReadersEnd.{ReadersEnd}
 use Rattle.op_machine.specs.theorem.Whole.{AlwaysEndAlone, AreLockFree, OperationsEnd, hindrance_worth, most_worth}
@@ -44,7 +45,8 @@ module _ (limits : Limits) (entries : List Entry) (run : IsRun limits entries) (
           | inr le ↦ (
             list.places,
             among_hinder limits entries op.actor op.start (m - op.start) m (omega arith) list,
-            lone_pays limits entries changes (hindrance_worth limits op.command) op.actor op.start m n (steps_from entries op.actor op.start n) (length list.places) after (omega arith) apart list.counts paid,
+            lone_pays limits entries changes (hindrance_worth limits op.command) op.actor op.start m n (steps_from entries op.actor op.start n) (length list.places) after (omega arith) apart
+                list.counts paid,
           )
         ];
     since = λ op m n begun after le own apart.
