@@ -25,18 +25,18 @@ stands_by (Writing row first words) stands = tt
 stands_by Noted stands = absurd (stands refl)
 
 -- what a part has seen begins the longest run
-begun_by : (limits : Limits) (law : List Entry → Type 0) (s : Moment) (now : Running limits law s) (actor : ℕ) (seen : List Entry)
+pub begun_by : (limits : Limits) (law : List Entry → Type 0) (s : Moment) (now : Running limits law s) (actor : ℕ) (seen : List Entry)
     → HasSeen s.views actor seen → StartsWith now.run seen
 begun_by limits law s now actor seen has =
     let fit : PartFits limits s.words now.run has.part = each_get (PartFits limits s.words now.run) has.view has.place has.part (now.each has.id has.view has.at) has.there in
     subst (StartsWith now.run) has.saw (starts has.part.reach has.part.actor has.part.seen now.run fit.extends)
 
-cancel : (front one other : List Entry) → front ++ one ≡ front ++ other → one ≡ other
+pub cancel : (front one other : List Entry) → front ++ one ≡ front ++ other → one ≡ other
 cancel [] one other e = e
 cancel (entry ∷ front) one other e = cancel front one other (let same = e in cc)
 
 -- of two fronts of one run the first begins the second, or goes on behind it
-fronts : (first second more rest : List Entry) → first ++ more ≡ second ++ rest → StartsWith second first ⊎ ((entry : Entry) × (behind : List Entry) × (first ≡ second ++ entry ∷ behind))
+pub fronts : (first second more rest : List Entry) → first ++ more ≡ second ++ rest → StartsWith second first ⊎ ((entry : Entry) × (behind : List Entry) × (first ≡ second ++ entry ∷ behind))
 fronts [] second more rest e = inl (second, refl)
 fronts (entry ∷ first) [] more rest e = inr (entry, first, refl)
 fronts (one ∷ first) (other ∷ second) more rest e = by (fronts first second more rest (let same = e in cc))

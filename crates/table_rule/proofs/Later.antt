@@ -21,7 +21,7 @@ use Rattle.table_rule.specs.declared.view.Reach.{Reach}
 use Rattle.table_rule.specs.declared.view.Reach.TheVariants.{Idle, Writing, Noted}
 use Rattle.table_rule.specs.declared.view.Part.{Part}
 use Rattle.table_rule.specs.Growing.{HasSeen, SeesOn}
-use Rattle.table_rule.specs.Moments.{GoesOnPlacing, IsLater, Moment, Operates, OperationsTurn, TakesStep, Turns, TurnsOperate, same, next, steps, places, sees, looks, turns, cuts, notes, joins, seats, lets_go}
+use Rattle.table_rule.specs.Moments.{GoesOnPlacing, IsLater, Moment, Operates, AllowedOperate, OperationsTurn, TakesStep, Turns, with_views, same, next, steps, places, sees, looks, turns, cuts, notes, joins, seats, lets_go}
 use Rattle.table_rule.specs.Running.{Each, ExtendsFor, StartsWith}
 use Rattle.table_rule.specs.Steps.{Took, Watched, with_step, begin_before}
 use Rattle.table_rule.specs.Views.{IsRefreshed, Mine, SitsAt, alone, first_part, other_parts, part, part_note, seen_of, with_run}
@@ -35,14 +35,14 @@ starts (Writing row first words) actor seen run goes = (goes.0, goes.1)
 starts Noted actor seen run goes = goes
 
 -- Of each part of the view there is one of the same actor in the other view, which has seen that and maybe more.
-abbrev PartsOn : List Part → List Part → Type 0
+abbrev pub PartsOn : List Part → List Part → Type 0
 PartsOn view view' = (place : ℕ) (old : Part) → slice_get view place ≡ Some old
     → (place' : ℕ) × (new : Part) × (slice_get view' place' ≡ Some new) × (new.actor ≡ old.actor) × StartsWith new.seen old.seen
 
-abbrev SeeOn : List (List Part) → List (List Part) → Type 0
+abbrev pub SeeOn : List (List Part) → List (List Part) → Type 0
 SeeOn views views' = (actor : ℕ) (seen : List Entry) → HasSeen views actor seen → (run : List Entry) × HasSeen views' actor run × StartsWith run seen
 
-only : (one other : Part) (place : ℕ) → slice_get (one ∷ []) place ≡ Some other → one ≡ other
+pub only : (one other : Part) (place : ℕ) → slice_get (one ∷ []) place ≡ Some other → one ≡ other
 only one other zero there = cc
 only one other (suc place) there = cc
 
@@ -71,7 +71,7 @@ mapped run (first ∷ view) each (suc place) old there = let rest = mapped run v
 stays_on : (view : List Part) → PartsOn view view
 stays_on view place old there = (place, old, there, refl, starts_self old.seen)
 
-turns_on : (law : Limits → List Entry → Type 0) (me me' : Mine) → Turns law me me' → PartsOn me.0 me'.0
+pub turns_on : (law : Limits → List Entry → Type 0) (me me' : Mine) → Turns law me me' → PartsOn me.0 me'.0
 turns_on law me me' (steps h) = alone_on h.limits h.actor h.reach Idle me me' h.sat h.sits (took_grows law me me' h)
 turns_on law me me' (places h) = alone_on h.limits h.actor h.reach h.reach' me me' h.sat h.sits (subst (λ seen. StartsWith seen (seen_of me)) (sym h.saw) (starts_self (seen_of me)))
 turns_on law me me' (sees limits h) = subst (λ (m : Mine). PartsOn me.0 m.0) (sym h.saw) (mapped h.run me.0 h.extends)
@@ -99,7 +99,7 @@ on_then one two three first second actor seen h =
     let now = first actor seen h in
     let later = second actor now.0 now.1 in (later.0, later.1, starts_on seen now.0 later.0 now.2 later.2)
 
-on_set : (views : List (List Part)) (id : ℕ) (view view' : List Part) → get_elem? views id ≡ some view → PartsOn view view' → SeeOn views (set views id view')
+pub on_set : (views : List (List Part)) (id : ℕ) (view view' : List Part) → get_elem? views id ≡ some view → PartsOn view view' → SeeOn views (set views id view')
 on_set views id view view' at on actor seen h = dite (ℕ_discrete h.id id)
     (λ e. let is : view ≡ h.view = same_view views id h.id view h.view at h.at e in
     let now = on h.place h.part (subst (λ (v : List Part). slice_get v h.place ≡ Some h.part) (sym is) h.there) in
@@ -260,10 +260,25 @@ operations_turn law = record {
   refreshes = λ limits made me me' found has h. let first : Part = has.0 in sees first.limits (h first has.1 has.2);
 }
 
-pub turns_operate : (law : Limits → List Entry → Type 0) → TurnsOperate law
-turns_operate law limits slots id word me f allows s rule count at small =
-    let did = allows s rule count at small in (
-      stepped s word (f (get_or s.words word 0)) id me.1 did.0 did.1,
-      turns id word (f (get_or s.words word 0)) me did.0 did.1 at refl did.4,
-      did.3,
-    )
+pub allowed_operate : (law : Limits → List Entry → Type 0) → AllowedOperate law
+allowed_operate law = record {
+  turns = λ limits slots id word me f allows s rule count at small.
+      let did = allows s rule count at small in (
+        stepped s word (f (get_or s.words word 0)) id me.1 did.0 did.1,
+        turns id word (f (get_or s.words word 0)) me did.0 did.1 at refl did.4,
+        did.3,
+      );
+  cuts = λ limits id view splits s rule at. (with_views s (set s.views id (first_part view) ++ other_parts view ∷ []), cuts id view at refl, splits s rule at);
+  notes = λ limits id view splits s rule at. (with_views s (set s.views id view ++ part_note view ∷ []), notes id view at refl, splits s rule at);
+  joins = λ limits id other view others joined s rule at ne there. (
+    with_views s (set (set s.views id (view ++ others)) other []),
+    joins id other view others at ne (sym (set_else s.views id other (view ++ others) ne) ∙ there) refl,
+    joined s rule at ne there,
+  );
+  seats = λ limits slots word enters s rule count small.
+      let new = enters s rule count small in (
+        with_views s (s.views ++ new.0 ∷ []),
+        seats (ap (λ (me : Mine). with_views s (s.views ++ me.0 ∷ [])) new.2),
+        new.1,
+      );
+}

@@ -13,3 +13,4 @@ mod Left
 mod Longest
 mod Later
 mod Growing
+mod Extended

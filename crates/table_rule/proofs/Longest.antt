@@ -48,7 +48,7 @@ ends_by limits entry [] all = (entry_actor entry, all.0, refl)
 ends_by limits first (second ∷ rest) all = ends_by limits second rest all.1
 
 -- Some actor has all of the run, wherever its seat has seen it up to its own last entry.
-whole : (limits : Limits) (run : List Entry) → Each (λ one. entry_actor one < limits.actors) run → (actor : ℕ) × (actor < limits.actors) × ((seen : List Entry) → Extends actor seen run → seen ≡ run)
+pub whole : (limits : Limits) (run : List Entry) → Each (λ one. entry_actor one < limits.actors) run → (actor : ℕ) × (actor < limits.actors) × ((seen : List Entry) → Extends actor seen run → seen ≡ run)
 whole limits [] all = (0, omega (arith, limits.allowed.some_actor), nothing)
   where
     nothing : (seen : List Entry) → Extends 0 seen [] → seen ≡ []
@@ -64,7 +64,7 @@ whole limits (entry ∷ run) all =
     )
 
 -- the part by which the actor stands in a view
-in_view : (actor : ℕ) (view : List Part) → 1 ≤ times actor view → (place : ℕ) × (part : Part) × (slice_get view place ≡ Some part) × (is_at actor part.actor part.reach ≡ true)
+pub in_view : (actor : ℕ) (view : List Part) → 1 ≤ times actor view → (place : ℕ) × (part : Part) × (slice_get view place ≡ Some part) × (is_at actor part.actor part.reach ≡ true)
 in_view actor [] stands = absurd (omega arith)
 in_view actor (part ∷ parts) stands = by (is_at actor part.actor part.reach) refl (λ more. in_view actor parts more)
   where
@@ -75,7 +75,7 @@ in_view actor (part ∷ parts) stands = by (is_at actor part.actor part.reach) r
         let none : mark (is_at actor part.actor part.reach) ≡ 0 = ap mark is in
         let rest = later (omega arith) in (suc rest.0, rest.1, rest.2, rest.3)
 
-in_views : (actor : ℕ) (views : List (List Part)) → 1 ≤ everywhere actor views → (id : ℕ) × (view : List Part) × (get_elem? views id ≡ some view) × (1 ≤ times actor view)
+pub in_views : (actor : ℕ) (views : List (List Part)) → 1 ≤ everywhere actor views → (id : ℕ) × (view : List Part) × (get_elem? views id ≡ some view) × (1 ≤ times actor view)
 in_views actor [] stands = absurd (omega arith)
 in_views actor (view ∷ views) stands = by (times actor view) refl (λ more. in_views actor views more)
   where
@@ -84,7 +84,7 @@ in_views actor (view ∷ views) stands = by (times actor view) refl (λ more. in
     by zero none later = let rest = later (omega arith) in (suc rest.0, rest.1, rest.2, rest.3)
     by (suc n) is later = (0, view, refl, omega arith)
 
-stands_as : (actor other : ℕ) (reach : Reach) → is_at actor other reach ≡ true → Stands reach × (other ≡ actor)
+pub stands_as : (actor other : ℕ) (reach : Reach) → is_at actor other reach ≡ true → Stands reach × (other ≡ actor)
 stands_as actor other Idle is = (tt, eqb-true other actor is)
 stands_as actor other (Writing row first words) is = (tt, eqb-true other actor is)
 stands_as actor other Noted is = cc

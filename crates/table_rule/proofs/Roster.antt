@@ -26,7 +26,7 @@ set_at [] i v w e = absurd (some-ne-none v (sym e))
 set_at (x ∷ xs) zero v w e = refl
 set_at (x ∷ xs) (suc i) v w e = set_at xs i v w e
 
-each_left : {A : Type 0} (P : A → Type 0) (xs ys : List A) → Each P (xs ++ ys) → Each P xs
+pub each_left : {A : Type 0} (P : A → Type 0) (xs ys : List A) → Each P (xs ++ ys) → Each P xs
 each_left P [] ys t = tt
 each_left P (x ∷ xs) ys t = (t.0, each_left P xs ys t.1)
 

@@ -5,3 +5,4 @@ pub mod Closing
 pub mod Longest
 pub mod Moments
 pub mod Growing
+pub mod Examples

@@ -2,7 +2,7 @@
 use Rattle.std.specs.Prelude.{◌≡◌, ◌≢◌, ◌<◌, ℕ, List, [], ◌∷◌, ◌++◌, Option, length, slice_index, slice_set}
 use mathlib.Core.Option.{some}
 use lib.ListN.{get_elem?}
-use Rattle.atomic_table.specs.Table.{Act, Allows, State, Step as Made, carried_after, stepped}
+use Rattle.atomic_table.specs.Table.{Act, Allows, Enters, Joins, Splits, State, Step as Made, carried_after, stepped}
 use Rattle.bw_model.specs.declared.command.Command.{Command}
 use Rattle.bw_model.specs.declared.command.Reply.{Reply}
 use Rattle.bw_model.specs.declared.step.Answer.{Answer}
@@ -18,7 +18,7 @@ use Rattle.table_rule.specs.declared.view.Reach.{Reach}
 use Rattle.table_rule.specs.declared.view.Reach.TheVariants.{Idle, Noted, Writing}
 use Rattle.table_rule.specs.Running.{Running}
 use Rattle.table_rule.specs.Steps.{Acts, Fills, Looks, Measures, Places, ReadsRow, Took, Watches}
-use Rattle.table_rule.specs.Views.{HasPart, IsRefreshed, Mine, Refreshes, SitsAt, first_part, other_parts, part_note, seen_of}
+use Rattle.table_rule.specs.Views.{HasPart, IsBlank, IsRefreshed, Mine, Refreshes, SitsAt, first_part, other_parts, part_note, seen_of}
 
 -- a moment of a table: its words, and what each of its seats knows, those seats and notes included that were let go
 abbrev pub Moment : Type 0
@@ -99,9 +99,21 @@ pub record OperationsTurn (law : Limits → List Entry → Type 0) : Type 0 wher
       → SitsAt limits actor (Writing row first written) me → Places law step me found me' → Turns law me me'
   pub refreshes : (limits : Limits) (made : Made (Unit {0})) (me me' : Mine) (found : ℕ) → HasPart limits me.0 → Refreshes law made me found me' → Turns law me me'
 
--- Whatever operation on a word the table allows a seat that turns so: it leads from each moment at which the rule holds, and the seat knows this, to one
--- at which the rule holds, and which is the next one.
-abbrev pub TurnsOperate : (Limits → List Entry → Type 0) → Type 0
-TurnsOperate law = (limits : Limits) (slots id word : ℕ) (me : Mine) (f : ℕ → ℕ) → Allows (Running limits (law limits)) slots id me word f (λ found me'. Turns law me me')
-    → (s : Moment) → Running limits (law limits) s → length s.homes ≡ slots → get_elem? s.views id ≡ some me.0 → slice_index s.words word < 18446744073709551616
-    → (t : Moment) × Operates law s t × Running limits (law limits) t
+-- There is a next moment, at which the rule holds.
+abbrev pub LeadsOn : (Limits → List Entry → Type 0) → Limits → Moment → Type 0
+LeadsOn law limits s = (t : Moment) × Operates law s t × Running limits (law limits) t
+
+-- Whatever the table allows a seat by keeping the rule leads from each moment at which the rule holds to a next one at which it holds: an operation on a
+-- word that turns the seat, a cut, a note, a join, and a new seat.
+pub record AllowedOperate (law : Limits → List Entry → Type 0) : Type 0 where
+  pub turns : (limits : Limits) (slots id word : ℕ) (me : Mine) (f : ℕ → ℕ) → Allows (Running limits (law limits)) slots id me word f (λ found me'. Turns law me me')
+      → (s : Moment) → Running limits (law limits) s → length s.homes ≡ slots → get_elem? s.views id ≡ some me.0 → slice_index s.words word < 18446744073709551616 → LeadsOn law limits s
+  pub cuts : (limits : Limits) (id : ℕ) (view : List Part) → Splits (Running limits (law limits)) id view (first_part view) (other_parts view)
+      → (s : Moment) → Running limits (law limits) s → get_elem? s.views id ≡ some view → LeadsOn law limits s
+  pub notes : (limits : Limits) (id : ℕ) (view : List Part) → Splits (Running limits (law limits)) id view view (part_note view)
+      → (s : Moment) → Running limits (law limits) s → get_elem? s.views id ≡ some view → LeadsOn law limits s
+  pub joins : (limits : Limits) (id other : ℕ) (view others : List Part) → Joins (Running limits (law limits)) id view other others (view ++ others) []
+      → (s : Moment) → Running limits (law limits) s → get_elem? s.views id ≡ some view → other ≢ id → get_elem? (slice_set s.views id (view ++ others)) other ≡ some others
+      → LeadsOn law limits s
+  pub seats : (limits : Limits) (slots word : ℕ) → Enters (Running limits (law limits)) slots word (λ found view. IsBlank (view, []))
+      → (s : Moment) → Running limits (law limits) s → length s.homes ≡ slots → slice_index s.words word < 18446744073709551616 → LeadsOn law limits s

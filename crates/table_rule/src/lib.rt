@@ -9,10 +9,14 @@
 //! of one actor, and tells its caller the run in which the step was taken; a look is a load that is no step, and so is the watching of a
 //! word.
 //!
+//! moments.rt has the laws of what any number of such operations leave: nothing that was seen is forgotten, the longest run grows, and calls keep the
+//! order of real time.
+//!
 //! Called by `running_tree` alone, which names the law. It knows no operation and not which runs there may be: that is for the tree to say, by
 //! a law (`Law`) that keeps the rows of actors apart.
 #![tactic(auto)]
 
+mod examples;
 mod moments;
 mod placing;
 mod plays;
@@ -24,7 +28,11 @@ mod used;
 mod view;
 mod watching;
 
-pub use moments::{history_grows, keeps_real_time, nothing_is_forgotten, operations_are_moments};
+pub use examples::moments_are_told;
+pub use moments::{
+    history_grows, keeps_real_time, nothing_is_forgotten, operations_are_moments,
+    steps_extend_the_longest,
+};
 pub use placing::place_row;
 pub use reading::{look_at, read_first};
 pub use rule::{Law, Rule, TableSeat, Words, closing_spells, longest_is_seen, opening_keeps};

@@ -1,0 +1,42 @@
+use Rattle.std.proofs.Common.{◌≡◌, ℕ, zero, suc, List, [], ◌∷◌, ◌∙◌, ap, refl, subst, sym}
+use Rattle.std.specs.Prelude.{Some, slice_get}
+use mathlib.Core.Option.{some, some-injective, some-ne-none}
+use lib.ListN.{get_elem?}
+use Rattle.tree_limits.specs.declared.limits.Limits.{Limits}
+use Rattle.traces.specs.declared.trace.Entry.{Entry}
+use Rattle.table_rule.specs.declared.view.Part.{Part}
+use Rattle.table_rule.specs.declared.view.Reach.TheVariants.{Idle, Noted}
+use Rattle.table_rule.specs.Examples.{apart, heeded, moment, noted, together}
+use Rattle.table_rule.specs.Growing.{HasSeen}
+use Rattle.table_rule.specs.Moments.{IsLater, cuts, joins, next, notes, same}
+use Rattle.table_rule.specs.Views.{alone, part}
+use Rattle.table_rule.proofs.Later.{only, sees_on}
+use Rattle.table_rule.proofs.examples.moments_are_told.Goals as goal
+
+module _ (law : Limits → List Entry → Type 0) (limits : Limits) where
+  is_cut : IsLater law (together limits) (apart limits)
+  is_cut = next (together limits) (apart limits) same (cuts 0 (part limits 0 [] Idle ∷ part limits 1 [] Idle ∷ []) refl refl)
+
+  is_noted : IsLater law (together limits) (noted limits)
+  is_noted = next (apart limits) (noted limits) is_cut (notes 0 (alone limits 0 [] Idle) refl refl)
+
+  is_heeded : IsLater law (together limits) (heeded limits)
+  is_heeded = next (noted limits) (heeded limits) is_noted (joins 1 2 (alone limits 1 [] Idle) (part limits 0 [] Noted ∷ []) refl (λ e. cc) refl refl)
+
+  first : HasSeen (apart limits).views 0 []
+  first = record { id = 0; view = alone limits 0 [] Idle; at = refl; place = 0; part = part limits 0 [] Idle; there = refl; own = refl; saw = refl }
+
+  of_view : (id : ℕ) (view : List Part) (place : ℕ) (one : Part) → get_elem? (alone limits 1 [] Idle ∷ []) id ≡ some view → slice_get view place ≡ Some one → one.actor ≡ 0 → ⊥
+  of_view zero view place one at there own =
+      let is : alone limits 1 [] Idle ≡ view = some-injective (alone limits 1 [] Idle) view at in
+      let same_part : part limits 1 [] Idle ≡ one = only (part limits 1 [] Idle) one place (subst (λ (v : List Part). slice_get v place ≡ Some one) (sym is) there) in
+      let one_is_none : 1 ≡ 0 = ap (λ (p : Part). p.actor) same_part ∙ own in cc
+  of_view (suc id) view place one at there own = some-ne-none view (sym at)
+
+  is_lost : IsLater law (apart limits) (moment (alone limits 1 [] Idle ∷ [])) → ⊥
+  is_lost later =
+      let kept = sees_on law (apart limits) (moment (alone limits 1 [] Idle ∷ [])) later 0 [] first in
+      of_view kept.1.id kept.1.view kept.1.place kept.1.part kept.1.at kept.1.there kept.1.own
+
+pub returns : goal.returns
+returns g c = record { cut = is_cut g.P.Law.law; noted = is_noted g.P.Law.law; heeded = is_heeded g.P.Law.law; lost = is_lost g.P.Law.law }
