@@ -21,6 +21,9 @@
  *   - Pointers point to what their types say. What a call writes (value, old, page, room, limits, pairs, count) no other call has meanwhile, and it lies
  *     apart from all else that the call is given: where a walk goes on from page.next, that is copied first.
  *   - A thread that calls has 512 KB of stack.
+ *   - A thread is not cancelled or ended inside a call (pthread_cancel with asynchronous cancellation, TerminateThread, a longjmp out of a signal handler).
+ *     Otherwise the seat stays BUSY for ever, and so do bwtree_close and bwtree_close_pairs: the tree can't be freed, nor its pairs be handed over. Calls on
+ *     other seats go on; as what that seat holds back is never freed, writes are FULL in the end.
  *   - The library calls malloc and free, when a tree is opened and closed, and never in another call. No call is made from a signal handler, nor,
  *     in a process with threads, from a child that was forked.
  *
