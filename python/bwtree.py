@@ -92,7 +92,15 @@ def _load() -> ctypes.CDLL:
     """The library, with the declarations of bwtree.h."""
     built = os.path.join(os.path.dirname(os.path.abspath(__file__)), "..", "c", "out", "libbwtree.so.0")
     place = os.environ.get("BWTREE_LIB", built if os.path.isfile(built) else "libbwtree.so.0")
-    library = ctypes.CDLL(os.path.join(place, "libbwtree.so.0") if os.path.isdir(place) else place)
+    file = os.path.join(place, "libbwtree.so.0") if os.path.isdir(place) else place
+    try:
+        library = ctypes.CDLL(file)
+    except OSError as error:
+        looked = f"{os.path.normpath(built)}, and then {file} where the system's loader looks"
+        if "BWTREE_LIB" in os.environ:
+            looked = f"{file}, which BWTREE_LIB names"
+        advice = "Run ./bwtree build, or set BWTREE_LIB to libbwtree.so.0 or its folder"
+        raise ImportError(f"bwtree: the library was not loaded from {looked}: {error}. {advice}") from error
     tree, seat, old, page = ctypes.POINTER(_Tree), ctypes.c_uint32, ctypes.POINTER(_Bytes), ctypes.POINTER(_Page)
     text, size, count = ctypes.c_char_p, ctypes.c_size_t, ctypes.c_uint64
     for name, kinds in {

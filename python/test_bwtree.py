@@ -3,6 +3,7 @@
 import array
 import copy
 import gc
+import os
 import pickle
 import queue
 import random
@@ -146,6 +147,16 @@ class Calls(unittest.TestCase):
         with bwtree.Tree(seats=1, pids=64, rows=64) as tree, tree.seat() as seat, self.assertRaises(bwtree.Full):
             for i in range(100000):
                 seat[i.to_bytes(4, "big")] = b""
+
+
+class Loading(unittest.TestCase):
+    def test_without_the_library(self):
+        """The module says where it looked for the library, and what to set."""
+        nowhere = os.path.join(os.path.dirname(os.path.abspath(__file__)), "nowhere")
+        with unittest.mock.patch.dict(os.environ, {"BWTREE_LIB": nowhere}), self.assertRaises(ImportError) as raised:
+            bwtree._load()
+        for word in (nowhere, "BWTREE_LIB", "./bwtree build"):
+            self.assertIn(word, str(raised.exception))
 
 
 class Leases(unittest.TestCase):
