@@ -17,6 +17,7 @@ import "C"
 
 import (
 	"runtime"
+	"sync/atomic"
 	"unsafe"
 )
 
@@ -215,7 +216,7 @@ func (tree *Tree) Seat() *Seat {
 
 // lease is a seat with this number. One that is dropped without Release goes back once the collector finds it.
 func (tree *Tree) lease(number uint32) *Seat {
-	seat := &Seat{tree: tree, number: number}
+	seat := &Seat{tree: tree, number: number, released: new(atomic.Bool)}
 	runtime.SetFinalizer(seat, (*Seat).Release)
 	return seat
 }
@@ -230,17 +231,28 @@ func (tree *Tree) TrySeat() *Seat {
 	}
 }
 
-// A Seat is where one goroutine at a time calls a tree.
+// noCopy has go vet report each copy of a struct that it is in.
+type noCopy struct{}
+
+func (*noCopy) Lock()   {}
+func (*noCopy) Unlock() {}
+
+// A Seat is where one goroutine at a time calls a tree. It is not copied: go vet reports a copy.
 type Seat struct {
+	_      noCopy
 	tree   *Tree
 	number uint32
+	// whether the number was given back, by the seat or a copy of it
+	released *atomic.Bool
 }
 
 // Release gives the seat back to its tree. Other calls on it panic from then on; a second Release does nothing.
 func (seat *Seat) Release() {
 	if tree := seat.tree; tree != nil {
 		seat.tree = nil
-		tree.free <- seat.number
+		if seat.released.CompareAndSwap(false, true) {
+			tree.free <- seat.number
+		}
 	}
 }
 

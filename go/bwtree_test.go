@@ -4,6 +4,7 @@ import (
 	"bytes"
 	"errors"
 	"fmt"
+	"reflect"
 	"runtime"
 	"sync"
 	"testing"
@@ -244,5 +245,26 @@ func TestCloseWithPairs(t *testing.T) {
 	}
 	if none, err := opened(t, 1, 1).CloseWithPairs(); err != nil || len(none) != 0 {
 		t.Fatal(len(none), err)
+	}
+}
+
+// A seat that was copied, which go vet reports where it sees it, is given back once: the second Release does not wait for room in the tree.
+func TestCopiedSeat(t *testing.T) {
+	tree := opened(t, 1, 10)
+	seat, copied := tree.Seat(), new(Seat)
+	reflect.ValueOf(copied).Elem().Set(reflect.ValueOf(seat).Elem())
+	done := make(chan struct{})
+	go func() {
+		seat.Release()
+		copied.Release()
+		close(done)
+	}()
+	select {
+	case <-done:
+	case <-time.After(10 * time.Second):
+		t.Fatal("the second Release waits for ever")
+	}
+	if err := tree.Close(); err != nil {
+		t.Fatal(err)
 	}
 }
