@@ -27,6 +27,10 @@
  *   - The library calls malloc and free, when a tree is opened and closed, and never in another call. No call is made from a signal handler, nor,
  *     in a process with threads, from a child that was forked.
  *
+ * Full: a write may be FULL for a moment, while another call holds back what was taken out: make it again. A tree that is filled beyond its limits is
+ * read-only for good: then deletions, and upserts of keys that have a value, are FULL, too, since each would have to split its page first. Reads and walks go
+ * on, and so does bwtree_close_pairs: open a larger tree with these pairs. A program that takes keys from outside keeps count of them.
+ *
  * Order: the tree is linearizable (Herlihy and Wing), proved over all states of the tree. All calls of all threads form one sequential history of an
  * ordered map. Each call takes effect at one of its own atomic steps, so a call that has returned precedes a call that begins afterwards, whatever
  * threads and seats make the two. In a program's own proof, order between two seats comes from meeting or a note, because the language has no clock.
@@ -54,7 +58,7 @@ enum {
     BWTREE_EXISTS = 2,      /* the key has the value `old`, and keeps it (insert) */
     BWTREE_REPLACED = 3,    /* done: the key had the value `old` before (upsert) */
     BWTREE_DIFFERS = 4,     /* the key has the value `old`, which isn't the expected one, and keeps it (swap) */
-    BWTREE_FULL = 5,        /* nothing was free for a change, and no key was changed */
+    BWTREE_FULL = 5,        /* nothing was free for a change, and no key was changed: for a moment, or for good (above, *Full*) */
     BWTREE_SPENT = 6,       /* after 65,536 steps, or as many as resume was given, the operation isn't done: it stays in the seat. Resume it */
     BWTREE_NO_ROOM = 7,     /* the tree is closed, and its pairs, which are more than there is room for, wait (close_pairs) */
     BWTREE_CLOSED = 16,     /* the tree is closed, or was never opened */

@@ -312,6 +312,34 @@ static void full(void) {
     CHECK(found == count - 1 && bwtree_close(&tree) == BWTREE_OK);
 }
 
+/* A tree that is filled far beyond its limits is read-only: deletions and upserts are FULL, of keys that have a value, too. Reads go on, and its pairs move
+ * to a larger tree, which takes changes again. */
+static void read_only(void) {
+    static bwtree tree, larger;
+    static uint32_t keys[4000];
+    bwtree_limits limits = {1, 64, 704, 1, 0}, more = {1, 256, 2624, 1, 0};
+    bwtree_bytes old;
+    uint64_t count = 0, deleted = 0, updated = 0, given = 0;
+    CHECK(bwtree_open(&limits, &tree) == BWTREE_OK);
+    for (uint32_t i = 0; i < 4000; i++) {
+        uint32_t key = i * 2654435761u;
+        if (bwtree_insert(&tree, 0, &key, 4, &key, 4, &old) == BWTREE_OK) keys[count++] = key;
+    }
+    CHECK(count > 0 && count < 4000);
+    for (uint64_t i = 0; i < count; i++) {
+        CHECK(bwtree_get(&tree, 0, &keys[i], 4, &old) == BWTREE_OK && old.length == 4);
+        updated += bwtree_upsert(&tree, 0, &keys[i], 4, &keys[i], 4, &old) == BWTREE_REPLACED;
+        deleted += bwtree_delete(&tree, 0, &keys[i], 4, &old) == BWTREE_OK;
+    }
+    CHECK(2 * updated < count && 2 * deleted < count);
+    bwtree_pair *pairs = calloc(count, sizeof *pairs);
+    CHECK(pairs && bwtree_close_pairs(&tree, pairs, count, &given) == BWTREE_OK && given == count - deleted);
+    CHECK(bwtree_open_from(&more, pairs, given, &larger) == BWTREE_OK);
+    for (uint64_t i = 0; i < given; i++) CHECK(bwtree_delete(&larger, 0, pairs[i].key.bytes, pairs[i].key.length, &old) == BWTREE_OK);
+    CHECK(bwtree_close(&larger) == BWTREE_OK);
+    free(pairs);
+}
+
 struct job { const bwtree *tree; uint32_t seat; uint64_t count; };
 
 /* Calls on one seat by two threads: each call is answered, or BUSY and without effect. */
@@ -512,6 +540,7 @@ static void *all(void *unused) {
     closed_with_pairs();
     most_seats();
     full();
+    read_only();
     busy();
     closing();
     threads();
