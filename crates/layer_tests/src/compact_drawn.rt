@@ -1,5 +1,4 @@
-//! Drawn records in compact rows: what is written is read again, and each word of the row of `record_slots` is computed from it, from the
-//! words at hand and by looks at them.
+//! Drawn records in compact rows: what is written is read again, and each word of the row of `record_slots` is computed from it.
 
 ghost use Rattle.std.specs.Prelude.{◌+◌, ◌≤◌, ◌<◌};
 ghost use Rattle.deltas.specs.Spellable.{IsSpellable};
@@ -7,50 +6,11 @@ ghost use Rattle.deltas.specs.Spellable.{IsSpellable};
 use crate::compact_by_hand::is_seen;
 use crate::random_rows::{draw, other_word};
 use crate::rows::{EACH_KIND, Words, with};
-use compact_rows::{CompactRow, CompactRows, compact_of, from_compact, look_spread};
+use compact_rows::{compact_of, from_compact};
 use deltas::Record;
 use rand_core::SeedableRng;
 use rand_pcg::Pcg32;
 use record_slots::{ROW_WORDS, read_words, to_words};
-
-/// One compact row, whose words are looked at where they lie.
-#[derive(Drop)]
-struct OneRow {
-    written: CompactRow,
-}
-
-impl CompactRows for OneRow {
-    ghost use Rattle.deltas.specs.declared.record.Record.TheVariants.{Remove};
-    ghost use Rattle.compact_rows.specs.Spells.{IsCompact};
-
-    type Pass = ();
-
-    ghost content = { λ pass row. Remove (record { level = 0; next = 1 }) };
-
-    ghost has = { λ rows pass row content. IsCompact content rows.written };
-
-    fn look(&self, _pass: &mut (), _row: u32, at: usize) -> u64 {
-        let words = self.written.words();
-        if at < words.len() { words[at] } else { 0 }
-    }
-
-    fn keeps_spelling(&self, _pass: &()) {}
-}
-
-/// Whether looks at the compact words of a record find each word of its row.
-fn is_looked_at(content: &Record, row: &[u64; ROW_WORDS]) -> bool
-    requires { IsSpellable content.now }
-{
-    let rows = OneRow {
-        written: compact_of(content),
-    };
-    for at in 0..ROW_WORDS {
-        if look_spread(&rows, &mut (), 1, at) != row[at] {
-            return false;
-        }
-    }
-    true
-}
 
 /// Whether a record is read from its compact words, which are so many, and its row is seen in them.
 fn comes_back(content: &Record, row: &[u64; ROW_WORDS]) -> Option<usize>
@@ -58,15 +18,19 @@ fn comes_back(content: &Record, row: &[u64; ROW_WORDS]) -> Option<usize>
 {
     let written = compact_of(content);
     let words = written.words();
-    let read = from_compact(words).ok()?;
-    let same = to_words(&read) == *row && is_seen(words, row) && is_looked_at(content, row);
+    let same = match from_compact(words) {
+        Ok(read) => to_words(&read) == *row && is_seen(words, row),
+        Err(_) => false,
+    };
     same.then_some(words.len())
 }
 
 /// How many compact words the record of a row has; none where the row spells none, or anything is wrong.
 fn told(row: &[u64; ROW_WORDS]) -> Option<usize> {
-    let content = read_words(row).ok()?;
-    comes_back(&content, row)
+    match read_words(row) {
+        Ok(content) => comes_back(&content, row),
+        Err(_) => None,
+    }
 }
 
 /// A row that is drawn.
@@ -99,6 +63,7 @@ fn draw_text(words: &mut Pcg32, row: &mut Row, at: usize, length: usize)
 /// A number below an end that is not 0.
 fn below(words: &mut Pcg32, end: u64) -> u64
     requires { 0 < end }
+    ensures { result < end }
 {
     draw(words) % end
 }
