@@ -24,7 +24,7 @@ use Rattle.map_laws.specs.InOrder.{operation_at}
 use Rattle.map_laws.proofs.Asking.{Calls}
 use Rattle.map_laws.proofs.Spans.{IsOpenAt}
 
-get_middle : {X : Type 0} (xs : List X) (x : X) (ys : List X) → slice_get (xs ++ x ∷ ys) (length xs) ≡ Some x
+pub get_middle : {X : Type 0} (xs : List X) (x : X) (ys : List X) → slice_get (xs ++ x ∷ ys) (length xs) ≡ Some x
 get_middle [] x ys = refl
 get_middle (y ∷ xs) x ys = get_middle xs x ys
 

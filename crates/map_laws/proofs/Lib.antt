@@ -10,3 +10,5 @@ pub mod OneSeat
 pub mod ReadBack
 pub mod Told
 pub mod SpentSteps
+pub mod Whole
+pub mod RealTime

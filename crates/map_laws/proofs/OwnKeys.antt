@@ -60,39 +60,39 @@ module _ (key : List ℕ) where
   through_one before ((other, None) ∷ calls) asked given = through_one before calls asked given
   through_one before ((other, Some said) ∷ calls) asked given = through_one (value_then key before other said) calls asked given
 
-and_true : (a b : Bool) → b ≡ true → a && b ≡ a
+pub and_true : (a b : Bool) → b ≡ true → a && b ≡ a
 and_true true b is = is
 and_true false b is = refl
 
-and_false : (a b : Bool) → b ≡ false → a && b ≡ false
+pub and_false : (a b : Bool) → b ≡ false → a && b ≡ false
 and_false true b is = is
 and_false false b is = refl
 
 -- a reply with a point is the map's there
-replied : (limits : Limits) (run : List Entry) (points : List Bool) (operation : Operation) (given : Reply) → has_point given ≡ true
+pub replied : (limits : Limits) (run : List Entry) (points : List Bool) (operation : Operation) (given : Reply) → has_point given ≡ true
     → IsTrueReply limits run points operation given → RepliesAtPoint limits run points operation given
 replied limits run points operation reply.Full has says = absurd (cc)
 replied limits run points operation reply.Tidied has says = absurd (cc)
 replied limits run points operation other has says = says
 
-at_key : (key : List ℕ) (log : List Update) (memory : Memory) (asked : Command) (given : Reply) → RepliesAt memory log asked given → is_about key asked ≡ true
+pub at_key : (key : List ℕ) (log : List Update) (memory : Memory) (asked : Command) (given : Reply) → RepliesAt memory log asked given → is_about key asked ≡ true
     → reply_of asked (logged_value log key) ≡ Some given
 at_key key log memory asked given (inl by_value) is = subst (λ (k : List ℕ). reply_of asked (logged_value log k) ≡ Some given) (sym (about_key key asked is)) by_value
 at_key key log memory asked given (inr page) is = let never : false ≡ true = sym (ap (is_about key) page.asks) ∙ is in absurd (cc)
 
-stands_at : {X : Type 0} (xs : List X) (n : ℕ) → n < length xs → (x : X) × (slice_get xs n ≡ Some x)
+pub stands_at : {X : Type 0} (xs : List X) (n : ℕ) → n < length xs → (x : X) × (slice_get xs n ≡ Some x)
 stands_at [] n below = absurd (omega arith)
 stands_at (x ∷ xs) zero below = (x, refl)
 stands_at (x ∷ xs) (suc n) below = stands_at xs n (omega arith)
 
 module _ (limits : Limits) (run : List Entry) (points : List Bool) (pointed : HasPoints run points) (answered : IsAnswered limits run points) (is_run : IsRun limits run) (key : List ℕ) where
-  abbrev value_at : ℕ → Value
+  abbrev pub value_at : ℕ → Value
   value_at n = logged_value (log_at run points n) key
 
-  mark_at : (n : ℕ) (entry : Entry) → slice_get run n ≡ Some entry → (marked : Bool) × (slice_get points n ≡ Some marked)
+  pub mark_at : (n : ℕ) (entry : Entry) → slice_get run n ≡ Some entry → (marked : Bool) × (slice_get points n ≡ Some marked)
   mark_at n entry at = let below = slice_get_below run n entry at in let beside = pointed.beside in stands_at points n (omega arith)
 
-  unmarked : (n : ℕ) (entry : Entry) → slice_get run n ≡ Some entry → slice_get points n ≡ Some false → value_at (suc n) ≡ value_at n
+  pub unmarked : (n : ℕ) (entry : Entry) → slice_get run n ≡ Some entry → slice_get points n ≡ Some false → value_at (suc n) ≡ value_at n
   unmarked n entry at mark = ap (λ (log : List Update). logged_value log key) (log_at-step run points n entry false pointed.beside at mark)
 
   marked_begin : (n actor : ℕ) (asked : Command) (marked : Bool) → slice_get run n ≡ Some (Begin actor asked) → slice_get points n ≡ Some marked → value_at (suc n) ≡ value_at n
@@ -100,10 +100,10 @@ module _ (limits : Limits) (run : List Entry) (points : List Bool) (pointed : Ha
   marked_begin n actor asked true at mark =
       ap (λ (log : List Update). logged_value log key) (log_at-step run points n (Begin actor asked) true pointed.beside at mark ∙ append-nil (log_at run points n))
 
-  at_begin : (n actor : ℕ) (asked : Command) → slice_get run n ≡ Some (Begin actor asked) → value_at (suc n) ≡ value_at n
+  pub at_begin : (n actor : ℕ) (asked : Command) → slice_get run n ≡ Some (Begin actor asked) → value_at (suc n) ≡ value_at n
   at_begin n actor asked at = let m = mark_at n (Begin actor asked) at in marked_begin n actor asked m.0 at m.1
 
-  marked_step : (n actor : ℕ) (step : StepOf Record) (told : Answer Record) (said : Option Reply) (asked : Command)
+  pub marked_step : (n actor : ℕ) (step : StepOf Record) (told : Answer Record) (said : Option Reply) (asked : Command)
       → slice_get run n ≡ Some (Step actor step told said) → slice_get points n ≡ Some true → command_of (take n run) actor ≡ Some asked
       → value_at (suc n) ≡ (if is_about key asked then value_made asked (value_at n) else value_at n)
   marked_step n actor step told said asked at mark has =
@@ -111,7 +111,7 @@ module _ (limits : Limits) (run : List Entry) (points : List Bool) (pointed : Ha
       ∙ ap (λ (o : Option Command). log_at run points n ++ updates_by actor o (log_at run points n)) has) ∙ effect key (log_at run points n) actor asked
 
   -- the operation of a step
-  owner : (n actor : ℕ) (step : StepOf Record) (told : Answer Record) (said : Option Reply) → slice_get run n ≡ Some (Step actor step told said)
+  pub owner : (n actor : ℕ) (step : StepOf Record) (told : Answer Record) (said : Option Reply) → slice_get run n ≡ Some (Step actor step told said)
       → (asked : Command) × (start : ℕ) × (command_of (take n run) actor ≡ Some asked) × IsOperation run (operation_at actor start asked) × IsOwnStep run (operation_at actor start asked) n
   owner n actor step told said at =
       let (asked, has) = some_of (command_of (take n run) actor) (is_run.each n (Step actor step told said) at).0 in
@@ -126,14 +126,14 @@ module _ (limits : Limits) (run : List Entry) (points : List Bool) (pointed : Ha
         (step, told, (said, record { begun = omega arith; entry = at; not_ended = λ later other after before there. opened.last later other after (get_take run later n before ∙ there) })),
       )
 
-  module _ (actor since : ℕ) (alone : ChangesAloneSince run actor key since) (first : Value) where
-    -- what others do leaves the key's value
-    kept_by : (asked : Command) (before : Value) → may_change key asked ≡ false → (if is_about key asked then value_made asked before else before) ≡ before
-    kept_by asked before never = either (is_about key asked)
-        (λ is. ap (λ (b : Bool). if b then value_made asked before else before) is ∙ reader_keeps asked before
-        (either (is_writer asked) (λ writes. let may : may_change key asked ≡ true = and_both (is_about key asked) (is_writer asked) is writes in absurd (cc)) (λ reads. reads)))
-        (λ apart. ap (λ (b : Bool). if b then value_made asked before else before) apart)
+  -- a command that may not change the key's value leaves it
+  pub kept_by : (asked : Command) (before : Value) → may_change key asked ≡ false → (if is_about key asked then value_made asked before else before) ≡ before
+  kept_by asked before never = either (is_about key asked)
+      (λ is. ap (λ (b : Bool). if b then value_made asked before else before) is ∙ reader_keeps asked before
+      (either (is_writer asked) (λ writes. let may : may_change key asked ≡ true = and_both (is_about key asked) (is_writer asked) is writes in absurd (cc)) (λ reads. reads)))
+      (λ apart. ap (λ (b : Bool). if b then value_made asked before else before) apart)
 
+  module _ (actor since : ℕ) (alone : ChangesAloneSince run actor key since) (first : Value) where
     step_of_other : (n other : ℕ) (step : StepOf Record) (told : Answer Record) (said : Option Reply) (marked : Bool) → since ≤ n
         → slice_get run n ≡ Some (Step other step told said) → slice_get points n ≡ Some marked → (actor == other) ≡ false → value_at (suc n) ≡ value_at n
     step_of_other n other step told said false late at mark apart = unmarked n (Step other step told said) at mark

@@ -3,3 +3,4 @@ pub mod Fits
 pub mod Budgets
 pub mod OwnKeys
 pub mod Examples
+pub mod RealTime

@@ -13,8 +13,10 @@ mod budgets;
 mod call_laws;
 mod examples;
 mod key_laws;
+mod later_calls;
 
 pub use budgets::lookups_are_done;
 pub use call_laws::{calls_are_operations, replies_fit, seats_replies_fit};
 pub use examples::{calls_stand_in_order, kinds_of_replies, own_replies_are_a_maps};
 pub use key_laws::{one_seat, own_keys, own_reads};
+pub use later_calls::{later_calls_see_the_key, later_calls_take_effect_later};

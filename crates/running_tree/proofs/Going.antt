@@ -4,7 +4,7 @@ use Rattle.std.specs.Prelude.{Option, Some, None, IsSome}
 use Rattle.running_tree.proofs.Words.{Command, Reply, Answer, Done, StepOf, Leave, Record, own_entries, StartsWith, Called, IsSame, Seat, unfinished_command, own_push, own_extends}
 use Rattle.traces.specs.declared.trace.Entry.{Entry}
 use Rattle.traces.specs.declared.trace.Entry.TheVariants.{Begin, Step}
-use Rattle.running_tree.specs.Calls.{Advances, HasBegun, EndsWith, IsDone, IsCalled, IsFinished, IsResumed, IsSpent, IsStill, answered_last, call_after, calls_along, calls_in, own_count}
+use Rattle.running_tree.specs.Calls.{Advances, BeginsIn, HasBegun, EndsWith, IsDone, IsCalled, IsFinished, IsResumed, IsSpent, IsStill, answered_last, call_after, calls_along, calls_in, own_count}
 use Rattle.running_tree.specs.declared.called.Called.TheVariants as called
 
 one_longer : (xs ys : List Entry) (e : Entry) → xs ≡ ys ++ e ∷ [] → length xs ≡ length ys + 1
@@ -109,9 +109,18 @@ module _ (old mid : Seat) (command : Command) (same : IsSame old mid) (h : HasBe
   grows_first = starts_on old.seen h.run mid.seen (h.extends.0, h.extends.1) (begin ∷ first ∷ [], h.grown ∙ append_assoc h.run (begin ∷ []) (first ∷ []))
 
   module _ (budget : ℕ) (some : 1 ≤ budget) (new : Seat) where
+    begins_so : StartsWith new.seen mid.seen → BeginsIn old command new.seen
+    begins_so grows = record {
+      before = h.run;
+      extends = h.extends;
+      after = first ∷ grows.0;
+      is = grows.1 ∙ ap (λ (run : List Entry). run ++ grows.0) h.grown ∙ append_assoc (h.run ++ begin ∷ []) (first ∷ []) grows.0 ∙ append_assoc h.run (begin ∷ []) (first ∷ grows.0);
+    }
+
     pub call_done : (reply : Reply) → IsFinished mid (budget - 1) reply new → IsDone old command budget reply new
     call_done reply g = let two = two_more in let few = g.steps in record {
       grows = starts_on old.seen mid.seen new.seen grows_first g.grows;
+      begins = begins_so g.grows;
       ends = g.ends;
       steps = omega arith;
       calls = g.calls ∙ ap (λ calls. answered_last calls reply) calls_first ∙ answered_snoc (calls_in old) command None reply;
@@ -121,6 +130,7 @@ module _ (old mid : Seat) (command : Command) (same : IsSame old mid) (h : HasBe
     pub call_spent : IsStill mid (budget - 1) new → IsSpent old command budget new
     call_spent g = let two = two_more in let more = g.steps in record {
       grows = starts_on old.seen mid.seen new.seen grows_first g.grows;
+      begins = begins_so g.grows;
       steps = omega arith;
       calls = g.calls ∙ calls_first;
       busy = g.busy ∙ h.command;

@@ -24,3 +24,4 @@ pub mod Seats
 mod Standing
 mod Upserting
 pub mod Words
+mod RealTime

@@ -48,10 +48,18 @@ own_count seat = length (own_entries seat.actor seat.seen)
 abbrev pub EndsWith : Seat → Reply → Type 0
 EndsWith seat reply = (front : List Entry) × (seat.seen ≡ front ++ Step seat.actor Leave answer.Done (Some reply) ∷ [])
 
+-- In this run the seat's actor has begun an operation with the command, after a run that goes on from what the seat had seen by steps of others alone.
+pub record BeginsIn (old : Seat) (command : Command) (seen : List Entry) : Type 0 where
+  pub before : List Entry
+  pub extends : Extends old.actor old.seen before
+  pub after : List Entry
+  pub is : seen ≡ before ++ Begin old.actor command ∷ after
+
 -- A call that is done, after at most so many own steps beside the begin: what the seat has seen goes on from what it had seen and
 -- ends with this operation's Leave. The calls are those before, and then this one, with the reply; none is unfinished.
 pub record IsDone (old : Seat) (command : Command) (budget : ℕ) (reply : Reply) (new : Seat) : Type 0 where
   pub grows : StartsWith new.seen old.seen
+  pub begins : BeginsIn old command new.seen
   pub ends : EndsWith new reply
   pub steps : own_count new ≤ own_count old + (1 + budget)
   pub calls : calls_in new ≡ calls_in old ++ (command, Some reply) ∷ []
@@ -61,6 +69,7 @@ pub record IsDone (old : Seat) (command : Command) (budget : ℕ) (reply : Reply
 -- operation is unfinished.
 pub record IsSpent (old : Seat) (command : Command) (budget : ℕ) (new : Seat) : Type 0 where
   pub grows : StartsWith new.seen old.seen
+  pub begins : BeginsIn old command new.seen
   pub steps : own_count new ≡ own_count old + (1 + budget)
   pub calls : calls_in new ≡ calls_in old ++ (command, None) ∷ []
   pub busy : unfinished_command new ≡ Some command

@@ -13,3 +13,4 @@ pub mod Closed
 pub mod Room
 pub mod Held
 pub mod Stands
+pub mod RealTime

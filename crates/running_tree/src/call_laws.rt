@@ -4,8 +4,13 @@ ghost use Rattle.bw_model.specs.declared.command.Command.{Command};
 ghost use Rattle.bw_model.specs.declared.command.Reply.{Reply};
 ghost use Rattle.running_tree.specs.Calls.{EndsWith, IsCalled, IsResumed, IsSpent};
 ghost use Rattle.running_tree.specs.LastReply.{last_reply};
+ghost use Rattle.running_tree.specs.RealTime.{CallsKeepRealTime, HasCalled, HasResumed};
 ghost use Rattle.running_tree.specs.Seats.{Seat};
 ghost use Rattle.running_tree.specs.declared.called.Called.{Called};
+ghost use Rattle.tree_limits.specs.declared.limits.Limits.{Limits};
+
+use crate::lawful_runs::TreeLaw;
+use table_rule::keeps_real_time;
 
 /// A call that was spent and then resumed, once or again and again, is a call whose budget is that of all parts.
 pub fn resumed_calls_are_calls()
@@ -17,3 +22,13 @@ pub fn resumed_calls_are_calls()
 pub fn done_calls_reply_last()
     ensures { (seat : Seat) (reply : Reply) → EndsWith seat reply → last_reply seat.actor seat.seen ≡ Some reply }
 {}
+
+/// Real time: where a call on one seat is done, or was resumed and is done, and a call on another seat begins at a later moment, all of what the
+/// first one has seen, up to its Leave, comes before the begin of the second one, in the history that the second one has seen. The seats need not
+/// have met, and no note went between them.
+pub fn calls_keep_real_time()
+    ensures called { (limits : Limits) → CallsKeepRealTime limits HasCalled }
+    ensures resumed { (limits : Limits) → CallsKeepRealTime limits HasResumed }
+{
+    keeps_real_time::<TreeLaw>();
+}

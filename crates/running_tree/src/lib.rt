@@ -31,7 +31,7 @@ mod seat;
 mod taking;
 mod tree;
 
-pub use call_laws::{done_calls_reply_last, resumed_calls_are_calls};
+pub use call_laws::{calls_keep_real_time, done_calls_reply_last, resumed_calls_are_calls};
 pub use called::{Called, CloseError, CloseRefusal, LoadError, LoadStop};
 pub use change_machine::Kind;
 pub use closed_tree::{ClosedPage, ClosedTree};
