@@ -126,7 +126,7 @@ module _ (limits : Limits) (run : List Entry) (points : List Bool) (pointed : Ha
         let order = apart.apart in
         let end = below second m own in
         let same : value m ≡ value from = until from m (omega arith) (omega arith) (λ n low high point' operation is own' may.
-            by m own point n low high point' (two.each operation n (omega arith) is own' may) own') in
+        by m own point n low high point' (two.each operation n (omega arith) is own' may) own') in
         subst (λ (v : Value). reply_of second.command v ≡ Some told) (same ∙ is_left) (replies tell)
       where
         by : (m : ℕ) → IsOwnStep run second m → IsPoint points m → (n : ℕ) → from ≤ n → n < m → IsPoint points n → {operation : Operation} → (operation ≡ first) ⊎ (operation ≡ second)
@@ -145,12 +145,12 @@ module _ (limits : Limits) (run : List Entry) (points : List Bool) (pointed : Ha
         let low : m ≤ apart.done = own_before limits run is_run first apart.done given apart.ends m own in
         let end = below first m own in
         let old : value m ≡ start_value = until first.start m (omega arith) (omega arith) (λ n late near point' operation is own' may.
-            by m own point n low near point' (two.each operation n late is own' may) own') in
+        by m own point n low near point' (two.each operation n late is own' may) own') in
         let new : value (suc m) ≡ left =
         after_point first m apart.opens own point ∙ ap (λ (v : Value). if is_about key first.command then value_made first.command v else v) old
         ∙ sym (ap (λ (b : Bool). if b then value_made first.command start_value else start_value) (and_true (is_about key first.command) (has_point given) has)) in
         both (λ tell. subst (λ (v : Value). reply_of first.command v ≡ Some given) old (replies tell))
-            (suc m, omega arith, omega arith, new, λ n late point' own'. let one : n ≡ m = pointed.one first n m apart.opens own' own point' point in omega arith)
+        (suc m, omega arith, omega arith, new, λ n late point' own'. let one : n ≡ m = pointed.one first n m apart.opens own' own point' point in omega arith)
       where
         by : (m : ℕ) → IsOwnStep run first m → IsPoint points m → (n : ℕ) → m ≤ apart.done → n < m → IsPoint points n → {operation : Operation} → (operation ≡ first) ⊎ (operation ≡ second)
             → IsOwnStep run operation n → ⊥
@@ -162,10 +162,13 @@ module _ (limits : Limits) (run : List Entry) (points : List Bool) (pointed : Ha
     had_none never =
         let quiet_one : tells key first.command given ≡ false = no_tell first.command given never in
         let begun = apart.ends.2.begun in
-        both (λ tell. let is : true ≡ false = sym tell ∙ quiet_one in cc)
-            (first.start, omega arith, omega arith,
-            sym (ap (λ (b : Bool). if b then value_made first.command start_value else start_value) quiet_one),
-            λ n late point own. pointed.pointless first n apart.done given apart.opens apart.ends never own point)
+        both (λ tell. let is : true ≡ false = sym tell ∙ quiet_one in cc) (
+          first.start,
+          omega arith,
+          omega arith,
+          sym (ap (λ (b : Bool). if b then value_made first.command start_value else start_value) quiet_one),
+          λ n late point own. pointed.pointless first n apart.done given apart.opens apart.ends never own point,
+        )
 
     pub two_calls : ReplyInOrder key first.command given second.command told
     two_calls = either (has_point given) had_point had_none
@@ -204,5 +207,5 @@ pub reads_later : (old first : Seat) (key value : List ℕ) (budget : ℕ) (give
 reads_later old first key value budget given same is later new comes history more told same_later done two full =
     let (before, are) = replies_in_order old first (Upsert key value) budget given same is later new (Get key) comes history more told same_later done key two in
     read_back key before [] value given told are
-        (first_fits old first (Upsert key value) budget given same is later new (Get key) comes history more told same_later done key two)
-        (second_fits old first (Upsert key value) budget given same is later new (Get key) comes history more told same_later done key two) full
+    (first_fits old first (Upsert key value) budget given same is later new (Get key) comes history more told same_later done key two)
+    (second_fits old first (Upsert key value) budget given same is later new (Get key) comes history more told same_later done key two) full

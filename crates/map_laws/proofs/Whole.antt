@@ -114,18 +114,22 @@ module _ (old new : Seat) (command : Command) (budget : ℕ) (given : Reply) (sa
   later_on = dite (ℕ_discrete (length before) last)
       (λ e. let both : Some (Begin old.actor command) ≡ Some (Step old.actor Leave Done (Some given)) = sym opens ∙ ap (slice_get new.seen) e ∙ leaves in cc)
       (λ ne.
-          let long : length new.seen ≡ length before + suc (length after) = ap length begins.is ∙ length-append before (first ∷ after) in
-          let long' : length new.seen ≡ last + 1 = ap length is.ends.1 ∙ length-append is.ends.0 (Step new.actor Leave Done (Some given) ∷ []) in
-          omega (arith, ne))
+      let long : length new.seen ≡ length before + suc (length after) = ap length begins.is ∙ length-append before (first ∷ after) in
+      let long' : length new.seen ≡ last + 1 = ap length is.ends.1 ∙ length-append is.ends.0 (Step new.actor Leave Done (Some given) ∷ []) in
+      omega (arith, ne))
 
   pub whole : Finishes new.seen operation last given
-  whole = (Leave, Done, record {
-    begun = later_on;
-    entry = leaves;
-    not_ended = λ later asked far near at.
-        let there = behind before first after later (Begin old.actor asked) far (ap (λ (run : List Entry). slice_get run later) (sym begins.is) ∙ at) in
-        none_begun old.actor after no_other there.0 asked there.1;
-  })
+  whole = (
+    Leave,
+    Done,
+    record {
+      begun = later_on;
+      entry = leaves;
+      not_ended = λ later asked far near at.
+          let there = behind before first after later (Begin old.actor asked) far (ap (λ (run : List Entry). slice_get run later) (sym begins.is) ∙ at) in
+          none_begun old.actor after no_other there.0 asked there.1;
+    },
+  )
 
   pub last_below : last < length new.seen
   last_below = slice_get_below new.seen last (Step old.actor Leave Done (Some given)) leaves
@@ -133,12 +137,15 @@ module _ (old new : Seat) (command : Command) (budget : ℕ) (given : Reply) (sa
 -- an operation is whole in each longer run
 finishes_on : (run more : List Entry) (operation : Operation) (n : ℕ) (given : Reply) → Finishes run operation n given → Finishes (run ++ more) operation n given
 finishes_on run more operation n given (step, told, own) =
-    let below : n < length run = slice_get_below run n (Step operation.actor step told (Some given)) own.entry in
-    (step, told, record {
-      begun = own.begun;
-      entry = slice_get_kept run more n (Step operation.actor step told (Some given)) own.entry;
-      not_ended = λ later asked far near at. own.not_ended later asked far near (sym (slice_get-append_left run more later (omega arith)) ∙ at);
-    })
+    let below : n < length run = slice_get_below run n (Step operation.actor step told (Some given)) own.entry in (
+      step,
+      told,
+      record {
+        begun = own.begun;
+        entry = slice_get_kept run more n (Step operation.actor step told (Some given)) own.entry;
+        not_ended = λ later asked far near at. own.not_ended later asked far near (sym (slice_get-append_left run more later (omega arith)) ∙ at);
+      },
+    )
 
 module _ (old first : Seat) (command : Command) (budget : ℕ) (given : Reply) (same : IsSame old first) (is : IsDone old command budget given first)
     (later new : Seat) (asked : Command) (comes : ComesBefore first given later asked new) where
