@@ -115,12 +115,14 @@ typedef struct bwtree_room {
 } bwtree_room;
 
 /* ---- The library's own functions. They test no pointer: a slice is a pointer that isn't null, also where its length is 0, and its length in bytes.
- * Each answers what its namesake below answers, but BWTREE_NULL. ---- */
+ * Each answers what its namesake below answers, but BWTREE_NULL. The two that open answer OPEN also of a handle whose tree is closed: bwtree_raw_vacate makes
+ * its bytes zero first (OK), and answers OPEN where the tree isn't closed or pairs wait, with the handle as it was. ---- */
 
 uint32_t bwtree_raw_limits_for_keys(uint64_t actors, uint64_t keys, bwtree_limits *limits);
 uint32_t bwtree_raw_limits_for_many_keys(uint64_t actors, uint64_t keys, bwtree_limits *limits);
 uint32_t bwtree_raw_open(const bwtree_limits *limits, bwtree *tree);
 uint32_t bwtree_raw_open_from(const bwtree_limits *limits, const bwtree_pair *pairs, size_t count, bwtree *tree);
+uint32_t bwtree_raw_vacate(bwtree *tree);
 uint32_t bwtree_raw_close(const bwtree *tree);
 uint32_t bwtree_raw_close_pairs(const bwtree *tree, bwtree_pair *pairs, size_t room, uint64_t *count);
 uint32_t bwtree_raw_get(const bwtree *tree, uint32_t seat, const uint8_t *key, size_t key_length, bwtree_bytes *value);
@@ -154,18 +156,26 @@ static inline uint32_t bwtree_limits_for_many_keys(uint64_t actors, uint64_t key
     return limits ? bwtree_raw_limits_for_many_keys(actors, keys, limits) : (uint32_t)BWTREE_NULL;
 }
 
-/* Opens an empty tree. The handle was never opened, or its tree is closed. OK; BAD_LIMITS, OPEN, NO_MEMORY: the handle is as it was. */
+/* Opens an empty tree. The handle was never opened, or its tree is closed. OK; BAD_LIMITS, OPEN: the handle is as it was; NO_MEMORY: no tree is open. */
 static inline uint32_t bwtree_open(const bwtree_limits *limits, bwtree *tree) {
-    return limits && tree ? bwtree_raw_open(limits, tree) : (uint32_t)BWTREE_NULL;
+    uint32_t status;
+    if (!limits || !tree) return BWTREE_NULL;
+    status = bwtree_raw_open(limits, tree);
+    if (status == BWTREE_OPEN && bwtree_raw_vacate(tree) == BWTREE_OK) status = bwtree_raw_open(limits, tree);
+    return status;
 }
 
 /* Opens a tree with so many pairs, whose keys ascend: seat 0 upserts them in order. The handle was never opened, or its tree is closed. The pairs may go
- * when the call is done, which takes memory for a copy of them meanwhile. OK; FULL or SPENT, where that is what an upsert came to, BAD_LIMITS, OPEN,
- * TOO_LONG, BAD_ORDER, NO_MEMORY: the handle is as it was, and no tree is open. */
+ * when the call is done, which takes memory for a copy of them meanwhile. OK; BAD_LIMITS, OPEN: the handle is as it was; FULL or SPENT, where that is what an
+ * upsert came to, TOO_LONG, BAD_ORDER, NO_MEMORY: no tree is open. */
 static inline uint32_t bwtree_open_from(const bwtree_limits *limits, const bwtree_pair *pairs, size_t count, bwtree *tree) {
     static const bwtree_pair none = {{0, {0}}, {0, {0}}};
+    uint32_t status;
     if (!limits || !tree || (!pairs && count)) return BWTREE_NULL;
-    return bwtree_raw_open_from(limits, pairs ? pairs : &none, count, tree);
+    if (!pairs) pairs = &none;
+    status = bwtree_raw_open_from(limits, pairs, count, tree);
+    if (status == BWTREE_OPEN && bwtree_raw_vacate(tree) == BWTREE_OK) status = bwtree_raw_open_from(limits, pairs, count, tree);
+    return status;
 }
 
 /* Closes a tree, and frees it; or frees the pairs that wait. OK; CLOSED, BUSY: the tree stays open. 104 bytes of an opened tree, and 24 for each seat, are

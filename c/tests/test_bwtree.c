@@ -137,6 +137,7 @@ static void answers(void) {
     CHECK(bwtree_open(&limits, &tree) == BWTREE_OK);
     bwtree was = tree;
     CHECK(bwtree_open(&limits, &tree) == BWTREE_OPEN && !memcmp(&tree, &was, sizeof tree));
+    CHECK(bwtree_raw_vacate(&tree) == BWTREE_OPEN && !memcmp(&tree, &was, sizeof tree));
     all_answer(&tree, 2, BWTREE_NO_SEAT);
     all_answer(&tree, UINT32_MAX, BWTREE_NO_SEAT);
     CHECK(bwtree_is_idle(&tree, 1) == BWTREE_OK && bwtree_free_room(&tree, 0, &before) == BWTREE_OK);
@@ -169,6 +170,11 @@ static void answers(void) {
     all_answer(&tree, 0, BWTREE_CLOSED);
     static bwtree earlier; /* so that a leak checker finds what the first opening left */
     earlier = tree;
+    /* the library itself opens no handle that keeps a tree, closed or not */
+    CHECK(bwtree_raw_open(&limits, &tree) == BWTREE_OPEN && bwtree_raw_open_from(&limits, &page.pairs[0], 0, &tree) == BWTREE_OPEN);
+    CHECK(!memcmp(&tree, &earlier, sizeof tree) && bwtree_raw_vacate(&tree) == BWTREE_OK && bwtree_raw_vacate(&tree) == BWTREE_OK);
+    CHECK(tree.held_ == 0 && bwtree_close(&tree) == BWTREE_CLOSED);
+    tree = earlier;
     limits.actors = 3;
     CHECK(bwtree_open(&limits, &tree) == BWTREE_OK && bwtree_get(&tree, 2, "a", 1, &old) == BWTREE_ABSENT && bwtree_close(&tree) == BWTREE_OK);
     CHECK(earlier.held_ == was.held_);

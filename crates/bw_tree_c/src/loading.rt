@@ -1,5 +1,5 @@
 //! A tree is opened with pairs.
-ghost use Rattle.std.specs.Prelude.{◌≡◌, ◌↔◌, ◌⊎◌, IfErr, IfOk, IsSome, map};
+ghost use Rattle.std.specs.Prelude.{◌≡◌, ◌↔◌, ◌⊎◌, IfErr, IfOk, IsSome, None, map};
 ghost use Rattle.bw_model.specs.declared.command.Reply.TheVariants as reply;
 ghost use Rattle.running_tree.specs.Loaded.{KeysAscend};
 ghost use Rattle.bw_tree_c.specs.Loaded.{AreShort, HasOpenedWith, IsLoadedWith, IsUnloaded, StopsLoad, TellsUnloaded, given_pair};
@@ -16,7 +16,7 @@ use running_tree::{Called, LoadError};
 use seats::opened_from;
 use std::alloc::Global;
 
-/// Opens a tree with these pairs, whose keys ascend.
+/// Opens a tree with these pairs, whose keys ascend, in a handle that keeps nothing.
 #[unsafe(no_mangle)]
 pub extern "C" fn bwtree_raw_open_from(
     alloc: Global,
@@ -28,6 +28,7 @@ pub extern "C" fn bwtree_raw_open_from(
     ensures told { (result ≡ OK) ⊎ (result ≡ BAD_LIMITS) ⊎ (result ≡ OPEN) ⊎ TellsUnloaded result }
     ensures ok { result ≡ OK → HasOpenedWith limits.now pairs.now tree.new.kept.value }
     ensures open { result ≡ OPEN → IsSome tree.old.kept.value }
+    ensures over { result ≡ OK → tree.old.kept.value ≡ None }
     ensures long { result ≡ TOO_LONG → AreShort pairs.now → ⊥ }
     ensures order { result ≡ BAD_ORDER → KeysAscend (map given_pair pairs.now) → ⊥ }
     ensures full { result ≡ FULL → StopsLoad limits.now pairs.now (Called.Done reply.Full) }
@@ -37,7 +38,7 @@ pub extern "C" fn bwtree_raw_open_from(
     let Some(limits) = limits.limits() else {
         return BAD_LIMITS;
     };
-    if tree.is_open() {
+    if let Some(_) = tree.shared() {
         return OPEN;
     }
     match shared_with(alloc, limits, pairs) {

@@ -1,5 +1,5 @@
 //! A tree is opened.
-ghost use Rattle.std.specs.Prelude.{◌≡◌, ◌⊎◌, ◌↔◌, IfSome, IsSome, IsTrue};
+ghost use Rattle.std.specs.Prelude.{◌≡◌, ◌⊎◌, ◌↔◌, IfSome, IsSome, IsTrue, None};
 ghost use Rattle.std.specs.Arc.{arc_value};
 ghost use Rattle.tree_limits.specs.Room.{AreProposed, AreProposedLarge};
 ghost use Rattle.running_tree.specs.Trees.{AreSeatsOf};
@@ -55,19 +55,20 @@ pub extern "C" fn bwtree_raw_limits_for_many_keys(
     }
 }
 
-/// Opens an empty tree.
+/// Opens an empty tree, in a handle that keeps nothing.
 #[unsafe(no_mangle)]
 pub extern "C" fn bwtree_raw_open(alloc: Global, limits: &TreeLimits, tree: &mut TreeHandle) -> u32
     ensures bad { (result ≡ BAD_LIMITS) ↔ (AreOpenable limits.now → ⊥) }
     ensures told { (result ≡ OK) ⊎ (result ≡ BAD_LIMITS) ⊎ (result ≡ OPEN) ⊎ (result ≡ NO_MEMORY) }
     ensures ok { result ≡ OK → HasOpened limits.now tree.new.kept.value }
     ensures open { result ≡ OPEN → IsSome tree.old.kept.value }
+    ensures over { result ≡ OK → tree.old.kept.value ≡ None }
     ensures same { (result ≡ OK → ⊥) → tree.new ≡ tree.old }
 {
     let Some(limits) = limits.limits() else {
         return BAD_LIMITS;
     };
-    if tree.is_open() {
+    if let Some(_) = tree.shared() {
         return OPEN;
     }
     let Some(shared) = shared_of(alloc, limits) else {
@@ -77,9 +78,25 @@ pub extern "C" fn bwtree_raw_open(alloc: Global, limits: &TreeLimits, tree: &mut
     OK
 }
 
+/// Empties the handle of a tree that is closed and has left no pairs: it is then as one that was never opened. Whether the tree is closed, the words of
+/// its slots tell, of which no clause speaks.
+#[unsafe(no_mangle)]
+pub extern "C" fn bwtree_raw_vacate(tree: &mut TreeHandle) -> u32
+    ensures told { (result ≡ OK) ⊎ (result ≡ OPEN) }
+    ensures ok { result ≡ OK → tree.new.kept.value ≡ None }
+    ensures open { result ≡ OPEN → IsSome tree.old.kept.value }
+    ensures same { result ≡ OPEN → tree.new ≡ tree.old }
+{
+    if tree.is_open() {
+        return OPEN;
+    }
+    *tree = TreeHandle::unopened();
+    OK
+}
+
 impl TreeHandle {
-    /// Whether it has a tree that isn't closed.
-    pub(crate) fn is_open(&self) -> bool
+    /// Whether it has a tree that isn't closed, or pairs that one has left.
+    fn is_open(&self) -> bool
         ensures { IsTrue result → IsSome self.now.kept.value }
     {
         match self.shared() {

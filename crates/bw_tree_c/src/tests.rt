@@ -15,7 +15,7 @@ use crate::handing::bwtree_raw_close_pairs;
 use crate::handle::TreeHandle;
 use crate::loading::bwtree_raw_open_from;
 use crate::opening::{
-    bwtree_raw_limits_for_keys, bwtree_raw_limits_for_many_keys, bwtree_raw_open,
+    bwtree_raw_limits_for_keys, bwtree_raw_limits_for_many_keys, bwtree_raw_open, bwtree_raw_vacate,
 };
 use crate::pages::{bwtree_raw_page, bwtree_raw_resume};
 use crate::place::Place;
@@ -97,7 +97,7 @@ fn two_seats(alloc: Global) -> TreeHandle {
 }
 
 /// What openings and closings answer.
-fn told_of_handles(alloc: Global) -> [u32; 10] {
+fn told_of_handles(alloc: Global) -> [u32; 14] {
     let mut tree = TreeHandle::unopened();
     let mut limits = no_limits();
     let mut old = no_bytes();
@@ -108,9 +108,13 @@ fn told_of_handles(alloc: Global) -> [u32; 10] {
         bwtree_raw_limits_for_keys(2, 100, &mut limits),
         bwtree_raw_open(alloc, &limits, &mut tree),
         bwtree_raw_open(alloc, &limits, &mut tree),
+        bwtree_raw_vacate(&mut tree),
         bwtree_raw_close(&tree),
         bwtree_raw_close(&tree),
         bwtree_raw_get(&tree, 0, b"a", &mut old),
+        bwtree_raw_open(alloc, &limits, &mut tree),
+        bwtree_raw_vacate(&mut tree),
+        bwtree_raw_vacate(&mut tree),
         bwtree_raw_open(alloc, &limits, &mut tree),
     ]
 }
@@ -139,7 +143,7 @@ fn large_trees_are_opened(rt: HostRuntime) {
 #[test]
 fn handles_are_opened_and_closed(rt: HostRuntime) {
     let wanted = [
-        CLOSED, BAD_LIMITS, BAD_LIMITS, OK, OK, OPEN, OK, CLOSED, CLOSED, OK,
+        CLOSED, BAD_LIMITS, BAD_LIMITS, OK, OK, OPEN, OPEN, OK, CLOSED, CLOSED, OPEN, OK, OK, OK,
     ];
     assert!(rt; told_of_handles(rt.alloc()) == wanted);
 }
@@ -238,7 +242,6 @@ fn trees_are_opened_with_pairs(rt: HostRuntime) {
 
 /// What a closing with pairs answers for which there is no room, what comes then, and how many pairs there are.
 fn told_of_pairs(alloc: Global, tree: &mut TreeHandle, pairs: &mut [Pair]) -> ([u32; 9], u64) {
-    let mut limits = no_limits();
     let mut old = no_bytes();
     let mut count = 0;
     let told = [
@@ -247,10 +250,10 @@ fn told_of_pairs(alloc: Global, tree: &mut TreeHandle, pairs: &mut [Pair]) -> ([
         bwtree_raw_insert(tree, 1, b"a", b"y", &mut old),
         bwtree_raw_close_pairs(alloc, tree, &mut [], &mut count),
         bwtree_raw_get(tree, 0, b"a", &mut old),
-        bwtree_raw_limits_for_keys(2, 100, &mut limits),
-        bwtree_raw_open(alloc, &limits, tree),
+        bwtree_raw_vacate(tree),
         bwtree_raw_close_pairs(alloc, tree, pairs, &mut count),
         bwtree_raw_close_pairs(alloc, tree, pairs, &mut count),
+        bwtree_raw_vacate(tree),
     ];
     (told, count)
 }
@@ -260,15 +263,14 @@ fn trees_are_closed_with_their_pairs(rt: HostRuntime) {
     let mut tree = two_seats(rt.alloc());
     let mut pairs = [no_pair(), no_pair(), short_pair(b'c', b'z')];
     let (told, count) = told_of_pairs(rt.alloc(), &mut tree, &mut pairs);
-    assert!(rt; told == [CLOSED, OK, OK, NO_ROOM, CLOSED, OK, OPEN, OK, CLOSED] && count == 2);
+    assert!(rt; told == [CLOSED, OK, OK, NO_ROOM, CLOSED, OPEN, OK, CLOSED, OK] && count == 2);
     assert!(rt; pairs[0].key.bytes[0] == b'a' && pairs[0].value.bytes[0] == b'y');
     assert!(rt; pairs[1].key.bytes[0] == b'b' && pairs[1].value.length == 1);
     assert!(rt; pairs[2].key.bytes[0] == b'c');
 }
 
 /// What closings of pairs that wait answer.
-fn told_of_dropped_pairs(alloc: Global, tree: &mut TreeHandle) -> [u32; 6] {
-    let mut limits = no_limits();
+fn told_of_dropped_pairs(alloc: Global, tree: &mut TreeHandle) -> [u32; 5] {
     let mut old = no_bytes();
     let mut count = 0;
     [
@@ -276,15 +278,14 @@ fn told_of_dropped_pairs(alloc: Global, tree: &mut TreeHandle) -> [u32; 6] {
         bwtree_raw_close_pairs(alloc, tree, &mut [], &mut count),
         bwtree_raw_close(tree),
         bwtree_raw_close(tree),
-        bwtree_raw_limits_for_keys(2, 100, &mut limits),
-        bwtree_raw_open(alloc, &limits, tree),
+        bwtree_raw_vacate(tree),
     ]
 }
 
 #[test]
 fn pairs_that_wait_are_dropped(rt: HostRuntime) {
     let told = told_of_dropped_pairs(rt.alloc(), &mut two_seats(rt.alloc()));
-    assert!(rt; told == [OK, NO_ROOM, OK, CLOSED, OK, OK]);
+    assert!(rt; told == [OK, NO_ROOM, OK, CLOSED, OK]);
 }
 
 /// What calls answer while another call is inside seat 0, and after that.
