@@ -15,11 +15,15 @@ mod asked;
 #[cfg(test)]
 mod by_hand;
 #[cfg(test)]
+mod crowds;
+#[cfg(test)]
 mod drawn_levels;
 #[cfg(test)]
 mod emptied;
 #[cfg(test)]
 mod four_levels;
+#[cfg(test)]
+mod in_turn;
 #[cfg(test)]
 mod index_removals;
 #[cfg(test)]
@@ -56,6 +60,8 @@ mod scripts;
 mod sleeping;
 #[cfg(test)]
 mod standing;
+#[cfg(test)]
+mod stood;
 #[cfg(test)]
 mod stops;
 #[cfg(test)]
