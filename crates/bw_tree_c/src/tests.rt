@@ -1,4 +1,5 @@
 //! The exports, called from Rattle: what each answers, in turn.
+ghost use Rattle.bw_tree_c.specs.Seats.{IsLater};
 
 use crate::answers::{
     ABSENT, BAD_LIMITS, BAD_ORDER, BUSY, CLOSED, DIFFERS, EXISTS, IDLE, NO_ROOM, NO_SEAT, OK, OPEN,
@@ -288,6 +289,19 @@ fn pairs_that_wait_are_dropped(rt: HostRuntime) {
     assert!(rt; told == [OK, NO_ROOM, OK, CLOSED, OK]);
 }
 
+/// Begins a lookup on an idle seat, with a budget of one step.
+fn begins(place: &mut Place) -> bool
+    ensures { IsLater place.old.seat place.new.seat }
+{
+    called(
+        &place.tree,
+        &mut place.seat,
+        Command::Get(Key::default()),
+        1,
+    )
+    .is_some()
+}
+
 /// What calls answer while another call is inside seat 0, and after that.
 fn told_of_seats(alloc: Global, tree: &TreeHandle) -> Option<[u32; 13]> {
     let mut old = no_bytes();
@@ -301,13 +315,11 @@ fn told_of_seats(alloc: Global, tree: &TreeHandle) -> Option<[u32; 13]> {
         bwtree_raw_close_pairs(alloc, tree, &mut [], &mut count),
         bwtree_raw_is_idle(tree, 1),
     ];
-    let Place {
-        tree: of,
-        seat,
-        reply: _,
-    } = &mut *place;
-    called(of, seat, Command::Get(Key::default()), 1)?;
+    let is_begun = begins(&mut place);
     give(slot, place);
+    if !is_begun {
+        return None;
+    }
     let [first, second, third, fourth, fifth] = inside;
     Some([
         first,
