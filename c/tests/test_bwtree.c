@@ -221,6 +221,7 @@ static void loads(void) {
     closed = first; /* so that a leak checker finds what that opening left, though a refused one makes the handle's bytes zero */
     two[0].value.length = 65;
     CHECK(bwtree_open_from(&limits, two, 1, &first) == BWTREE_TOO_LONG && bwtree_is_idle(&first, 0) == BWTREE_CLOSED);
+    CHECK(closed.held_ != 0 && first.held_ == 0);
     CHECK(bwtree_open_from(&limits, two, 0, &empty) == BWTREE_OK && walked(&empty, again) == 0 && bwtree_close(&empty) == BWTREE_OK);
     CHECK(bwtree_open_from(&limits, NULL, 0, &none) == BWTREE_OK && walked(&none, again) == 0 && bwtree_close(&none) == BWTREE_OK);
     /* what one tree has, the next one gets; and that doesn't fit into a small one */
