@@ -13,4 +13,4 @@ mod page;
 
 pub use item::{Content, Item};
 pub use items::{Items, MAX_HELD, MAX_ITEMS};
-pub use page::Page;
+pub use page::{Direction, Page};

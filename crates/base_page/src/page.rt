@@ -9,6 +9,7 @@ mod shows;
 
 use crate::{Item, Items};
 use bw_model::Key;
+pub use shows::Direction;
 use std::alloc::AllocError;
 use std::marker::Model;
 

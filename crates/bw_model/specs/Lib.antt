@@ -3,6 +3,8 @@ pub mod Bytes
 pub mod Examples
 pub mod Lent
 pub mod Log
+pub mod NextKeys
+pub mod Numbers
 pub mod Pairs
 pub mod Replies
 pub mod Schedules

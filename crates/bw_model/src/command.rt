@@ -16,10 +16,16 @@ pub enum Command {
     Upsert(Key, Value),
     /// Makes a key absent.
     Delete(Key),
+    /// Makes a key absent where it has this value.
+    DeleteIf(Key, Value),
     /// Gives a key the second value where it has the first one.
     Swap(Key, Value, Value),
+    /// Adds a number, modulo 2^64, to the one that a key's value of eight bytes spells; an absent key is given the number.
+    Add(Key, u64),
     /// A cursor page: the pairs of the leaf that has the key, from the key on.
     Page(Key),
+    /// A page backward: the pairs of the leaf that has the key, up to the key.
+    Back(Key),
     /// Upkeep that is due at the leaf that has the key; no value is changed.
     Tidy(Key),
 }
@@ -49,6 +55,8 @@ pub enum Reply {
     Differs(Value),
     /// The pairs, keys ascending, and the key from which the next page goes on, or none at the end.
     Page { items: Pairs, next: Option<Key> },
+    /// The pairs, keys ascending, and the key from which the next page backward goes on, or none at the beginning.
+    BackPage { items: Pairs, next: Option<Key> },
     /// The upkeep was done, or none was due.
     Tidied,
     /// Nothing was free for a change, and no key was changed.
@@ -65,13 +73,16 @@ impl Command {
             Command::Insert(key, _) => key,
             Command::Upsert(key, _) => key,
             Command::Delete(key) => key,
+            Command::DeleteIf(key, _) => key,
             Command::Swap(key, _, _) => key,
+            Command::Add(key, _) => key,
             Command::Page(key) => key,
+            Command::Back(key) => key,
             Command::Tidy(key) => key,
         }
     }
 
-    /// Whether an actor links records for the command; lookups and cursor pages link none.
+    /// Whether an actor links records for the command; lookups and pages of either direction link none.
     pub fn is_writer(&self) -> bool
         ensures { result ≡ is_writer self.now }
     {
@@ -80,8 +91,11 @@ impl Command {
             Command::Insert(_, _) => true,
             Command::Upsert(_, _) => true,
             Command::Delete(_) => true,
+            Command::DeleteIf(_, _) => true,
             Command::Swap(_, _, _) => true,
+            Command::Add(_, _) => true,
             Command::Page(_) => false,
+            Command::Back(_) => false,
             Command::Tidy(_) => true,
         }
     }
@@ -95,8 +109,11 @@ impl Command {
             Command::Insert(_, _) => old.is_none(),
             Command::Upsert(_, _) => true,
             Command::Delete(_) => old.is_some(),
+            Command::DeleteIf(_, expected) => old == Some(expected),
             Command::Swap(_, expected, _) => old == Some(expected),
+            Command::Add(_, _) => old.is_none_or(Value::is_number),
             Command::Page(_) => false,
+            Command::Back(_) => false,
             Command::Tidy(_) => false,
         }
     }
@@ -113,9 +130,26 @@ impl Command {
                 Some(Update::set(actor, key.copied(), value.copied()))
             }
             (Command::Delete(key), Some(_)) => Some(Update::unset(actor, key.copied())),
+            (Command::DeleteIf(key, expected), Some(old)) => {
+                if old == expected {
+                    Some(Update::unset(actor, key.copied()))
+                } else {
+                    None
+                }
+            }
             (Command::Swap(key, expected, value), Some(old)) => {
                 if old == expected {
                     Some(Update::set(actor, key.copied(), value.copied()))
+                } else {
+                    None
+                }
+            }
+            (Command::Add(key, number), None) => {
+                Some(Update::set(actor, key.copied(), Value::of_number(*number)))
+            }
+            (Command::Add(key, number), Some(old)) => {
+                if old.is_number() {
+                    Some(Update::set(actor, key.copied(), old.added(*number)))
                 } else {
                     None
                 }
@@ -133,10 +167,13 @@ impl Command {
             Command::Insert(key, value) => Command::Insert(key.copied(), value.copied()),
             Command::Upsert(key, value) => Command::Upsert(key.copied(), value.copied()),
             Command::Delete(key) => Command::Delete(key.copied()),
+            Command::DeleteIf(key, expected) => Command::DeleteIf(key.copied(), expected.copied()),
             Command::Swap(key, expected, value) => {
                 Command::Swap(key.copied(), expected.copied(), value.copied())
             }
+            Command::Add(key, number) => Command::Add(key.copied(), *number),
             Command::Page(key) => Command::Page(key.copied()),
+            Command::Back(key) => Command::Back(key.copied()),
             Command::Tidy(key) => Command::Tidy(key.copied()),
         }
     }
@@ -169,6 +206,10 @@ impl Reply {
             Reply::Swapped => Reply::Swapped,
             Reply::Differs(value) => Reply::Differs(value.copied()),
             Reply::Page { items, next } => Reply::Page {
+                items: items.copied(),
+                next: next.as_ref().map(Key::copied),
+            },
+            Reply::BackPage { items, next } => Reply::BackPage {
                 items: items.copied(),
                 next: next.as_ref().map(Key::copied),
             },

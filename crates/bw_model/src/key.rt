@@ -1,6 +1,8 @@
 //! Keys: short lists of bytes, in lexicographic order.
 ghost use Rattle.std.specs.Prelude.{◌≡◌, ◌≤◌, ◌↔◌, List, ℕ, [], length, take, IsOk, IfOk};
 ghost use Rattle.bw_model.specs.declared.short_bytes.TheConstants.{MAX_LENGTH};
+ghost use Rattle.bw_model.specs.Bytes.{IsShort};
+ghost use Rattle.bw_model.specs.NextKeys.{key_before};
 
 use crate::short_bytes::{MAX_LENGTH, ShortBytes, TooLong};
 use std::alloc::AllocError;
@@ -45,6 +47,29 @@ impl Key {
         Key {
             bytes: ShortBytes::first_of(bytes, count),
         }
+    }
+
+    /// The greatest key below this one, or none below the empty key: without the last byte, if that is 0; else with a last byte that is
+    /// one less, and filled up with 255 to 64 bytes.
+    pub fn before(&self) -> Option<Key>
+        ensures { result ≡ key_before self.now }
+    {
+        let (last, front) = self.as_slice().split_last()?;
+        let mut bytes = [255; MAX_LENGTH];
+        bytes[..front.len()].copy_from_slice(front);
+        if *last == 0 {
+            return Some(Key::first_of(&bytes, front.len() as u8));
+        }
+        bytes[front.len()] = *last - 1;
+        Some(Key::first_of(&bytes, MAX_LENGTH as u8))
+    }
+
+    /// A key is short, as its type keeps it; for proofs, to which a reference does not say so.
+    #[inline]
+    pub fn keeps_short(&self)
+        ensures { IsShort self.now }
+    {
+        let _ = &self.bytes;
     }
 
     /// The bytes.

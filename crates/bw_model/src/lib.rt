@@ -11,6 +11,7 @@
 mod command;
 mod examples;
 mod key;
+mod next_keys;
 mod pairs;
 mod schedule;
 mod short_bytes;
@@ -20,10 +21,12 @@ mod value;
 
 pub use command::{Command, Reply};
 pub use examples::{
-    commands_are_answered, keys_are_ordered, logs_are_read, pairs_are_listed, schedules_are_drawn,
-    upkeep_changes_nothing,
+    additions_are_answered, commands_are_answered, deletions_by_value_are_answered,
+    keys_are_ordered, logs_are_read, neighbours_are_found, numbers_are_spelled, pairs_are_listed,
+    schedules_are_drawn, upkeep_changes_nothing,
 };
 pub use key::Key;
+pub use next_keys::keys_have_neighbours;
 pub use pairs::{MAX_PAIRS, Pairs};
 pub use schedule::Schedule;
 pub use short_bytes::{MAX_LENGTH, TooLong};

@@ -2,13 +2,14 @@
 use Rattle.std.specs.Prelude.{◌≡◌, ◌≢◌, ◌<◌, ◌≤◌, ◌/◌, ◌^◌, ℕ, zero, suc, ◌⊎◌, List, [], ◌∷◌, length, Option, None, Some, Bool, true, false, IsTrue, IsFalse, IfSome, IsSome, MatchOption, ⊤}
 use Rattle.bw_model.specs.declared.command.Command.{Command}
 use Rattle.bw_model.specs.declared.command.Reply.{Reply}
-use Rattle.bw_model.specs.declared.command.Command.TheVariants.{Page, Tidy}
-use Rattle.bw_model.specs.declared.command.Reply.TheVariants.{Full, Tidied, Page as PageReply}
+use Rattle.bw_model.specs.declared.command.Command.TheVariants.{Back, Page, Tidy}
+use Rattle.bw_model.specs.declared.command.Reply.TheVariants.{Full, Tidied, BackPage, Page as PageReply}
 use Rattle.tree_limits.specs.declared.limits.Limits.{Limits}
 use Rattle.bw_model.specs.declared.step.Step.{Step as StepOf}
 use Rattle.bw_model.specs.declared.step.Step.TheVariants.{Slot, Row, Epoch, Announce, PidBits, RowBits, Place, Exchange, TakePid, TakeRow, Enter, Leave, Retire, ReusePids, ReuseRows}
-use Rattle.bw_model.specs.Bytes.{is_below, is_under}
+use Rattle.bw_model.specs.Bytes.{IsShort, is_below, is_under}
 use Rattle.bw_model.specs.Log.{Update, set, unset}
+use Rattle.bw_model.specs.NextKeys.{key_after, key_before}
 use Rattle.bw_model.specs.Pairs.{ArePairsOf}
 use Rattle.bw_model.specs.Replies.{command_key, is_writer, reply_of, update_of}
 use Rattle.base_page.specs.declared.item.Content.{Content}
@@ -326,6 +327,22 @@ pub record MayShowPage (k : Knowledge) (command : Command) (reply : Reply) : Typ
   pub unlinked : k.asked.linked ≡ None
   pub basis : WasStanding k row chain
 
+-- A page backward: the pairs of a leaf that stood, up to the command's key, and the greatest key below the leaf.
+pub record MayShowBack (k : Knowledge) (command : Command) (reply : Reply) : Type 0 where
+  pub upto : List ℕ
+  pub asks : command ≡ Back upto
+  pub row : ℕ
+  pub chain : List Record
+  pub read : IsChainFrom k.read.seen row chain
+  pub leaf : level_in chain ≡ 0
+  pub covers : IsTrue (covers chain upto)
+  pub short : IsShort (low_in chain)
+  pub pairs : List (List ℕ × List ℕ)
+  pub exact : ArePairsOf (chain_value chain) (low_in chain) (Some (key_after upto)) pairs
+  pub is : reply ≡ BackPage pairs (key_before (low_in chain))
+  pub unlinked : k.asked.linked ≡ None
+  pub basis : WasStanding k row chain
+
 -- Before the page was read, the page above it was read, which held it back.
 pub record IsHeldBack (k : Knowledge) (page : ℕ) (low : List ℕ) : Type 0 where
   pub parent : ℕ
@@ -365,7 +382,7 @@ pub record MayGiveUp (limits : Limits) (k : Knowledge) (command : Command) (repl
 pub record MayReply (limits : Limits) (actor : ℕ) (k : Knowledge) (reply : Reply) : Type 0 where
   pub command : Command
   pub going : k.asked.command ≡ Some command
-  pub justified : MayAnswer actor k command reply ⊎ MayShowPage k command reply ⊎ MayCallTidy k command reply ⊎ MayGiveUp limits k command reply
+  pub justified : MayAnswer actor k command reply ⊎ MayShowPage k command reply ⊎ MayShowBack k command reply ⊎ MayCallTidy k command reply ⊎ MayGiveUp limits k command reply
 
 -- A step that the actor may take by what it knows. A Leave, and no other step, has a reply, and so ends the operation.
 pub record IsAllowed (limits : Limits) (actor : ℕ) (k : Knowledge) (step : StepOf Record) (reply : Option Reply) : Type 0 where
