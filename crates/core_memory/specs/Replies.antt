@@ -3,7 +3,7 @@ use Rattle.std.specs.Prelude.{ℕ, List, ⊤}
 use Rattle.bw_model.specs.declared.command.Reply.{Reply}
 use Rattle.bw_model.specs.declared.command.Reply.TheVariants as reply
 use Rattle.core_memory.specs.declared.replies.Replied.{Replied}
-use Rattle.core_memory.specs.declared.replies.Replied.TheVariants.{Value, None, Inserted, Exists, Set, Replaced, Deleted, Absent, Swapped, Differs, Page, Tidied, Full}
+use Rattle.core_memory.specs.declared.replies.Replied.TheVariants.{Value, None, Inserted, Exists, Set, Replaced, Deleted, Absent, Swapped, Differs, Page, BackPage, Tidied, Full}
 
 -- the reply that was kept
 abbrev pub reply_in_box : Replied (List (List ℕ × List ℕ)) → Reply
@@ -18,12 +18,14 @@ reply_in_box Absent = reply.Absent
 reply_in_box Swapped = reply.Swapped
 reply_in_box (Differs value) = reply.Differs value
 reply_in_box (Page items next) = reply.Page items next
+reply_in_box (BackPage items next) = reply.BackPage items next
 reply_in_box Tidied = reply.Tidied
 reply_in_box Full = reply.Full
 
--- the reply is a cursor page
+-- the reply is a page, of either direction
 abbrev pub ShowsPairs : Reply → Type 0
 ShowsPairs (reply.Page items next) = ⊤
+ShowsPairs (reply.BackPage items next) = ⊤
 ShowsPairs (reply.Value value) = ⊥
 ShowsPairs reply.None = ⊥
 ShowsPairs reply.Inserted = ⊥

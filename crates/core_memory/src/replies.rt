@@ -1,4 +1,4 @@
-//! Replies as entries keep them: the pairs of a cursor page stand out of line, so that an entry is short.
+//! Replies as entries keep them: the pairs of a page stand out of line, so that an entry is short.
 ghost use Rattle.std.specs.Prelude.{◌≡◌, [], None, IfOk, IsSome};
 ghost use Rattle.core_memory.specs.Replies.{ShowsPairs};
 
@@ -6,7 +6,7 @@ use bw_model::{Key, Pairs, Reply, Value};
 use std::alloc::{AllocError, Allocator, Global};
 use std::marker::Model;
 
-/// The pairs of a cursor page on the heap.
+/// The pairs of a page on the heap.
 #[derive(Drop)]
 pub struct BoxedPairs<A: Allocator = Global> {
     owner: Box<Pairs, A>,
@@ -21,7 +21,7 @@ impl<A: Allocator> Model for BoxedPairs<A> {
 }
 
 impl<A: Allocator> BoxedPairs<A> {
-    /// Room for the pairs of a cursor page, with none in it; refused for want of memory alone.
+    /// Room for the pairs of a page, with none in it; refused for want of memory alone.
     pub fn new(alloc: A) -> Result<BoxedPairs<A>, AllocError>
         ensures { IfOk result (λ boxed. boxed ≡ []) }
     {
@@ -61,6 +61,7 @@ pub(crate) enum Replied<P> {
     Swapped,
     Differs(Value),
     Page { items: P, next: Option<Key> },
+    BackPage { items: P, next: Option<Key> },
     Tidied,
     Full,
 }
@@ -81,7 +82,7 @@ impl<A: Allocator> Model for BoxedReply<A> {
 }
 
 impl<A: Allocator> BoxedReply<A> {
-    /// The reply; a cursor page needs room for its pairs.
+    /// The reply; a page of either direction needs room for its pairs.
     pub fn new(reply: Reply, room: Option<BoxedPairs<A>>) -> BoxedReply<A>
         requires room { ShowsPairs reply → IsSome room }
         ensures { result ≡ reply }
@@ -98,6 +99,10 @@ impl<A: Allocator> BoxedReply<A> {
             Reply::Swapped => Replied::Swapped,
             Reply::Differs(value) => Replied::Differs(value),
             Reply::Page { items, next } => Replied::Page {
+                items: room.unwrap().filled(items),
+                next,
+            },
+            Reply::BackPage { items, next } => Replied::BackPage {
                 items: room.unwrap().filled(items),
                 next,
             },
@@ -123,6 +128,10 @@ impl<A: Allocator> BoxedReply<A> {
             Replied::Swapped => Reply::Swapped,
             Replied::Differs(value) => Reply::Differs(value.copied()),
             Replied::Page { items, next } => Reply::Page {
+                items: items.pairs().copied(),
+                next: next.as_ref().map(Key::copied),
+            },
+            Replied::BackPage { items, next } => Reply::BackPage {
                 items: items.pairs().copied(),
                 next: next.as_ref().map(Key::copied),
             },

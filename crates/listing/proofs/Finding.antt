@@ -1,12 +1,13 @@
 -- Going to the right until a leaf has the key.
-use Rattle.std.proofs.Common.{◌≡◌, ◌<◌, ◌≤◌, ◌+◌, ℕ, List, [], ◌∷◌, ◌++◌, length, Some, None, MatchOption, refl, sym, subst, ap, ◌∙◌, arith, append_assoc}
+use Rattle.std.proofs.Common.{◌≡◌, ◌<◌, ◌≤◌, ◌+◌, ℕ, List, [], ◌∷◌, ◌++◌, length, Some, MatchOption, refl, sym, subst, ap, ◌∙◌, arith, append_assoc}
 use Rattle.std.specs.List.{AllByRecursion, Contains}
 use Rattle.std.proofs.lemmas.List.{length-append}
 use Rattle.std.proofs.lemmas.List.Elements.{Contains-append_right}
-use Rattle.bw_model.specs.Pairs.{ArePairsOf}
 use Rattle.base_page.proofs.ItemLaws.{back_all}
-use Rattle.base_page.specs.Pages.{Page, content_at}
+use Rattle.base_page.specs.Pages.{Page}
 use Rattle.base_page.specs.Rules.{IsRuled}
+use Rattle.base_page.specs.Shown.{pairs_shown}
+use Rattle.base_page.specs.declared.page.shows.Direction.TheVariants.{Forward}
 use Rattle.deltas.specs.declared.record.Record.{Record}
 use Rattle.deltas.specs.Memory.{Memory}
 use Rattle.row_chain.proofs.PairLaws.{pairs_in}
@@ -14,7 +15,6 @@ use Rattle.tree_limits.specs.declared.limits.Limits.{Limits}
 use Rattle.traces.specs.chain.Chains.{low_in}
 use Rattle.traces.specs.chain.Fitted.{Makes}
 use Rattle.traces.specs.chain.SideChain.{IsSideChainFrom, IsWholeFrom, LivePage}
-use Rattle.traces.specs.discipline.Discipline.{value_of}
 use Rattle.tree_law.specs.Keys.{IsUnder, IsUpTo, Key}
 use Rattle.tree_law.specs.Leaves.{HasLeafPages, IsLeafPage}
 use Rattle.tree_law.proofs.shape.KeyOrder.{covers_to, empty_lowest}
@@ -129,14 +129,14 @@ module _ (limits : Limits) (memory : Memory) (leaves : HasLeafPages limits memor
     pub found_among : IsAmong memory leaves.pages pid
     found_among = record { front = f.front; rest = f.page ∷ f.later; whole = f.whole; next = f.next }
 
-    pub shows_from : (made : Page) → ((chain : List Record) → StandsAt memory pid chain → Makes chain made) → IsRuled made → (pairs : List (Key × Key))
-        → ArePairsOf (λ key. value_of (content_at made.items key)) from None pairs → IsPageFrom leaves.pages from pairs made.high
-    shows_from made makes ruled pairs are =
+    pub shows_from : (made : Page) → ((chain : List Record) → StandsAt memory pid chain → Makes chain made) → IsRuled made
+        → IsPageFrom leaves.pages from (pairs_shown Forward from made.items) made.high
+    shows_from made makes ruled =
         let is : Makes f.page.chain made = makes f.page.chain found_stands.1 in
         record {
           page = f.page;
           among = subst (λ ps. Contains ps f.page) (sym f.whole) (Contains-append_right f.front (f.page ∷ f.later) f.page (0, omega arith, refl));
           covers = covers_to f.page.chain from f.has;
           ends = sym is.high;
-          are = pairs_in f.page.chain made from pairs is ruled.is_page are;
+          are = pairs_in f.page.chain made from is ruled.is_page;
         }

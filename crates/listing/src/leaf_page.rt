@@ -9,7 +9,7 @@ ghost use Rattle.tree_law.specs.Keys.{IsUnder, IsUpTo};
 ghost use Rattle.tree_law.specs.Leaves.{HasLeafPages};
 
 use crate::page::page_of;
-use base_page::Page;
+use base_page::{Direction, Page};
 use bw_model::{Key, Limits, Pairs};
 use deltas::RecordRows;
 
@@ -36,10 +36,10 @@ pub fn page_from<M: RecordRows>(limits: &Limits, rows: &M, near: u32, from: &Key
     let leaf = leaf_with(limits, rows, near, from);
     let page = page_of(rows, leaf);
     let mut pairs = Pairs::new();
-    page.show_from(from, &mut pairs);
+    page.show(Direction::Forward, from, &mut pairs);
     LeafPage {
         pairs,
-        next: end_of(&page),
+        next: page.next(Direction::Forward),
         leaf,
     }
 }
@@ -86,15 +86,5 @@ fn right_of(leaf: &Page, from: &Key) -> Option<u32>
     match leaf.high() {
         Some(high) if !from.cmp(high).is_lt() => leaf.right(),
         _ => None,
-    }
-}
-
-/// The key where a page ends.
-fn end_of(page: &Page) -> Option<Key>
-    ensures { result ≡ page.now.high }
-{
-    match page.high() {
-        Some(high) => Some(high.copied()),
-        None => None,
     }
 }

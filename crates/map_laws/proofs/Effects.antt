@@ -8,10 +8,11 @@ use Rattle.std.proofs.lemmas.List.{append-nil}
 use Rattle.std.proofs.lemmas.List.Sums.{fold-append}
 use Rattle.base_page.proofs.KeyLaws.{either, same}
 use Rattle.bw_model.specs.Bytes.{key_cmp}
-use Rattle.bw_model.specs.Log.{Update, logged_value, set, updated_key, updated_value}
+use Rattle.bw_model.specs.Log.{Update, logged_value, set, unset, updated_key, updated_value}
+use Rattle.bw_model.specs.Numbers.{added, is_number}
 use Rattle.bw_model.specs.Replies.{command_key, is_writer, update_of}
 use Rattle.bw_model.specs.declared.command.Command.{Command}
-use Rattle.bw_model.specs.declared.command.Command.TheVariants.{Get, Insert, Upsert, Delete, Swap, Page, Tidy}
+use Rattle.bw_model.specs.declared.command.Command.TheVariants.{Get, Insert, Upsert, Delete, DeleteIf, Swap, Add, Page, Back, Tidy}
 use Rattle.op_machine.specs.theorem.Points.{updates_by}
 use Rattle.map_laws.specs.OwnKeys.{is_about, value_by, value_made}
 
@@ -34,9 +35,10 @@ module _ (key : List ℕ) (actor : ℕ) (before : Value) where
   abbrev Names : Command → Option Update → Type 0
   Names asked o = updated key o before ≡ (if is_eq (key_cmp key (command_key asked)) then value_by o before else before)
 
-  swap_names : (k expected value : List ℕ) (b : Bool) → Names (Swap k expected value) (if b then Some (set actor k value) else None)
-  swap_names k expected value true = refl
-  swap_names k expected value false = sym (if_same (is_eq (key_cmp key k)) before)
+  -- one that a test decides
+  names_if : (asked : Command) (update : Update) (b : Bool) → Names asked (Some update) → Names asked (if b then Some update else None)
+  names_if asked update true one = one
+  names_if asked update false one = sym (if_same (is_eq (key_cmp key (command_key asked))) before)
 
   -- an update names its command's key
   names_key : (asked : Command) (old : Value) → Names asked (update_of actor asked old)
@@ -46,14 +48,20 @@ module _ (key : List ℕ) (actor : ℕ) (before : Value) where
   names_key (Upsert k value) old = refl
   names_key (Delete k) None = sym (if_same (is_eq (key_cmp key k)) before)
   names_key (Delete k) (Some old) = refl
+  names_key (DeleteIf k expected) None = sym (if_same (is_eq (key_cmp key k)) before)
+  names_key (DeleteIf k expected) (Some old) = names_if (DeleteIf k expected) (unset actor k) (bytes_eq old expected) refl
   names_key (Swap k expected value) None = sym (if_same (is_eq (key_cmp key k)) before)
-  names_key (Swap k expected value) (Some old) = swap_names k expected value (bytes_eq old expected)
+  names_key (Swap k expected value) (Some old) = names_if (Swap k expected value) (set actor k value) (bytes_eq old expected) refl
+  names_key (Add k number) None = refl
+  names_key (Add k number) (Some old) = names_if (Add k number) (set actor k (added old number)) (is_number old) refl
   names_key (Page k) old = sym (if_same (is_eq (key_cmp key k)) before)
+  names_key (Back k) old = sym (if_same (is_eq (key_cmp key k)) before)
   names_key (Tidy k) old = sym (if_same (is_eq (key_cmp key k)) before)
 
-  swap_any : (k value : List ℕ) (b : Bool) → value_by (if b then Some (set actor k value) else None) before ≡ value_by (if b then Some (set 0 k value) else None) before
-  swap_any k value true = refl
-  swap_any k value false = refl
+  any_if : (one other : Update) (b : Bool) → updated_value one ≡ updated_value other
+      → value_by (if b then Some one else None) before ≡ value_by (if b then Some other else None) before
+  any_if one other true alike = alike
+  any_if one other false alike = refl
 
   -- whoever makes it
   any_actor : (asked : Command) (old : Value) → value_by (update_of actor asked old) before ≡ value_by (update_of 0 asked old) before
@@ -63,14 +71,20 @@ module _ (key : List ℕ) (actor : ℕ) (before : Value) where
   any_actor (Upsert k value) old = refl
   any_actor (Delete k) None = refl
   any_actor (Delete k) (Some old) = refl
+  any_actor (DeleteIf k expected) None = refl
+  any_actor (DeleteIf k expected) (Some old) = any_if (unset actor k) (unset 0 k) (bytes_eq old expected) refl
   any_actor (Swap k expected value) None = refl
-  any_actor (Swap k expected value) (Some old) = swap_any k value (bytes_eq old expected)
+  any_actor (Swap k expected value) (Some old) = any_if (set actor k value) (set 0 k value) (bytes_eq old expected) refl
+  any_actor (Add k number) None = refl
+  any_actor (Add k number) (Some old) = any_if (set actor k (added old number)) (set 0 k (added old number)) (is_number old) refl
   any_actor (Page k) old = refl
+  any_actor (Back k) old = refl
   any_actor (Tidy k) old = refl
 
 about : (key : List ℕ) (asked : Command) (before : Value)
     → (if is_eq (key_cmp key (command_key asked)) then value_made asked before else before) ≡ (if is_about key asked then value_made asked before else before)
 about key (Page k) before = if_same (is_eq (key_cmp key k)) before
+about key (Back k) before = if_same (is_eq (key_cmp key k)) before
 about key (Tidy k) before = if_same (is_eq (key_cmp key k)) before
 about key other before = refl
 
@@ -96,6 +110,7 @@ module _ (key : List ℕ) (log : List Update) (actor : ℕ) (asked : Command) wh
 pub reader_keeps : (asked : Command) (before : Value) → is_writer asked ≡ false → value_made asked before ≡ before
 reader_keeps (Get k) before is = refl
 reader_keeps (Page k) before is = refl
+reader_keeps (Back k) before is = refl
 reader_keeps other before is = absurd (cc)
 
 pub about_key : (key : List ℕ) (asked : Command) → is_about key asked ≡ true → key ≡ command_key asked
@@ -103,6 +118,9 @@ about_key key (Get k) is = same key k is
 about_key key (Insert k value) is = same key k is
 about_key key (Upsert k value) is = same key k is
 about_key key (Delete k) is = same key k is
+about_key key (DeleteIf k expected) is = same key k is
 about_key key (Swap k expected value) is = same key k is
+about_key key (Add k number) is = same key k is
 about_key key (Page k) is = absurd (cc)
+about_key key (Back k) is = absurd (cc)
 about_key key (Tidy k) is = absurd (cc)

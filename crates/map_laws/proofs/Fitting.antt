@@ -1,12 +1,12 @@
 -- The reply of a finished operation fits its command.
-use Rattle.std.proofs.Common.{◌≡◌, ℕ, List, [], ◌∷◌, ◌++◌, length, map, Bool, Option, Some, None, IsTrue, inl, inr, refl, sym, ap, subst, ◌∙◌}
+use Rattle.std.proofs.Common.{◌≡◌, ℕ, List, [], ◌∷◌, ◌++◌, length, map, Bool, true, false, Option, Some, None, IsTrue, inl, inr, refl, sym, ap, subst, ◌∙◌}
 use Rattle.std.specs.Prelude.{if◌then◌else◌, slice_get}
 use Rattle.std.specs.Str.{bytes_eq}
-use Rattle.base_page.proofs.KeyLaws.{either}
 use Rattle.bw_model.specs.Log.{logged_value}
+use Rattle.bw_model.specs.Numbers.{is_number}
 use Rattle.bw_model.specs.Replies.{command_key, is_writer, reply_of}
 use Rattle.bw_model.specs.declared.command.Command.{Command}
-use Rattle.bw_model.specs.declared.command.Command.TheVariants.{Get, Insert, Upsert, Delete, Swap, Page, Tidy}
+use Rattle.bw_model.specs.declared.command.Command.TheVariants.{Get, Insert, Upsert, Delete, DeleteIf, Swap, Add, Page, Back, Tidy}
 use Rattle.bw_model.specs.declared.command.Reply.{Reply}
 use Rattle.bw_model.specs.declared.command.Reply.TheVariants as reply
 use Rattle.tree_limits.specs.declared.limits.Limits.{Limits}
@@ -28,6 +28,12 @@ use Rattle.map_laws.specs.Fits.{CameFitting, fits}
 use Rattle.map_laws.proofs.Asking.{Calls, last_unanswered}
 use Rattle.map_laws.proofs.InOrder.{are_in_order, each_ended}
 
+-- what goes by a test
+by_test : (asked : Command) (test : Bool) (one other given : Reply) → IsTrue (fits asked one) → IsTrue (fits asked other)
+    → (if test then Some one else Some other) ≡ Some given → IsTrue (fits asked given)
+by_test asked true one other given fit fit_other e = let same : one ≡ given = cc in subst (λ r. IsTrue (fits asked r)) same fit
+by_test asked false one other given fit fit_other e = let same : other ≡ given = cc in subst (λ r. IsTrue (fits asked r)) same fit_other
+
 -- what goes by the key's value
 by_value : (asked : Command) (old : Option (List ℕ)) (given : Reply) → reply_of asked old ≡ Some given → IsTrue (fits asked given)
 by_value (Get key) None given e = let same : reply.None ≡ given = cc in subst (λ r. IsTrue (fits (Get key) r)) same refl
@@ -38,18 +44,20 @@ by_value (Upsert key value) None given e = let same : reply.Set ≡ given = cc i
 by_value (Upsert key value) (Some old) given e = let same : reply.Replaced old ≡ given = cc in subst (λ r. IsTrue (fits (Upsert key value) r)) same refl
 by_value (Delete key) None given e = let same : reply.Absent ≡ given = cc in subst (λ r. IsTrue (fits (Delete key) r)) same refl
 by_value (Delete key) (Some old) given e = let same : reply.Deleted old ≡ given = cc in subst (λ r. IsTrue (fits (Delete key) r)) same refl
+by_value (DeleteIf key expected) None given e = let same : reply.Absent ≡ given = cc in subst (λ r. IsTrue (fits (DeleteIf key expected) r)) same refl
+by_value (DeleteIf key expected) (Some old) given e = by_test (DeleteIf key expected) (bytes_eq old expected) (reply.Deleted old) (reply.Differs old) given refl refl e
 by_value (Swap key expected value) None given e = let same : reply.Absent ≡ given = cc in subst (λ r. IsTrue (fits (Swap key expected value) r)) same refl
-by_value (Swap key expected value) (Some old) given e = either (bytes_eq old expected)
-    (λ is. let said : Some reply.Swapped ≡ Some given = subst (λ (b : Bool). (if b then Some reply.Swapped else Some (reply.Differs old)) ≡ Some given) is e in
-    let same : reply.Swapped ≡ given = cc in subst (λ r. IsTrue (fits (Swap key expected value) r)) same refl)
-    (λ no. let said : Some (reply.Differs old) ≡ Some given = subst (λ (b : Bool). (if b then Some reply.Swapped else Some (reply.Differs old)) ≡ Some given) no e in
-    let same : reply.Differs old ≡ given = cc in subst (λ r. IsTrue (fits (Swap key expected value) r)) same refl)
+by_value (Swap key expected value) (Some old) given e = by_test (Swap key expected value) (bytes_eq old expected) reply.Swapped (reply.Differs old) given refl refl e
+by_value (Add key number) None given e = let same : reply.Set ≡ given = cc in subst (λ r. IsTrue (fits (Add key number) r)) same refl
+by_value (Add key number) (Some old) given e = by_test (Add key number) (is_number old) (reply.Replaced old) (reply.Differs old) given refl refl e
 by_value (Page from) old given e = absurd (cc)
+by_value (Back upto) old given e = absurd (cc)
 by_value (Tidy key) old given e = absurd (cc)
 
 full : (asked : Command) → IsTrue (is_writer asked) → IsTrue (fits asked reply.Full)
 full (Get key) is = absurd (cc)
 full (Page from) is = absurd (cc)
+full (Back upto) is = absurd (cc)
 full other is = refl
 
 module _ (limits : Limits) (run : List Entry) (points : List Bool) (operation : Operation) where
@@ -58,7 +66,8 @@ module _ (limits : Limits) (run : List Entry) (points : List Bool) (operation : 
 
   at_point : (given : Reply) → RepliesAtPoint limits run points operation given → FitsIts given
   at_point given (n, own, point, inl value) = by_value operation.command (logged_value (log_at run points n) (command_key operation.command)) given value
-  at_point given (n, own, point, inr page) = subst (λ (z : Command × Reply). IsTrue (fits z.0 z.1)) (λ i. (sym page.asks i, sym page.is i)) refl
+  at_point given (n, own, point, inr (inl page)) = subst (λ (z : Command × Reply). IsTrue (fits z.0 z.1)) (λ i. (sym page.asks i, sym page.is i)) refl
+  at_point given (n, own, point, inr (inr page)) = subst (λ (z : Command × Reply). IsTrue (fits z.0 z.1)) (λ i. (sym page.asks i, sym page.is i)) refl
 
   -- a true reply fits
   pub true_fits : (given : Reply) → IsTrueReply limits run points operation given → FitsIts given

@@ -78,7 +78,8 @@ replied limits run points operation other has says = says
 pub at_key : (key : List ℕ) (log : List Update) (memory : Memory) (asked : Command) (given : Reply) → RepliesAt memory log asked given → is_about key asked ≡ true
     → reply_of asked (logged_value log key) ≡ Some given
 at_key key log memory asked given (inl by_value) is = subst (λ (k : List ℕ). reply_of asked (logged_value log k) ≡ Some given) (sym (about_key key asked is)) by_value
-at_key key log memory asked given (inr page) is = let never : false ≡ true = sym (ap (is_about key) page.asks) ∙ is in absurd (cc)
+at_key key log memory asked given (inr (inl page)) is = let never : false ≡ true = sym (ap (is_about key) page.asks) ∙ is in absurd (cc)
+at_key key log memory asked given (inr (inr page)) is = let never : false ≡ true = sym (ap (is_about key) page.asks) ∙ is in absurd (cc)
 
 pub stands_at : {X : Type 0} (xs : List X) (n : ℕ) → n < length xs → (x : X) × (slice_get xs n ≡ Some x)
 stands_at [] n below = absurd (omega arith)

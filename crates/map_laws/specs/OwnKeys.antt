@@ -5,20 +5,23 @@ use Rattle.bw_model.specs.Bytes.{key_cmp}
 use Rattle.bw_model.specs.Log.{Update, updated_value}
 use Rattle.bw_model.specs.Replies.{is_writer, reply_of, update_of}
 use Rattle.bw_model.specs.declared.command.Command.{Command}
-use Rattle.bw_model.specs.declared.command.Command.TheVariants.{Get, Insert, Upsert, Delete, Swap, Page, Tidy}
+use Rattle.bw_model.specs.declared.command.Command.TheVariants.{Get, Insert, Upsert, Delete, DeleteIf, Swap, Add, Page, Back, Tidy}
 use Rattle.bw_model.specs.declared.command.Reply.{Reply}
 use Rattle.traces.specs.declared.trace.Entry.{Entry}
 use Rattle.op_machine.specs.theorem.Operations.{IsOperation, IsOwnStep, Operation}
 use Rattle.op_machine.specs.theorem.Points.{has_point}
 
--- whether the command is about the key's value; a cursor page and a tidying are not
+-- whether the command is about the key's value; a cursor page of either direction and a tidying are not
 abbrev pub is_about : List ℕ → Command → Bool
 is_about key (Get other) = is_eq (key_cmp key other)
 is_about key (Insert other value) = is_eq (key_cmp key other)
 is_about key (Upsert other value) = is_eq (key_cmp key other)
 is_about key (Delete other) = is_eq (key_cmp key other)
+is_about key (DeleteIf other expected) = is_eq (key_cmp key other)
 is_about key (Swap other expected value) = is_eq (key_cmp key other)
+is_about key (Add other number) = is_eq (key_cmp key other)
 is_about key (Page from) = false
+is_about key (Back upto) = false
 is_about key (Tidy other) = false
 
 -- whether it may change that value

@@ -1,8 +1,9 @@
 -- What commands write.
 use Rattle.op_machine.proofs.Words.{◌≡◌, ◌<◌, ◌≤◌, ℕ, Bool, true, false, List, length, Option, Some, None, is_some, refl, ap, ◌∙◌, arith, IsTrue, if◌then◌else◌, bytes_eq, is_in_range}
-use Rattle.op_machine.proofs.Words.{Record, same_Some, Command, Get, Insert, Upsert, Delete, Swap, PageFrom, Tidy, command_key, update_of, is_writer, Value, Child, next_row, covers}
+use Rattle.op_machine.proofs.Words.{Record, same_Some, Command, Add, Back, Get, Insert, Upsert, Delete, DeleteIf, Swap, PageFrom, Tidy, command_key, update_of, is_writer, Value, Child, next_row, covers}
 use Rattle.op_machine.proofs.Words.{is_removed, level_in, Knowledge, KeepsSparePage, linked_by, IsUsefulOver, update_over}
 use Rattle.bw_model.specs.Log.{Update, set, unset}
+use Rattle.bw_model.specs.Numbers.{number_bytes, is_number, added, sum_bytes}
 use Rattle.base_page.specs.declared.item.Content.{Content}
 use Rattle.base_page.specs.Pages.{Page, value_in}
 use Rattle.deltas.specs.Fits.{FitsDelete, FitsPut}
@@ -27,16 +28,21 @@ none_chosen true other update h = cc
 none_chosen false other update h = refl
 
 -- the record that a command places makes its update
-pub change_is : (actor : ℕ) (c : Command) (old : Option (List ℕ)) (u : Update) (x : ℕ) → update_of actor c old ≡ Some u → update_over c x ≡ update_record u x
+pub change_is : (actor : ℕ) (c : Command) (old : Option (List ℕ)) (u : Update) (x : ℕ) → update_of actor c old ≡ Some u → update_over c old x ≡ update_record u x
 change_is actor (Get key) old u x h = cc
 change_is actor (Insert key value) None u x h = ap (λ (w : Update). update_record w x) (same_Some _ _ h)
 change_is actor (Insert key value) (Some before) u x h = cc
 change_is actor (Upsert key value) old u x h = ap (λ (w : Update). update_record w x) (same_Some _ _ h)
 change_is actor (Delete key) None u x h = cc
 change_is actor (Delete key) (Some before) u x h = ap (λ (w : Update). update_record w x) (same_Some _ _ h)
+change_is actor (DeleteIf key expected) None u x h = cc
+change_is actor (DeleteIf key expected) (Some before) u x h = ap (λ (w : Update). update_record w x) (chosen_is (bytes_eq before expected) (unset actor key) u h)
 change_is actor (Swap key expected value) None u x h = cc
 change_is actor (Swap key expected value) (Some before) u x h = ap (λ (w : Update). update_record w x) (chosen_is (bytes_eq before expected) (set actor key value) u h)
+change_is actor (Add key number) None u x h = ap (λ (w : Update). update_record w x) (same_Some _ _ h)
+change_is actor (Add key number) (Some before) u x h = ap (λ (w : Update). update_record w x) (chosen_is (is_number before) (set actor key (added before number)) u h)
 change_is actor (PageFrom key) old u x h = cc
+change_is actor (Back key) old u x h = cc
 change_is actor (Tidy key) old u x h = cc
 
 -- which update is due does not depend on whose it is
@@ -47,9 +53,15 @@ update_due actor other (Insert key value) (Some before) h = cc
 update_due actor other (Upsert key value) old h = (set actor key value, refl)
 update_due actor other (Delete key) None h = cc
 update_due actor other (Delete key) (Some before) h = (unset actor key, refl)
+update_due actor other (DeleteIf key expected) None h = cc
+update_due actor other (DeleteIf key expected) (Some before) h = (unset actor key, chosen_due (bytes_eq before expected) (unset other key) (unset actor key) h)
 update_due actor other (Swap key expected value) None h = cc
 update_due actor other (Swap key expected value) (Some before) h = (set actor key value, chosen_due (bytes_eq before expected) (set other key value) (set actor key value) h)
+update_due actor other (Add key number) None h = (set actor key (number_bytes number), refl)
+update_due actor other (Add key number) (Some before) h =
+    (set actor key (added before number), chosen_due (is_number before) (set other key (added before number)) (set actor key (added before number)) h)
 update_due actor other (PageFrom key) old h = cc
+update_due actor other (Back key) old h = cc
 update_due actor other (Tidy key) old h = cc
 
 pub none_due : (actor other : ℕ) (c : Command) (old : Option (List ℕ)) → is_some (update_of other c old) ≡ false → update_of actor c old ≡ None
@@ -59,9 +71,14 @@ none_due actor other (Insert key value) (Some before) h = refl
 none_due actor other (Upsert key value) old h = cc
 none_due actor other (Delete key) None h = refl
 none_due actor other (Delete key) (Some before) h = cc
+none_due actor other (DeleteIf key expected) None h = refl
+none_due actor other (DeleteIf key expected) (Some before) h = none_chosen (bytes_eq before expected) (unset other key) (unset actor key) h
 none_due actor other (Swap key expected value) None h = refl
 none_due actor other (Swap key expected value) (Some before) h = none_chosen (bytes_eq before expected) (set other key value) (set actor key value) h
+none_due actor other (Add key number) None h = cc
+none_due actor other (Add key number) (Some before) h = none_chosen (is_number before) (set other key (added before number)) (set actor key (added before number)) h
 none_due actor other (PageFrom key) old h = refl
+none_due actor other (Back key) old h = refl
 none_due actor other (Tidy key) old h = refl
 
 -- a command that is no writer changes nothing
@@ -70,8 +87,11 @@ reads actor (Get key) old h = refl
 reads actor (Insert key value) old h = cc
 reads actor (Upsert key value) old h = cc
 reads actor (Delete key) old h = cc
+reads actor (DeleteIf key expected) old h = cc
 reads actor (Swap key expected value) old h = cc
+reads actor (Add key number) old h = cc
 reads actor (PageFrom key) old h = refl
+reads actor (Back key) old h = refl
 reads actor (Tidy key) old h = cc
 
 -- the value of a content, by either name
@@ -80,56 +100,37 @@ value_same None = refl
 value_same (Some (Value value)) = refl
 value_same (Some (Child page held)) = refl
 
--- what a command that changes the map places over a row
+-- what a command that changes the map, where its key has the value or none, places over a row
 
-abbrev pub Changes : Command → Type 0
-Changes c = (old : Option (List ℕ)) × (is_some (update_of 0 c old) ≡ true)
+abbrev pub Changes : Command → Option (List ℕ) → Type 0
+Changes c old = is_some (update_of 0 c old) ≡ true
 
 -- it comes over that row, and can be spelled there
-pub over_next : (c : Command) (x : ℕ) → next_row (update_over c x) ≡ Some x
-over_next (Get key) x = refl
-over_next (PageFrom key) x = refl
-over_next (Tidy key) x = refl
-over_next (Insert key value) x = refl
-over_next (Upsert key value) x = refl
-over_next (Delete key) x = refl
-over_next (Swap key expected value) x = refl
+pub over_next : (c : Command) (old : Option (List ℕ)) (x : ℕ) → next_row (update_over c old x) ≡ Some x
+over_next (Get key) old x = refl
+over_next c old x = refl
 
-pub over_spells : (c : Command) (x : ℕ) → IsRow x → IsSpellable (update_over c x)
-over_spells (Get key) x row = (omega arith, row)
-over_spells (PageFrom key) x row = (omega arith, row)
-over_spells (Tidy key) x row = (omega arith, row)
-over_spells (Insert key value) x row = row
-over_spells (Upsert key value) x row = row
-over_spells (Delete key) x row = row
-over_spells (Swap key expected value) x row = row
+pub over_spells : (c : Command) (old : Option (List ℕ)) (x : ℕ) → IsRow x → IsSpellable (update_over c old x)
+over_spells (Get key) old x row = (omega arith, row)
+over_spells (PageFrom key) old x row = (omega arith, row)
+over_spells (Back key) old x row = (omega arith, row)
+over_spells (Tidy key) old x row = (omega arith, row)
+over_spells c old x row = row
 
-pub over_kept : (c : Command) (x : ℕ) (pid : Option ℕ) → KeepsSparePage (update_over c x) pid
-over_kept (Get key) x pid = tt
-over_kept (PageFrom key) x pid = tt
-over_kept (Tidy key) x pid = tt
-over_kept (Insert key value) x pid = tt
-over_kept (Upsert key value) x pid = tt
-over_kept (Delete key) x pid = tt
-over_kept (Swap key expected value) x pid = tt
+pub over_kept : (c : Command) (old : Option (List ℕ)) (x : ℕ) (pid : Option ℕ) → KeepsSparePage (update_over c old x) pid
+over_kept (Get key) old x pid = tt
+over_kept c old x pid = tt
 
-pub over_useful : (k : Knowledge) (c : Command) (x : ℕ) → IsUsefulOver k x (update_over c x)
-over_useful k (Get key) x = tt
-over_useful k (PageFrom key) x = tt
-over_useful k (Tidy key) x = tt
-over_useful k (Insert key value) x = tt
-over_useful k (Upsert key value) x = tt
-over_useful k (Delete key) x = tt
-over_useful k (Swap key expected value) x = tt
+pub over_useful : (k : Knowledge) (c : Command) (old : Option (List ℕ)) (x : ℕ) → IsUsefulOver k x (update_over c old x)
+over_useful k (Get key) old x = tt
+over_useful k c old x = tt
 
-pub over_links : (c : Command) (x : ℕ) → Changes c → (before : Option (Option ℕ)) → linked_by (update_over c x) x before ≡ Some (Some x)
-over_links (Get key) x h before = let e = h.1 in cc
-over_links (PageFrom key) x h before = let e = h.1 in cc
-over_links (Tidy key) x h before = let e = h.1 in cc
-over_links (Insert key value) x h before = refl
-over_links (Upsert key value) x h before = refl
-over_links (Delete key) x h before = refl
-over_links (Swap key expected value) x h before = refl
+pub over_links : (c : Command) (old : Option (List ℕ)) (x : ℕ) → Changes c old → (before : Option (Option ℕ)) → linked_by (update_over c old x) x before ≡ Some (Some x)
+over_links (Get key) old x h before = cc
+over_links (PageFrom key) old x h before = cc
+over_links (Back key) old x h before = cc
+over_links (Tidy key) old x h before = cc
+over_links c old x h before = refl
 
 -- it fits a leaf with few deltas and items
 module _ (chain : List Record) (page : Page) (makes : Makes chain page) (alive : is_removed chain ≡ false) (leaf : level_in chain ≡ 0) (few : length page.items < 16) (short : length chain ≤ 8)
@@ -146,12 +147,18 @@ module _ (chain : List Record) (page : Page) (makes : Makes chain page) (alive :
         (arith, short),
   )
 
-  pub over_fits : (c : Command) (x : ℕ) → Changes c → IsRow x → IsTrue (covers chain (command_key c)) → FitsOn chain (update_over c x)
-  over_fits (Get key) x h row within = let e = h.1 in cc
-  over_fits (PageFrom key) x h row within = let e = h.1 in cc
-  over_fits (Tidy key) x h row within = let e = h.1 in cc
-  over_fits (Insert key value) x h row within = put_fits x key value row within
-  over_fits (Upsert key value) x h row within = put_fits x key value row within
-  over_fits (Swap key expected value) x h row within = put_fits x key value row within
-  over_fits (Delete key) x h row within =
+  delete_fits : (x : ℕ) (key : List ℕ) → IsRow x → IsTrue (covers chain key) → FitsOn chain (kind.Delete (record { next = x; key = key }))
+  delete_fits x key row within =
       (deletes (record { next = x; key = key }) row (record { alive = makes.removed ∙ alive; leaf = makes.level ∙ leaf; covered = covered key within }), omega (arith, short))
+
+  pub over_fits : (c : Command) (old : Option (List ℕ)) (x : ℕ) → Changes c old → IsRow x → IsTrue (covers chain (command_key c)) → FitsOn chain (update_over c old x)
+  over_fits (Get key) old x h row within = cc
+  over_fits (PageFrom key) old x h row within = cc
+  over_fits (Back key) old x h row within = cc
+  over_fits (Tidy key) old x h row within = cc
+  over_fits (Insert key value) old x h row within = put_fits x key value row within
+  over_fits (Upsert key value) old x h row within = put_fits x key value row within
+  over_fits (Swap key expected value) old x h row within = put_fits x key value row within
+  over_fits (Add key number) old x h row within = put_fits x key (sum_bytes old number) row within
+  over_fits (Delete key) old x h row within = delete_fits x key row within
+  over_fits (DeleteIf key expected) old x h row within = delete_fits x key row within

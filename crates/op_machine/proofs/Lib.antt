@@ -26,6 +26,7 @@ pub mod Reading
 pub mod Replying
 pub mod Rounds
 pub mod RowsRead
+pub mod Showing
 pub mod Stepping
 pub mod SweepMoves
 pub mod Takes

@@ -1,6 +1,7 @@
 -- A reply that goes by the value of its key isn't Full.
-use Rattle.op_machine.proofs.Words.{◌≡◌, ◌≢◌, ℕ, Bool, true, false, List, Option, Some, None, ◌∙◌, if◌then◌else◌, bytes_eq, same_Some, Command, Get, Insert, Upsert, Delete, Swap, PageFrom}
+use Rattle.op_machine.proofs.Words.{◌≡◌, ◌≢◌, ℕ, Bool, true, false, List, Option, Some, None, ◌∙◌, if◌then◌else◌, bytes_eq, same_Some, Command, Add, Back, Get, Insert, Upsert, Delete, DeleteIf, Swap, PageFrom}
 use Rattle.op_machine.proofs.Words.{Tidy, reply_of}
+use Rattle.bw_model.specs.Numbers.{is_number}
 use Rattle.bw_model.specs.declared.command.Reply.{Reply}
 use Rattle.bw_model.specs.declared.command.Reply.TheVariants as kind
 
@@ -18,7 +19,14 @@ not_full (Upsert key value) None reply e full = cc
 not_full (Upsert key value) (Some before) reply e full = cc
 not_full (Delete key) None reply e full = cc
 not_full (Delete key) (Some before) reply e full = cc
+not_full (DeleteIf key expected) None reply e full = cc
+not_full (DeleteIf key expected) (Some before) reply e full =
+    chosen_not_full (bytes_eq before expected) (kind.Deleted before) (kind.Differs before) reply (λ is. cc) (λ is. cc) e full
 not_full (Swap key expected value) None reply e full = cc
 not_full (Swap key expected value) (Some before) reply e full = chosen_not_full (bytes_eq before expected) kind.Swapped (kind.Differs before) reply (λ is. cc) (λ is. cc) e full
+not_full (Add key number) None reply e full = cc
+not_full (Add key number) (Some before) reply e full =
+    chosen_not_full (is_number before) (kind.Replaced before) (kind.Differs before) reply (λ is. cc) (λ is. cc) e full
 not_full (PageFrom key) old reply e full = cc
+not_full (Back key) old reply e full = cc
 not_full (Tidy key) old reply e full = cc

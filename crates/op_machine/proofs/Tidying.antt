@@ -1,9 +1,10 @@
 -- A tidying at the leaf of its key, where nothing is due.
 use Rattle.op_machine.proofs.Words.{◌≡◌, ◌≤◌, ◌<◌, inl, inr, ℕ, List, [], ◌∷◌, length, Bool, Option, Some, None, true, false, refl, ap, subst, arith, IsTrue, if◌then◌else◌, bytes_eq}
-use Rattle.op_machine.proofs.Words.{Command, Get, Insert, Upsert, Delete, Swap, PageFrom, Tidy, is_writer, reply_of, IsSpellablePage, Record, covers, level_in, MayReply, IsFitted, Knowledge}
+use Rattle.op_machine.proofs.Words.{Command, Add, Back, Get, Insert, Upsert, Delete, DeleteIf, Swap, PageFrom, Tidy, is_writer, reply_of, IsSpellablePage, Record, covers, level_in, MayReply, IsFitted, Knowledge}
 use Rattle.op_machine.proofs.Words.{Recalled, Spares, Version, from_made, of_made, IsAtLeafBelow, Task, IsIdleFor}
+use Rattle.bw_model.specs.Numbers.{is_number}
 use Rattle.bw_model.specs.declared.command.Reply.{Reply}
-use Rattle.bw_model.specs.declared.command.Reply.TheVariants.{Differs, Swapped, Tidied}
+use Rattle.bw_model.specs.declared.command.Reply.TheVariants.{Deleted, Differs, Replaced, Swapped, Tidied}
 use Rattle.base_page.specs.Pages.{Page}
 use Rattle.deltas.specs.declared.record.Record.TheVariants.{Base}
 use Rattle.traces.proofs.FittedLaws.{Makes-base}
@@ -26,9 +27,14 @@ tidies (Upsert key value) None writes none = cc
 tidies (Upsert key value) (Some before) writes none = cc
 tidies (Delete key) None writes none = cc
 tidies (Delete key) (Some before) writes none = cc
+tidies (DeleteIf key expected) None writes none = cc
+tidies (DeleteIf key expected) (Some before) writes none = replied (bytes_eq before expected) (Deleted before) (Differs before) none
 tidies (Swap key expected value) None writes none = cc
 tidies (Swap key expected value) (Some before) writes none = replied (bytes_eq before expected) Swapped (Differs before) none
+tidies (Add key number) None writes none = cc
+tidies (Add key number) (Some before) writes none = replied (is_number before) (Replaced before) (Differs before) none
 tidies (PageFrom key) old writes none = cc
+tidies (Back key) old writes none = cc
 tidies (Tidy key) old writes none = (key, refl)
 
 -- a chain without deltas is a base alone
@@ -53,7 +59,7 @@ may_call task spares k r parent leaf old below idle last none =
     record {
       command = task.command;
       going = at.seeks.asked.going;
-      justified = inr (inr (inl (record {
+      justified = inr (inr (inr (inl (record {
         key = tidy.0;
         asks = tidy.1;
         is = refl;
@@ -74,5 +80,5 @@ may_call task spares k r parent leaf old below idle last none =
                   leaf.chain at.page.in_hand.sound.is_chain.fitted at.level;
             });
         unlinked = at.seeks.asked.unlinked;
-      })));
+      }))));
     }

@@ -18,7 +18,7 @@ pub use Rattle.bw_model.specs.Bytes.{is_below, is_in_range}
 pub use Rattle.bw_model.specs.Log.{Update, logged_value}
 pub use Rattle.bw_model.specs.Replies.{is_writer, reply_of, command_key, update_of}
 pub use Rattle.bw_model.specs.declared.command.Command.{Command}
-pub use Rattle.bw_model.specs.declared.command.Command.TheVariants.{Get, Insert, Upsert, Delete, Swap, Page as PageFrom, Tidy}
+pub use Rattle.bw_model.specs.declared.command.Command.TheVariants.{Add, Back, Get, Insert, Upsert, Delete, DeleteIf, Swap, Page as PageFrom, Tidy}
 pub use Rattle.bw_model.specs.declared.step.Answer.{Answer}
 pub use Rattle.bw_model.specs.declared.step.Step.{Step as StepOf}
 pub use Rattle.bw_model.specs.declared.step.Step.TheVariants.{Exchange, ReusePids, TakePid}

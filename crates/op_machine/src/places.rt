@@ -3,12 +3,9 @@ ghost use Rattle.std.specs.Prelude.{◌≡◌, ◌<◌, ◌≤◌, ◌+◌, ℕ,
 ghost use Rattle.std.specs.Option.{option_map};
 ghost use Rattle.bw_model.specs.Answers.{answer_of};
 ghost use Rattle.bw_model.specs.Lent.{step_of_loan};
-ghost use Rattle.bw_model.specs.Pairs.{ArePairsOf};
 ghost use Rattle.bw_model.specs.declared.command.Reply.TheVariants as Reply;
 ghost use Rattle.bw_model.specs.declared.step.Answer.TheVariants.{Content, Number};
 ghost use Rattle.bw_model.specs.declared.step.Step.TheVariants.{Row};
-ghost use Rattle.traces.specs.chain.Chains.{high_in};
-ghost use Rattle.traces.specs.discipline.Discipline.{chain_value};
 ghost use Rattle.traces.specs.discipline.Knowledge.{Knowledge};
 ghost use Rattle.traces.specs.discipline.Recalled.{Recalled};
 ghost use Rattle.row_chain.specs.Placed.{IsReadChain};
@@ -29,6 +26,7 @@ ghost use Rattle.op_machine.specs.machine.Bounded.{few_changes, left_at};
 ghost use Rattle.op_machine.specs.machine.Outcomes.{IsToldAt, UnlinksAfter, change_out, has_begun, is_changing, lacks_at};
 ghost use Rattle.op_machine.specs.machine.Places.{HaveLimits, ReadsOn, WritesOn, ended_with, leaf_read, left_round_of, state_of};
 ghost use Rattle.op_machine.specs.machine.Shows.{FitsLast, MayBegin, MayStep, ShowsState, learn_last, wanted_at};
+ghost use Rattle.op_machine.specs.machine.ShortReplies.{ShowsChain};
 ghost use Rattle.op_machine.specs.machine.Tasks.{Task as TaskSeen};
 ghost use Rattle.op_machine.specs.machine.Works.{TurnsInto};
 ghost use Rattle.round_model.specs.WriteRounds as write;
@@ -41,6 +39,7 @@ ghost use Rattle.structure_changes.specs.Reads.{IsReadPage, chain_of};
 use crate::short_reply::{ReplyPlace, ShortReply, Which};
 use crate::task::Task;
 use crate::then::Then;
+use base_page::Direction;
 use bw_model::{Key, Limits, Reply, Step, Told};
 use change_machine::{Change, End, Kind, Spares};
 use deltas::Record;
@@ -231,20 +230,22 @@ impl<R: Rows, A: Allocator> Places<R, A> {
         leaf_of(&self.reader, is_beside)
     }
 
-    /// The operation is to leave with the pairs of the leaf that was read, from a key on, and where the next page goes on.
+    /// The operation is to leave with the pairs of the leaf that was read, from a key on or up to it, and where the next page goes on.
     pub(crate) fn leave_with_page(
         &mut self,
         is_beside: bool,
-        from: &Key,
+        direction: Direction,
+        bound: &Key,
         rows: &R,
         pass: &mut R::Pass,
     )
         requires read { IsReadChain (R.has rows.now pass.old) (chain_of (leaf_read is_beside self.old.reader)) }
         ensures looks { pass.new ≡ pass.old }
-        ensures page { (pairs : List (List ℕ × List ℕ)) × ArePairsOf (chain_value (leaf_read is_beside self.old.reader).chain) from.now (high_in (leaf_read is_beside self.old.reader).chain) pairs × (self.new ≡ record self.old { stand = StateKind.Leave; reply = Reply.Page pairs (high_in (leaf_read is_beside self.old.reader).chain); lacks = None }) }
+        ensures leaves { self.new ≡ record self.old { stand = StateKind.Leave; reply = self.new.reply; lacks = None } }
+        ensures page { ShowsChain (leaf_read is_beside self.old.reader).chain direction bound.now self.new.reply }
     {
         let leaf = leaf_of(&self.reader, is_beside).chain();
-        self.reply.put_page(leaf, from, rows, pass);
+        self.reply.put_page(leaf, direction, bound, rows, pass);
         self.lacks = None;
         self.stand = StateKind::Leave;
     }

@@ -24,6 +24,7 @@ ghost use Rattle.structure_changes.specs.Reads.{chain_of};
 use crate::places::Places;
 use crate::short_reply::ShortReply;
 use crate::task::Task;
+use base_page::Direction;
 use bw_model::Command;
 use round_model::read_leaves_stood;
 use rounds::ReadEndKind;
@@ -92,16 +93,21 @@ impl Task {
             → IsBetweenChanges self.now spares k × MayReply self.now.limits self.now.actor k places.new.reply }
         ensures answers { places.new.reply ≢ reply.Full }
     {
-        if let Command::Page(from) = self.command() {
-            places.leave_with_page(is_beside, from, rows, pass);
-            return;
+        match self.command() {
+            Command::Page(from) => {
+                return places.leave_with_page(is_beside, Direction::Forward, from, rows, pass);
+            }
+            Command::Back(upto) => {
+                return places.leave_with_page(is_beside, Direction::Backward, upto, rows, pass);
+            }
+            _ => {}
         }
         let key = self.command().key();
         let leaf = places.leaf_read(is_beside).chain();
         let found = leaf.find(rows, pass, &KeyWords::of(key));
         match ShortReply::of(self.command(), found.as_ref()) {
             Some(reply) => places.leave(reply),
-            None => places.leave_with_page(is_beside, key, rows, pass),
+            None => places.leave_with_page(is_beside, Direction::Forward, key, rows, pass),
         }
     }
 }

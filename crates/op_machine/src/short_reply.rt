@@ -1,15 +1,12 @@
 //! What an operation is to answer: a cursor page's leaf has a place of its own, so that no other reply moves its room.
-ghost use Rattle.std.specs.Prelude.{◌≡◌, ℕ, List, [], option_copied};
+ghost use Rattle.std.specs.Prelude.{◌≡◌, ℕ, List, [], option_copied, None, Some};
 ghost use Rattle.bw_model.specs.Replies.{reply_of};
 ghost use Rattle.bw_model.specs.declared.command.Reply.TheVariants as replied;
-ghost use Rattle.bw_model.specs.Pairs.{ArePairsOf};
-ghost use Rattle.base_page.specs.Shown.{pairs_from};
-ghost use Rattle.traces.specs.chain.Chains.{high_in};
-ghost use Rattle.traces.specs.discipline.Discipline.{chain_value};
+ghost use Rattle.base_page.specs.Shown.{next_shown, pairs_shown};
 ghost use Rattle.row_chain.specs.Placed.{IsReadChain};
-ghost use Rattle.op_machine.specs.machine.ShortReplies.{reply_with};
+ghost use Rattle.op_machine.specs.machine.ShortReplies.{ShowsChain, page_shown, reply_with};
 
-use base_page::Page;
+use base_page::{Direction, Page};
 use bw_model::{Command, Key, Pairs, Reply, Value};
 use row_chain::Chain;
 use row_search::Rows;
@@ -42,7 +39,7 @@ pub(crate) struct ShortReply {
 
 impl Model for ShortReply {
     ghost use Rattle.bw_model.specs.declared.command.Reply.{Reply};
-    ghost use Rattle.op_machine.specs.machine.ShortReplies.{reply_with};
+    ghost use Rattle.op_machine.specs.machine.ShortReplies.{ShowsChain, page_shown, reply_with};
 
     ghost Value = { Reply };
 
@@ -50,8 +47,8 @@ impl Model for ShortReply {
 }
 
 impl ShortReply {
-    /// The reply of a command where its key has the value `old`, or none; no reply of a cursor page or a tidying, which go by more
-    /// than one value.
+    /// The reply of a command where its key has the value `old`, or none; no reply of a page of either direction or a tidying, which
+    /// go by more than one value.
     pub(crate) fn of(command: &Command, old: Option<&Value>) -> Option<ShortReply>
         ensures { result ≡ reply_of command.now (option_copied old.entry) }
     {
@@ -64,6 +61,14 @@ impl ShortReply {
             (Command::Upsert(_, _), Some(value)) => Some(ShortReply::with(Which::Replaced, value)),
             (Command::Delete(_), None) => Some(ShortReply::bare(Which::Absent)),
             (Command::Delete(_), Some(value)) => Some(ShortReply::with(Which::Deleted, value)),
+            (Command::DeleteIf(_, _), None) => Some(ShortReply::bare(Which::Absent)),
+            (Command::DeleteIf(_, expected), Some(value)) => {
+                if value == expected {
+                    Some(ShortReply::with(Which::Deleted, value))
+                } else {
+                    Some(ShortReply::with(Which::Differs, value))
+                }
+            }
             (Command::Swap(_, _, _), None) => Some(ShortReply::bare(Which::Absent)),
             (Command::Swap(_, expected, _), Some(value)) => {
                 if value == expected {
@@ -72,7 +77,16 @@ impl ShortReply {
                     Some(ShortReply::with(Which::Differs, value))
                 }
             }
+            (Command::Add(_, _), None) => Some(ShortReply::bare(Which::Set)),
+            (Command::Add(_, _), Some(value)) => {
+                if value.is_number() {
+                    Some(ShortReply::with(Which::Replaced, value))
+                } else {
+                    Some(ShortReply::with(Which::Differs, value))
+                }
+            }
             (Command::Page(_), _) => None,
+            (Command::Back(_), _) => None,
             (Command::Tidy(_), _) => None,
         }
     }
@@ -147,12 +161,13 @@ impl ShortReply {
     }
 }
 
-/// The place of the reply with which an operation leaves: a cursor page, which is the pairs of a leaf's page from a key on, or any other.
+/// The place of the reply with which an operation leaves: a cursor page of a direction, which is the pairs of a leaf's page from a key
+/// on or up to it, or any other reply.
 #[derive(Drop)]
 pub(crate) struct ReplyPlace {
-    is_page: bool,
+    shown: Option<Direction>,
     short: ShortReply,
-    from: Key,
+    bound: Key,
     leaf: Page,
 }
 
@@ -162,7 +177,7 @@ impl Model for ReplyPlace {
 
     ghost Value = { Reply };
 
-    ghost view = { λ p. reply_in p.is_page p.short p.from p.leaf };
+    ghost view = { λ p. reply_in p.shown p.short p.bound p.leaf };
 }
 
 impl ReplyPlace {
@@ -171,9 +186,9 @@ impl ReplyPlace {
         ensures { result ≡ replied.None }
     {
         ReplyPlace {
-            is_page: false,
+            shown: None,
             short: ShortReply::bare(Which::None),
-            from: Key::default(),
+            bound: Key::default(),
             leaf: Page::empty_leaf(),
         }
     }
@@ -182,60 +197,78 @@ impl ReplyPlace {
     pub(crate) fn put(&mut self, reply: ShortReply)
         ensures { self.new ≡ reply }
     {
-        self.is_page = false;
+        self.shown = None;
         self.short = reply;
     }
 
-    /// Puts the cursor page of a leaf there, from a key on.
+    /// Puts the cursor page of a leaf there, from a key on or up to it.
     pub(crate) fn put_page<R: Rows, A: Allocator>(
         &mut self,
         leaf: &Chain<R, A>,
-        from: &Key,
+        direction: Direction,
+        bound: &Key,
         rows: &R,
         pass: &mut R::Pass,
     )
         requires read { IsReadChain (R.has rows.now pass.old) leaf.now }
         ensures looks { pass.new ≡ pass.old }
-        ensures page { (pairs : List (List ℕ × List ℕ)) × ArePairsOf (chain_value leaf.now.records) from.now (high_in leaf.now.records) pairs × (self.new ≡ replied.Page pairs (high_in leaf.now.records)) }
+        ensures page { ShowsChain leaf.now.records direction bound.now self.new }
     {
-        self.is_page = true;
-        self.from = from.copied();
+        self.shown = Some(direction);
+        self.bound = bound.copied();
         leaf.page_in(rows, pass, &mut self.leaf);
+        self.leaf.low().keeps_short();
     }
 
     /// Tells the reply that is there in another place.
     pub(crate) fn tell(&self, reply: &mut Reply)
         ensures { reply.new ≡ self.now }
     {
-        if self.is_page {
-            tell_page(&self.leaf, &self.from, reply);
-            return;
-        }
-        self.short.tell(reply);
+        let Some(direction) = self.shown else {
+            return self.short.tell(reply);
+        };
+        tell_page(&self.leaf, direction, &self.bound, reply);
     }
 }
 
-/// Tells the pairs of a leaf from a key on: over the cursor page that lies there, where one does.
-fn tell_page(leaf: &Page, from: &Key, reply: &mut Reply)
-    ensures { reply.new ≡ replied.Page (pairs_from from.now leaf.now.items) leaf.now.high }
+/// Tells the pairs of a leaf from a key on, or up to it: over the cursor page of the direction that lies there, where one does.
+fn tell_page(leaf: &Page, direction: Direction, bound: &Key, reply: &mut Reply)
+    ensures { reply.new ≡ page_shown direction bound.now leaf.now }
 {
-    if let Reply::Page { items, next } = &mut *reply {
-        leaf.show_from(from, items);
-        *next = leaf.high().map(Key::copied);
-        return;
+    if let (Direction::Forward, Reply::Page { items, next }) = (direction, &mut *reply) {
+        return show_over(leaf, direction, bound, items, next);
     }
-    tell_page_anew(leaf, from, reply);
+    if let (Direction::Backward, Reply::BackPage { items, next }) = (direction, &mut *reply) {
+        return show_over(leaf, direction, bound, items, next);
+    }
+    tell_page_anew(leaf, direction, bound, reply);
+}
+
+/// Makes these the pairs of a leaf from a key on, or up to it, and where the next page goes on.
+fn show_over(
+    leaf: &Page,
+    direction: Direction,
+    bound: &Key,
+    items: &mut Pairs,
+    next: &mut Option<Key>,
+)
+    ensures items { items.new ≡ pairs_shown direction bound.now leaf.now.items }
+    ensures next { next.new ≡ next_shown direction leaf.now }
+{
+    leaf.show(direction, bound, items);
+    *next = leaf.next(direction);
 }
 
 /// The same, whatever lies there. Not inlined: no other reply needs room for its pairs.
 #[inline(never)]
-fn tell_page_anew(leaf: &Page, from: &Key, reply: &mut Reply)
-    ensures { reply.new ≡ replied.Page (pairs_from from.now leaf.now.items) leaf.now.high }
+fn tell_page_anew(leaf: &Page, direction: Direction, bound: &Key, reply: &mut Reply)
+    ensures { reply.new ≡ page_shown direction bound.now leaf.now }
 {
     let mut items = Pairs::new();
-    leaf.show_from(from, &mut items);
-    *reply = Reply::Page {
-        items,
-        next: leaf.high().map(Key::copied),
+    leaf.show(direction, bound, &mut items);
+    let next = leaf.next(direction);
+    *reply = match direction {
+        Direction::Forward => Reply::Page { items, next },
+        Direction::Backward => Reply::BackPage { items, next },
     };
 }

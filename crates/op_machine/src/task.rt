@@ -11,7 +11,7 @@ ghost use Rattle.sweep.specs.Sweeps.{IsSoundSweep, IsKeptOutside, Shows as Shows
 
 use crate::errands::Errands;
 use base_page::Page;
-use bw_model::{Command, Key, Limits};
+use bw_model::{Command, Key, Limits, Value};
 use deltas::{Delete, Put, Record};
 use epochs::Limbo;
 use std::alloc::Allocator;
@@ -150,18 +150,20 @@ impl Task {
         ensures { result ≡ tends_of self.now.errands self.now.command }
     {
         match (&self.command, self.errands.newest()) {
-            (Command::Delete(_) | Command::Tidy(_), None) => true,
+            (Command::Delete(_) | Command::DeleteIf(_, _) | Command::Tidy(_), None) => true,
             _ => false,
         }
     }
 
-    /// The record that a command which changes the map places over the row `next`.
-    pub(crate) fn update_over(&self, next: u32) -> Record
-        requires { (old : Option (List ℕ)) × (is_some (update_of 0 self.now.command old) ≡ true) }
-        ensures { result ≡ update_over self.now.command next }
+    /// The record that a command places over the row `next` where it changes the map, its key having the value `old`, or none.
+    pub(crate) fn update_over(&self, old: Option<&Value>, next: u32) -> Record
+        requires { is_some (update_of 0 self.now.command (option_copied old)) ≡ true }
+        ensures { result ≡ update_over self.now.command (option_copied old.entry) next }
     {
         match &self.command {
-            Command::Get(_) | Command::Page(_) | Command::Tidy(_) => unreachable!(),
+            Command::Get(_) | Command::Page(_) | Command::Back(_) | Command::Tidy(_) => {
+                unreachable!()
+            }
             Command::Insert(key, value)
             | Command::Upsert(key, value)
             | Command::Swap(key, _, value) => Record::Put(Put {
@@ -169,7 +171,12 @@ impl Task {
                 key: key.copied(),
                 value: value.copied(),
             }),
-            Command::Delete(key) => Record::Delete(Delete {
+            Command::Add(key, number) => Record::Put(Put {
+                next,
+                key: key.copied(),
+                value: old.map_or(Value::of_number(*number), |old| old.added(*number)),
+            }),
+            Command::Delete(key) | Command::DeleteIf(key, _) => Record::Delete(Delete {
                 next,
                 key: key.copied(),
             }),

@@ -134,7 +134,7 @@ impl Task {
         ensures due { MatchOption result (IsIdleFor self.now.command round.now.round.parent round.now.page) (IsUpkeepFor self.now.command round.now.round.parent round.now.page) }
     {
         match (self.command(), round.kept_parent()) {
-            (Command::Delete(_) | Command::Tidy(_), Some(parent)) => {
+            (Command::Delete(_) | Command::DeleteIf(_, _) | Command::Tidy(_), Some(parent)) => {
                 plan_upkeep(parent, round.page(), rows, pass)
             }
             _ => None,
@@ -177,7 +177,7 @@ impl Task {
         let mut plan = Plan::Install {
             pid: leaf.pid(),
             head: leaf.head(),
-            content: self.update_over(leaf.head()),
+            content: self.update_over(old.as_ref(), leaf.head()),
         };
         places.begin_change(self, spares, &mut plan, Then::Reply(reply))
     }

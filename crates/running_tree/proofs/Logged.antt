@@ -168,13 +168,15 @@ module _ (limits : Limits) (entries : List Entry) (points : List Bool) (pointed 
   replied kind.Swapped full says = says
   replied (kind.Differs v) full says = says
   replied (kind.Page items next) full says = says
+  replied (kind.BackPage items next) full says = says
 
   abbrev old_log : List Update
   old_log = log_at entries points start
 
   at_point : (log : List Update) (memory : Memory) → RepliesAt memory log asked reply → reply_of asked (logged_value log key) ≡ Some reply
   at_point log memory (inl by_key) = by_key
-  at_point log memory (inr page) = let asks = page.asks in cc
+  at_point log memory (inr (inl page)) = let asks = page.asks in cc
+  at_point log memory (inr (inr page)) = let asks = page.asks in cc
 
   -- the operation adds its update to the log, and replies by the log before
   pub adds : (log_at entries points (suc last) ≡ log_at entries points start ++ set 0 key value ∷ []) × (reply_of (Upsert key value) (logged_value (log_at entries points start) key) ≡ Some reply)

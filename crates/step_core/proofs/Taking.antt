@@ -1,5 +1,5 @@
 -- One step of an actor: what is asked of it, and which step keeps pairs.
-use Rattle.std.proofs.Common.{◌≡◌, ℕ, List, Bool, Option, Some, None, cond, is_some, true, false, inl, inr, sym, ap, ◌∙◌, subst, refl}
+use Rattle.std.proofs.Common.{◌≡◌, ℕ, List, Bool, Option, Some, None, cond, is_some, true, false, ◌⊎◌, inl, inr, sym, ap, ◌∙◌, subst, refl}
 use Rattle.std.specs.Str.{bytes_eq}
 use Rattle.std.proofs.lemmas.Bool.{cases_eq}
 use Rattle.std.proofs.lemmas.Option.{same_Some}
@@ -7,7 +7,7 @@ use Rattle.round_model.specs.Machines.{AreThere}
 use Rattle.op_machine.specs.machine.UnderWay.{UnderWay}
 use Rattle.op_machine.specs.machine.Actors.{Actor, ActsOn, IsActor, IsActorShown, IsActorWith, IsGoing, IsToldActor, IsToldActorThere, command_at, running_command, wanted_by}
 use Rattle.bw_model.specs.declared.command.Command.{Command}
-use Rattle.bw_model.specs.declared.command.Command.TheVariants.{Get, Insert, Upsert, Delete, Swap, Page, Tidy}
+use Rattle.bw_model.specs.declared.command.Command.TheVariants.{Get, Insert, Upsert, Delete, DeleteIf, Swap, Add, Page, Back, Tidy}
 use Rattle.bw_model.specs.declared.command.Reply.{Reply}
 use Rattle.bw_model.specs.declared.command.Reply.TheVariants as kind
 use Rattle.tree_limits.specs.declared.limits.Limits.{Limits}
@@ -16,6 +16,7 @@ use Rattle.bw_model.specs.declared.step.Answer.TheVariants.{Content}
 use Rattle.bw_model.specs.declared.step.Step.{Step as StepOf}
 use Rattle.bw_model.specs.declared.step.Step.TheVariants as wants
 use Rattle.bw_model.specs.declared.step.Step.TheVariants.{Announce, Exchange, PidBits, Place, Retire, ReusePids, ReuseRows, Row, RowBits, Slot, TakePid, TakeRow}
+use Rattle.bw_model.specs.Numbers.{is_number}
 use Rattle.bw_model.specs.Replies.{command_key, reply_of}
 use Rattle.deltas.specs.declared.record.Record.{Record}
 use Rattle.deltas.specs.Memory.{Memory, replaced_at}
@@ -41,7 +42,7 @@ chosen_pairs : (b : Bool) (one two reply : Reply) → cond b (Some one) (Some tw
 chosen_pairs true one two reply e h first second = first (subst ShowsPairs (sym (same_Some one reply e)) h)
 chosen_pairs false one two reply e h first second = second (subst ShowsPairs (sym (same_Some two reply e)) h)
 
--- no reply by a key's value is a cursor page
+-- no reply by a key's value is a page
 no_pairs : (c : Command) (o : Option (List ℕ)) (reply : Reply) → reply_of c o ≡ Some reply → ShowsPairs reply → ⊥
 no_pairs (Get key) None reply e h = subst ShowsPairs (sym (same_Some kind.None reply e)) h
 no_pairs (Get key) (Some old) reply e h = subst ShowsPairs (sym (same_Some (kind.Value old) reply e)) h
@@ -51,18 +52,31 @@ no_pairs (Upsert key value) None reply e h = subst ShowsPairs (sym (same_Some ki
 no_pairs (Upsert key value) (Some old) reply e h = subst ShowsPairs (sym (same_Some (kind.Replaced old) reply e)) h
 no_pairs (Delete key) None reply e h = subst ShowsPairs (sym (same_Some kind.Absent reply e)) h
 no_pairs (Delete key) (Some old) reply e h = subst ShowsPairs (sym (same_Some (kind.Deleted old) reply e)) h
+no_pairs (DeleteIf key expected) None reply e h = subst ShowsPairs (sym (same_Some kind.Absent reply e)) h
+no_pairs (DeleteIf key expected) (Some old) reply e h =
+    chosen_pairs (bytes_eq old expected) (kind.Deleted old) (kind.Differs old) reply e h (λ shows. shows) (λ shows. shows)
 no_pairs (Swap key expected value) None reply e h = subst ShowsPairs (sym (same_Some kind.Absent reply e)) h
 no_pairs (Swap key expected value) (Some old) reply e h = chosen_pairs (bytes_eq old expected) kind.Swapped (kind.Differs old) reply e h (λ shows. shows) (λ shows. shows)
+no_pairs (Add key number) None reply e h = subst ShowsPairs (sym (same_Some kind.Set reply e)) h
+no_pairs (Add key number) (Some old) reply e h =
+    chosen_pairs (is_number old) (kind.Replaced old) (kind.Differs old) reply e h (λ shows. shows) (λ shows. shows)
 no_pairs (Page from) o reply e h = cc
+no_pairs (Back upto) o reply e h = cc
 no_pairs (Tidy key) o reply e h = cc
 
--- a reply with pairs is that of a cursor page
-asks_page : (limits : Limits) (actor : ℕ) (k : Knowledge) (reply : Reply) → MayReply limits actor k reply → ShowsPairs reply → (from : List ℕ) × (k.asked.command ≡ Some (Page from))
+-- the command asks for a page from the key on, or up to it
+abbrev AsksPage : Option Command → List ℕ → Type 0
+AsksPage command bound = (command ≡ Some (Page bound)) ⊎ (command ≡ Some (Back bound))
+
+-- a reply with pairs is that of a page
+asks_page : (limits : Limits) (actor : ℕ) (k : Knowledge) (reply : Reply) → MayReply limits actor k reply → ShowsPairs reply
+    → (bound : List ℕ) × AsksPage k.asked.command bound
 asks_page limits actor k reply may shows = elim may.justified [
   | inl value ↦ absurd (no_pairs may.command (chain_value value.chain (command_key may.command)) reply value.is shows)
-  | inr (inl page) ↦ (page.from, may.going ∙ ap Some page.asks)
-  | inr (inr (inl tidy)) ↦ absurd (subst ShowsPairs tidy.is shows)
-  | inr (inr (inr full)) ↦ absurd (subst ShowsPairs full.is shows)
+  | inr (inl page) ↦ (page.from, inl (may.going ∙ ap Some page.asks))
+  | inr (inr (inl page)) ↦ (page.upto, inr (may.going ∙ ap Some page.asks))
+  | inr (inr (inr (inl tidy))) ↦ absurd (subst ShowsPairs tidy.is shows)
+  | inr (inr (inr (inr full))) ↦ absurd (subst ShowsPairs full.is shows)
 ]
 
 -- an operation shows what its actor was asked
@@ -110,12 +124,14 @@ module _ (limits : Limits) (number : ℕ) (k : Knowledge) (r : Recalled) (memory
       (λ a. (g : IsGoing limits number k r at a) → ActsOn limits number k r at g.running.wanted a reply new) same goes on.0 in
       subst (λ asked. ActsOn limits number k r at asked answer reply new) on.1 from
 
-  -- where the reply has pairs, the step ends a cursor page
+  -- where the reply has pairs, the step ends a page
   pub needs_room : (at new : Actor) (reply : Reply) → is_some (running_command at) ≡ true → IsActor limits number k r at → wanted_by at.running ≡ Some step
       → ActsOn limits number k r at step answer (Some reply) new → ShowsPairs reply → NeedsRoom at
   needs_room at new reply some shows is goes pairs =
       let page = asks_page limits number k reply goes.allowed.replied.1 pairs in
-      subst (IsPageEnd (running_command at)) (sym is) (record { from = page.0; asks = sym (command_shown limits number k r at.hand at.running some shows) ∙ page.1; leaves = goes.allowed.replied.0 })
+      let asked = command_shown limits number k r at.hand at.running some shows in
+      subst (IsPageEnd (running_command at)) (sym is)
+      (record { bound = page.0; asks = subst (λ (command : Option Command). AsksPage command page.0) asked page.1; leaves = goes.allowed.replied.0 })
 
 -- the actor is told what the memory answers, whatever it knows
 pub told_of : (memory : Memory) (step : StepOf Record) (answer : Answer Record) (at : Actor) (told : Answer Record) → is_some (running_command at) ≡ true

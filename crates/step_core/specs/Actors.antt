@@ -34,12 +34,12 @@ IsReady limits actor k r memory at = IsActor limits actor k r at × IsServedAt l
 abbrev pub wanted_in : List Actor → List (Option (StepOf Record))
 wanted_in actors = map (λ (at : Actor). wanted_by at.running) actors
 
--- the step that is wanted ends a cursor page
+-- the step that is wanted ends a page of either direction
 abbrev pub IsPageEnd : Option Command → Option (StepOf Record) → Type 0
 IsPageEnd command None = ⊥
 IsPageEnd command (Some wanted) = EndsPage command wanted
 
--- the step that its operation wants ends a cursor page
+-- the step that its operation wants ends a page of either direction
 abbrev pub NeedsRoom : Actor → Type 0
 NeedsRoom at = IsPageEnd (running_command at) (wanted_by at.running)
 

@@ -1,7 +1,7 @@
 -- A core as its callers see it, what it refuses, and what a turn adds.
 use Rattle.std.specs.Prelude.{◌≡◌, ◌≢◌, ℕ, List, [], ◌∷◌, ◌++◌, length, Option, Some, None, Bool, true, false, is_some, nat_lt, if◌then◌else◌, slice_get, take, map, ◌⊎◌, ◌≤◌}
 use Rattle.bw_model.specs.declared.command.Command.{Command}
-use Rattle.bw_model.specs.declared.command.Command.TheVariants.{Page}
+use Rattle.bw_model.specs.declared.command.Command.TheVariants.{Back, Page}
 use Rattle.bw_model.specs.declared.command.Reply.{Reply}
 use Rattle.tree_limits.specs.declared.limits.Limits.{Limits}
 use Rattle.bw_model.specs.declared.step.Answer.{Answer}
@@ -55,10 +55,10 @@ actor_of (Step actor) = actor
 abbrev pub refusal_of : Core → Turn → Option RunError
 refusal_of core turn = refused_by (length core.entries) turn (busy_of core (actor_of turn))
 
--- The step is the last one of a cursor page, whose pairs are kept.
+-- The step is the last one of a page, of either direction, whose pairs are kept.
 pub record EndsPage (command : Option Command) (step : StepOf Record) : Type 0 where
-  pub from : List ℕ
-  pub asks : command ≡ Some (Page from)
+  pub bound : List ℕ
+  pub asks : (command ≡ Some (Page bound)) ⊎ (command ≡ Some (Back bound))
   pub leaves : step ≡ Leave
 
 -- what an actor keeps of its step is more than an entry has room for
@@ -67,7 +67,7 @@ KeepsMore command None = ⊥
 KeepsMore command (Some step) = MovesRecord step ⊎ EndsPage command step
 
 -- A turn wants memory only where the trace has no room left; but a step may want it also for a record that it places or reads,
--- and the last one of a cursor page for its pairs.
+-- and the last one of a page, of either direction, for its pairs.
 abbrev pub WantsMemory : Core → Turn → Type 0
 WantsMemory core (Begin actor command) = core.demand.room ≤ length core.entries
 WantsMemory core (Step actor) =

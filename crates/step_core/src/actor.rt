@@ -136,7 +136,7 @@ impl<A: Allocator> Stepped<A> {
     }
 }
 
-/// Room for the pairs of a cursor page, where the actor's operation ends with one.
+/// Room for the pairs of a page, where the actor's operation ends with one, of either direction.
 pub(crate) fn room<A: Allocator>(
     alloc: A,
     actor: &Actor<CoreRows<A>, A>,
@@ -147,11 +147,12 @@ pub(crate) fn room<A: Allocator>(
 {
     match actor.command() {
         Some(Command::Page(_)) => Ok(Some(BoxedPairs::<A>::new(alloc)?)),
+        Some(Command::Back(_)) => Ok(Some(BoxedPairs::<A>::new(alloc)?)),
         _ => Ok(None),
     }
 }
 
-/// Takes the leave that the actor's operation wants, and answers the reply; a cursor page has room for its pairs.
+/// Takes the leave that the actor's operation wants, and answers the reply; a page has room for its pairs.
 pub(crate) fn leave<A: Allocator>(
     actor: &mut Actor<CoreRows<A>, A>,
     number: u8,

@@ -25,7 +25,7 @@ pub use Frames.{chain_stands, chain_decides, RowChange, row_own, row_same, PageC
 pub use Frames.{row_free, page_free}
 pub use Kept.{placed_reached, reached_placed, chain_kept}
 pub use KeyOrder.{by_key, not_self, covers_from, key_other, not_below, upto_same, under_trans, by_range, covers_to, upto_trans, below_not}
-pub use LeafPlaces.{shows, is_leaf}
+pub use LeafPlaces.{shows, shows_back, is_leaf}
 pub use Levels.{indexed_first, indexed_push}
 pub use Mapping.{map_of, slot_some, chain_at}
 pub use Moments.{same_memory}

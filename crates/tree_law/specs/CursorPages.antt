@@ -1,8 +1,9 @@
--- What follows two of the runs: an actor asks for cursor pages, and for upkeep.
+-- What follows two of the runs: an actor asks for cursor pages of both directions, and for upkeep.
 use Rattle.std.specs.Prelude.{codes, List, [], ◌∷◌, ◌++◌, true, None, Some}
 use Rattle.bw_model.specs.declared.command.Command.{Command}
-use Rattle.bw_model.specs.declared.command.Command.TheVariants.{Page, Tidy}
+use Rattle.bw_model.specs.declared.command.Command.TheVariants.{Back, Page, Tidy}
 use Rattle.bw_model.specs.declared.command.Reply.TheVariants as reply
+use Rattle.bw_model.specs.NextKeys.{key_before}
 use Rattle.bw_model.specs.declared.step.Step.TheVariants.{Slot, Row, Place, Exchange, TakeRow, Enter, Leave}
 use Rattle.bw_model.specs.declared.step.Answer.TheVariants.{Number, Content, Whether, Done}
 use Rattle.deltas.specs.declared.record.Record.{Record}
@@ -19,6 +20,9 @@ page_a = Page a
 
 abbrev pub page_b : Command
 page_b = Page b
+
+abbrev pub back_b : Command
+back_b = Back b
 
 abbrev pub tidy_b : Command
 tidy_b = Tidy b
@@ -47,10 +51,9 @@ upkeep = Begin 1 page_a
     ∷ Step 1 Leave Done (Some reply.Tidied)
     ∷ []
 
--- After the helped split: a cursor page from the second key on, which has the pair that was put, and is the last.
-abbrev pub last_page : List Entry
-last_page = Begin 1 page_b
-    ∷ Step 1 (Enter 1) Done None
+-- after the helped split: the way to the last leaf
+abbrev pub walks_last : List Entry
+walks_last = Step 1 (Enter 1) Done None
     ∷ Step 1 (Slot 0) (Number 3) None
     ∷ Step 1 (Slot 3) (Number 8) None
     ∷ Step 1 (Row 8) (Content helped_term) None
@@ -58,5 +61,12 @@ last_page = Begin 1 page_b
     ∷ Step 1 (Slot 4) (Number 9) None
     ∷ Step 1 (Row 9) (Content other_put) None
     ∷ Step 1 (Row 6) (Content upper_c) None
-    ∷ Step 1 Leave Done (Some (reply.Page ((b, codes "2") ∷ []) None))
     ∷ []
+
+-- A cursor page from the second key on has the pair that was put, and is the last.
+abbrev pub last_page : List Entry
+last_page = Begin 1 page_b ∷ walks_last ++ Step 1 Leave Done (Some (reply.Page ((b, codes "2") ∷ []) None)) ∷ []
+
+-- A page backward up to the second key has that pair, and the next one goes up to the greatest key below it.
+abbrev pub back_page : List Entry
+back_page = Begin 1 back_b ∷ walks_last ++ Step 1 Leave Done (Some (reply.BackPage ((b, codes "2") ∷ []) (key_before b))) ∷ []

@@ -2,7 +2,7 @@
 ghost use Rattle.std.specs.Prelude.{◌++◌};
 ghost use Rattle.traces.specs.discipline.Disciplined.{IsDisciplined};
 ghost use Rattle.tree_law.specs.AllLinks.{all_links};
-ghost use Rattle.tree_law.specs.CursorPages.{last_page, upkeep};
+ghost use Rattle.tree_law.specs.CursorPages.{back_page, last_page, upkeep};
 ghost use Rattle.op_machine.specs.theorem.Examples.{small};
 ghost use Rattle.tree_law.specs.HelpedSplit.{helped_split};
 ghost use Rattle.tree_law.specs.IndexRemoval.{index_removal};
@@ -42,8 +42,9 @@ pub fn no_room_is_disciplined()
 {}
 
 /// After the run with a removal the second actor shows a cursor page of the removed leaf, and posts the term of the leaf on its
-/// right, at which then nothing is due; after the helped split it shows a cursor page with a pair.
+/// right, at which then nothing is due; after the helped split it shows a cursor page with a pair, forward or backward.
 pub fn pages_are_disciplined()
     ensures upkeep { IsDisciplined small (removal ++ upkeep) }
     ensures last_page { IsDisciplined small (helped_split ++ last_page) }
+    ensures back_page { IsDisciplined small (helped_split ++ back_page) }
 {}

@@ -18,12 +18,21 @@ pub(crate) fn command_words(words: &mut Words, command: &Command) {
             with_token(words, b" ", value.as_slice());
         }
         Command::Delete(key) => with_token(words, b"delete ", key.as_slice()),
+        Command::DeleteIf(key, expected) => {
+            with_token(words, b"delete_if ", key.as_slice());
+            with_token(words, b" ", expected.as_slice());
+        }
         Command::Swap(key, expected, value) => {
             with_token(words, b"swap ", key.as_slice());
             with_token(words, b" ", expected.as_slice());
             with_token(words, b" ", value.as_slice());
         }
+        Command::Add(key, number) => {
+            with_token(words, b"add ", key.as_slice());
+            with_number(words, b" ", *number);
+        }
         Command::Page(key) => with_token(words, b"page ", key.as_slice()),
+        Command::Back(key) => with_token(words, b"back ", key.as_slice()),
         Command::Tidy(key) => with_token(words, b"tidy ", key.as_slice()),
     }
 }

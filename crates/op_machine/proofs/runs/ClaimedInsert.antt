@@ -41,7 +41,8 @@ absent (Some value) e = cc
 
 absent_at : (memory : Memory) (log : List Update) → RepliesAt memory log insert reply.Inserted → logged_value log (codes "a") ≡ None
 absent_at memory log (inl is) = absent (logged_value log (codes "a")) is
-absent_at memory log (inr shows) = let e = shows.is in cc
+absent_at memory log (inr (inl shows)) = let e = shows.is in cc
+absent_at memory log (inr (inr shows)) = let e = shows.is in cc
 
 -- each step is one of the insert
 updates : (n : ℕ) (entry : Entry) → slice_get claimed_insert n ≡ Some entry → 0 < n → (log : List Update) → updates_at (take n claimed_insert) entry log ≡ updates_by 0 (Some insert) log

@@ -1,8 +1,9 @@
 -- What a change of an operation is for.
 use Rattle.std.specs.Prelude.{◌≡◌, ◌<◌, ℕ, List, Option, Some, None, false, IsTrue, length, ⊤, ◌≤◌}
 use Rattle.bw_model.specs.declared.command.Command.{Command}
-use Rattle.bw_model.specs.declared.command.Command.TheVariants.{Get, Insert, Upsert, Delete, Swap, Page, Tidy}
+use Rattle.bw_model.specs.declared.command.Command.TheVariants.{Get, Insert, Upsert, Delete, DeleteIf, Swap, Add, Page, Back, Tidy}
 use Rattle.bw_model.specs.declared.command.Reply.{Reply as ReplyOf}
+use Rattle.bw_model.specs.Numbers.{sum_bytes}
 use Rattle.bw_model.specs.Replies.{command_key, reply_of}
 use Rattle.deltas.specs.declared.record.Record.{Record}
 use Rattle.deltas.specs.declared.record.Record.TheVariants.{Base}
@@ -72,15 +73,19 @@ abbrev pub IsReadPlan : Knowledge → Plan → Type 0
 IsReadPlan k (Split pid split) = k.read.heads pid ≡ Some split.next
 IsReadPlan k plan = ⊤
 
--- the record that a command places over the row next, if it may change the map
-abbrev pub update_over : Command → ℕ → Record
-update_over (Get key) next = newest.Remove (record { level = 0; next = next })
-update_over (Insert key value) next = newest.Put (record { next = next; key = key; value = value })
-update_over (Upsert key value) next = newest.Put (record { next = next; key = key; value = value })
-update_over (Delete key) next = newest.Delete (record { next = next; key = key })
-update_over (Swap key expected value) next = newest.Put (record { next = next; key = key; value = value })
-update_over (Page from) next = newest.Remove (record { level = 0; next = next })
-update_over (Tidy key) next = newest.Remove (record { level = 0; next = next })
+-- The record that a command places over the row next, if it may change the map: what an addition writes goes by the value that the
+-- key has.
+abbrev pub update_over : Command → Option (List ℕ) → ℕ → Record
+update_over (Get key) old next = newest.Remove (record { level = 0; next = next })
+update_over (Insert key value) old next = newest.Put (record { next = next; key = key; value = value })
+update_over (Upsert key value) old next = newest.Put (record { next = next; key = key; value = value })
+update_over (Delete key) old next = newest.Delete (record { next = next; key = key })
+update_over (DeleteIf key expected) old next = newest.Delete (record { next = next; key = key })
+update_over (Swap key expected value) old next = newest.Put (record { next = next; key = key; value = value })
+update_over (Add key number) old next = newest.Put (record { next = next; key = key; value = sum_bytes old number })
+update_over (Page from) old next = newest.Remove (record { level = 0; next = next })
+update_over (Back upto) old next = newest.Remove (record { level = 0; next = next })
+update_over (Tidy key) old next = newest.Remove (record { level = 0; next = next })
 
 -- the errands once a change has ended: a split that won adds its own
 abbrev pub errands_after : End → Then → List (List ℕ) → List (List ℕ)

@@ -2,7 +2,7 @@
 use Rattle.std.specs.Prelude.{◌∷◌, [], ◌++◌, ◌-◌, ℕ, List, Bool, false, length, nat_lt, if◌then◌else◌, slice_get, unwrap_or}
 use Rattle.tree_limits.specs.declared.limits.Limits.{Limits}
 use Rattle.bw_model.specs.declared.command.Command.{Command}
-use Rattle.bw_model.specs.declared.command.Command.TheVariants.{Delete, Get, Insert, Page, Swap, Tidy, Upsert}
+use Rattle.bw_model.specs.declared.command.Command.TheVariants.{Add, Back, Delete, DeleteIf, Get, Insert, Page, Swap, Tidy, Upsert}
 use Rattle.bw_model.specs.Replies.{command_key}
 use Rattle.structure_changes.specs.Sizes.{many_of}
 use Rattle.op_machine.specs.machine.Upkeep.{tidies}
@@ -22,8 +22,11 @@ due_of limits [] (Get key) = many_of limits
 due_of limits [] (Insert key value) = many_of limits
 due_of limits [] (Upsert key value) = many_of limits
 due_of limits [] (Delete key) = many_of limits
+due_of limits [] (DeleteIf key expected) = many_of limits
 due_of limits [] (Swap key expected value) = many_of limits
+due_of limits [] (Add key number) = many_of limits
 due_of limits [] (Page key) = many_of limits
+due_of limits [] (Back key) = many_of limits
 due_of limits (key ∷ errands) command = many_of limits
 
 -- Whether a round holds and removes small index pages on its way: that of a deletion or a tidying for its own key does.

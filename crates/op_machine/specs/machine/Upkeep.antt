@@ -1,7 +1,7 @@
 -- What a deletion or a tidying does at a small page: it holds the page's term, and then removes the page.
 use Rattle.std.specs.Prelude.{◌≡◌, Bool, Option, None, Some, true, false, ⊤}
 use Rattle.bw_model.specs.declared.command.Command.{Command}
-use Rattle.bw_model.specs.declared.command.Command.TheVariants.{Delete, Get, Insert, Page, Swap, Tidy, Upsert}
+use Rattle.bw_model.specs.declared.command.Command.TheVariants.{Add, Back, Delete, DeleteIf, Get, Insert, Page, Swap, Tidy, Upsert}
 use Rattle.deltas.specs.declared.record.Record.TheVariants as kind
 use Rattle.structure_changes.specs.declared.plan.Plan.{Plan}
 use Rattle.structure_changes.specs.declared.plan.Plan.TheVariants.{Install}
@@ -11,12 +11,15 @@ use Rattle.structure_changes.specs.Versions.{Version}
 -- the commands that make the tree smaller
 abbrev pub tidies : Command → Bool
 tidies (Delete key) = true
+tidies (DeleteIf key expected) = true
 tidies (Tidy key) = true
 tidies (Get key) = false
 tidies (Insert key value) = false
 tidies (Upsert key value) = false
 tidies (Swap key expected value) = false
+tidies (Add key number) = false
 tidies (Page key) = false
+tidies (Back key) = false
 
 -- Nothing is due for a command at a leaf, with a page above it or without one.
 abbrev pub IsIdleFor : Command → Option Version → Version → Type 0

@@ -2,13 +2,15 @@
 use Rattle.std.specs.Prelude.{◌≡◌, ◌≢◌, ◌<◌, ◌≤◌, ◌/◌, ℕ, List, [], ◌∷◌, length, Option, Bool, Some, IsTrue, ◌⊎◌, false}
 use Rattle.std.specs.List.{Contains}
 use Rattle.bw_model.specs.declared.command.Command.{Command}
-use Rattle.bw_model.specs.declared.command.Command.TheVariants.{Page, Tidy}
+use Rattle.bw_model.specs.declared.command.Command.TheVariants.{Back, Page, Tidy}
 use Rattle.bw_model.specs.declared.command.Reply.{Reply}
 use Rattle.bw_model.specs.declared.command.Reply.TheVariants as reply
 use Rattle.tree_limits.specs.declared.limits.Limits.{Limits}
 use Rattle.bw_model.specs.declared.step.Step.TheVariants.{PidBits, RowBits, Slot}
 use Rattle.bw_model.specs.declared.step.Answer.TheVariants.{Number}
+use Rattle.bw_model.specs.Bytes.{IsShort}
 use Rattle.bw_model.specs.Log.{Update, logged_value}
+use Rattle.bw_model.specs.NextKeys.{key_after, key_before}
 use Rattle.bw_model.specs.Pairs.{IsPairsOf}
 use Rattle.bw_model.specs.Replies.{command_key, is_writer, reply_of}
 use Rattle.base_page.specs.declared.page.Page.{Page as BasePage}
@@ -46,9 +48,28 @@ pub record ShowsPage (memory : Memory) (log : List Update) (command : Command) (
   pub is : answer ≡ reply.Page items next
   pub page : IsCursorPage memory log from items next
 
--- What a command replies at its point, where the memory and the log are these: by its key's value, or with a cursor page.
+-- A page backward begins at the low key of the leaf that has its key, and has the log's pairs from there up to that key; the next one
+-- goes on at the greatest key below the leaf.
+pub record IsBackPage (memory : Memory) (log : List Update) (upto : List ℕ) (items : List (List ℕ × List ℕ)) (next : Option (List ℕ)) : Type 0 where
+  pub leaf : LivePage
+  pub stands : IsLeafOf memory upto leaf
+  pub short : IsShort (low_in leaf.chain)
+  pub goes_on : key_before (low_in leaf.chain) ≡ next
+  pub pairs : IsPairsOf log (low_in leaf.chain) (Some (key_after upto)) items
+
+-- a page backward as a command's reply
+pub record ShowsBack (memory : Memory) (log : List Update) (command : Command) (answer : Reply) : Type 0 where
+  pub upto : List ℕ
+  pub asks : command ≡ Back upto
+  pub items : List (List ℕ × List ℕ)
+  pub next : Option (List ℕ)
+  pub is : answer ≡ reply.BackPage items next
+  pub page : IsBackPage memory log upto items next
+
+-- What a command replies at its point, where the memory and the log are these: by its key's value, or with a page of either direction.
 abbrev pub RepliesAt : Memory → List Update → Command → Reply → Type 0
-RepliesAt memory log command answer = (reply_of command (logged_value log (command_key command)) ≡ Some answer) ⊎ ShowsPage memory log command answer
+RepliesAt memory log command answer =
+    (reply_of command (logged_value log (command_key command)) ≡ Some answer) ⊎ ShowsPage memory log command answer ⊎ ShowsBack memory log command answer
 
 -- Nothing is due at the leaf that has the key: it is a base alone, with fewer than 16 items. A base alone isn't removed.
 pub record IsTidy (memory : Memory) (key : List ℕ) : Type 0 where
@@ -106,6 +127,7 @@ module _ (limits : Limits) (entries : List Entry) where
   IsTrueReply points operation reply.Swapped = RepliesAtPoint points operation reply.Swapped
   IsTrueReply points operation (reply.Differs value) = RepliesAtPoint points operation (reply.Differs value)
   IsTrueReply points operation (reply.Page items next) = RepliesAtPoint points operation (reply.Page items next)
+  IsTrueReply points operation (reply.BackPage items next) = RepliesAtPoint points operation (reply.BackPage items next)
 
   pub record IsAnswered (points : List Bool) : Type 0 where
     pub each : (operation : Operation) (n : ℕ) (answer : Reply) → IsOperation entries operation → Finishes entries operation n answer → IsTrueReply points operation answer

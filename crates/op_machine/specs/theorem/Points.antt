@@ -57,6 +57,7 @@ has_point kind.Absent = true
 has_point kind.Swapped = true
 has_point (kind.Differs value) = true
 has_point (kind.Page items next) = true
+has_point (kind.BackPage items next) = true
 has_point kind.Tidied = false
 has_point kind.Full = false
 

@@ -4,8 +4,9 @@ use Rattle.tree_law.proofs.Words.{same_Some, option_map, is_eq, if◌then◌else
 use Rattle.tree_law.proofs.Words.{ContentOf, Child, Value, next_row, Record, Remove, content_in, right_in, low_in, is_removed, level_in, high_in, value_of, base_from, HasRead, update_record}
 use Rattle.tree_law.proofs.Words.{MayUpdate, MayConsolidate, MayRemove, Knowledge, Written, linked_over, handed_over, rebuilt, after_update, Key, Covers, Linked, Owners, Reached}
 use Rattle.tree_law.proofs.Words.{leaf_map, Placed, Indexed, PageOwner, rank, Removed, Held, Merged, Stage, stage_removed, put, Shared, IsTree, spec, []}
-use Rattle.bw_model.specs.declared.command.Command.TheVariants.{Delete}
+use Rattle.bw_model.specs.declared.command.Command.TheVariants.{Add, Delete, DeleteIf}
 use Rattle.bw_model.specs.Log.{updated_key, updated_value}
+use Rattle.bw_model.specs.Numbers.{added, is_number, number_bytes}
 use Rattle.tree_law.proofs.shape.KeyOrder.{by_key, covers_from, covers_to}
 use Rattle.tree_law.proofs.shape.Puts.{by_equal, put_same, put_other}
 use Rattle.tree_law.proofs.shape.Terms.{exact_going}
@@ -46,16 +47,19 @@ key_apart : (u : Update) (l : List Update) (k : Key) → k ≢ updated_key u →
 key_apart u l k ne = rw (logged_value_push l u k) (by_key k (updated_key u) (λ e t. absurd (ne e)) (λ e t. rw t))
 
 -- an update that a test decides
-chosen_key : (test : Bool) (b : ℕ) (k v : Key) (u : Update) → (if test then Some (set b k v) else None) ≡ Some u → updated_key u ≡ k
-chosen_key true b k v u e = ap updated_key (sym (same_Some (set b k v) u e))
-chosen_key false b k v u e = absurd (cc)
+chosen_key : (test : Bool) (made u : Update) → (if test then Some made else None) ≡ Some u → updated_key u ≡ updated_key made
+chosen_key true made u e = ap updated_key (sym (same_Some made u e))
+chosen_key false made u e = absurd (cc)
 
 -- an update is of its command's key
 key_due : (b : ℕ) (c : Command) (old : Option Key) (u : Update) → update_of b c old ≡ Some u → updated_key u ≡ command_key c
 key_due b (Insert k v) None u e = ap updated_key (sym (same_Some (set b k v) u e))
 key_due b (Upsert k v) old u e = ap updated_key (sym (same_Some (set b k v) u e))
-key_due b (Swap k x v) (Some o) u e = chosen_key (bytes_eq o x) b k v u e
+key_due b (Swap k x v) (Some o) u e = chosen_key (bytes_eq o x) (set b k v) u e
+key_due b (Add k n) None u e = ap updated_key (sym (same_Some (set b k (number_bytes n)) u e))
+key_due b (Add k n) (Some o) u e = chosen_key (is_number o) (set b k (added o n)) u e
 key_due b (Delete k) (Some x) u e = ap updated_key (sym (same_Some (unset b k) u e))
+key_due b (DeleteIf k x) (Some o) u e = chosen_key (bytes_eq o x) (unset b k) u e
 key_due b c old u e = absurd (cc)
 
 linked_update : (u : Update) (x y : ℕ) (k : Knowledge) → linked_over (Written (update_record u x)) x y k ≡ after_update x y k

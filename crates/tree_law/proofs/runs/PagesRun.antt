@@ -1,10 +1,11 @@
 -- Each step of the runs with cursor pages is allowed.
-use Rattle.tree_law.proofs.Words.{false, [], refl, cond, suc, None, List, true, inl, ◌++◌, inr, ◌∷◌, subst, sym, ℕ, ◌≡◌, zero, ◌<◌, arith, Some, take, lit<, Contains, IsTrue, not, slice_index_or}
-use Rattle.tree_law.proofs.Words.{codes, is_in_range, is_below, ArePairsOf, Record, MayReply, chain_value, value_of, MayAdd, IsMet, IsDisciplined, HoldsBack, knows, Knowledge, small, right_term}
+use Rattle.tree_law.proofs.Words.{false, [], refl, cond, suc, None, Option, List, true, inl, ◌++◌, inr, ◌∷◌, subst, sym, ℕ, ◌≡◌, zero, ◌<◌, arith, Some, take, lit<, Contains, IsTrue, not, slice_index_or}
+use Rattle.tree_law.proofs.Words.{codes, is_in_range, is_below, ArePairsOf, Record, MayReply, chain_value, value_of, MayAdd, IsMet, IsDisciplined, HoldsBack, knows, Entry, Knowledge, small, right_term}
 use Rattle.tree_law.proofs.Words.{root_a, a, hold_a, other_put, helped_term, helped_split, Key, removal, upper_c, b}
 use Rattle.std.specs.List.Sorted.{IsStrictlySortedBy}
 use Rattle.bw_model.specs.declared.command.Reply.TheVariants as reply
-use Rattle.tree_law.specs.CursorPages.{page_a, page_b, tidy_b, upkeep, last_page}
+use Rattle.bw_model.specs.NextKeys.{key_after, key_before}
+use Rattle.tree_law.specs.CursorPages.{page_a, page_b, back_b, tidy_b, upkeep, last_page, back_page}
 use Rattle.tree_law.proofs.runs.GoingLeft.{removed, held_child, left_child, right_beyond, beside}
 use Rattle.tree_law.proofs.runs.HelpFits.{grown, right_fits, term_applies}
 use Rattle.tree_law.proofs.runs.HelpRun.{help_disciplined}
@@ -20,8 +21,8 @@ use Rattle.tree_law.proofs.shape.KeyOrder.{by_key}
 abbrev before : ℕ → Knowledge
 before n = knows (removal ++ take n upkeep) 1
 
-abbrev before_last : ℕ → Knowledge
-before_last n = knows (helped_split ++ take n last_page) 1
+abbrev before_last : List Entry → ℕ → Knowledge
+before_last more n = knows (helped_split ++ take n more) 1
 
 -- the removed leaf has no values
 empty : (key value : Key) → chain_value removed key ≡ Some value → ⊥
@@ -35,12 +36,13 @@ no_pairs = record { ascending = tt; exact = λ key value. (λ c. let lt = c.1 in
 abbrev last : List Record
 last = other_put ∷ upper_c ∷ []
 
-one_pair : ArePairsOf (chain_value last) b None ((b, codes "2") ∷ [])
+one_pair : (high : Option Key) → IsTrue (is_in_range b high b) → ArePairsOf (chain_value last) b high ((b, codes "2") ∷ [])
 unfolding IsStrictlySortedBy
-one_pair = record { ascending = (tt, tt); exact = λ key value. (λ c. there key value c.0 c.1 c.2, λ h. pair key value h.1) }
+one_pair high inside = record { ascending = (tt, tt); exact = λ key value. (λ c. there key value c.0 c.1 c.2, λ h. pair key value h.1) }
   where
-    there : (key value : Key) (n : ℕ) → n < 1 → ◌≡◌ {A = Key × Key} (slice_index_or ((b, codes "2") ∷ []) n (key, value)) (key, value) → IsTrue (is_in_range b None key) × (chain_value last key ≡ Some value)
-    there key value zero lt e = subst (λ (pair : Key × Key). IsTrue (is_in_range b None pair.0) × (chain_value last pair.0 ≡ Some pair.1)) e (refl, refl)
+    there : (key value : Key) (n : ℕ) → n < 1 → ◌≡◌ {A = Key × Key} (slice_index_or ((b, codes "2") ∷ []) n (key, value)) (key, value)
+        → IsTrue (is_in_range b high key) × (chain_value last key ≡ Some value)
+    there key value zero lt e = subst (λ (pair : Key × Key). IsTrue (is_in_range b high pair.0) × (chain_value last pair.0 ≡ Some pair.1)) e (inside, refl)
     there key value (suc n) lt e = absurd (omega arith)
 
     pair : (key value : Key) → chain_value last key ≡ Some value → Contains {X = Key × Key} ((b, codes "2") ∷ []) (key, value)
@@ -49,7 +51,7 @@ one_pair = record { ascending = (tt, tt); exact = λ key value. (λ c. there key
         (λ ne t. rw t λ e. absurd (cc))
 
 -- the last leaf was named as a child
-last_child : IsMet (before_last 6) 4
+last_child : IsMet (before_last last_page 6) 4
 last_child = record { other = 3; row = 8; basis = whole (helped_term ∷ root_a ∷ []) (refl, (refl, refl)) refl refl; named = inr (inl (0, b, false, refl, refl, refl)) }
 
 -- the removed leaf is shown, as its left was read after it
@@ -91,7 +93,7 @@ nothing_due : MayReply small 1 (before 35) reply.Tidied
 nothing_due = record {
   command = tidy_b;
   going = refl;
-  justified = inr (inr (inl (record {
+  justified = inr (inr (inr (inl (record {
     key = b;
     asks = refl;
     is = refl;
@@ -105,16 +107,41 @@ nothing_due = record {
     few = lit< tt;
     back = λ other few. inr (record { parent = 3; row = 9; above = whole (right_term ∷ hold_a ∷ root_a ∷ []) (refl, (refl, (refl, refl))) refl refl; order = refl; holds = held_back });
     unlinked = refl;
-  })));
+  }))));
 }
 
 -- the last leaf is shown with its pair
-shows_last : MayReply small 1 (before_last 9) (reply.Page ((b, codes "2") ∷ []) None)
+shows_last : MayReply small 1 (before_last last_page 9) (reply.Page ((b, codes "2") ∷ []) None)
 shows_last = record {
   command = page_b;
   going = refl;
   justified =
-      inr (inl (record { from = b; asks = refl; row = 9; chain = last; read = (refl, (refl, refl)); leaf = refl; covers = refl; pairs = (b, codes "2") ∷ []; exact = one_pair; is = refl; unlinked = refl; basis = inl ((4, refl), refl) }));
+      inr (inl (record { from = b; asks = refl; row = 9; chain = last; read = (refl, (refl, refl)); leaf = refl; covers = refl; pairs = (b, codes "2") ∷ []; exact = one_pair None refl; is = refl; unlinked = refl; basis = inl ((4, refl), refl) }));
+}
+
+-- and so it is backward
+back_child : IsMet (before_last back_page 6) 4
+back_child = record { other = 3; row = 8; basis = whole (helped_term ∷ root_a ∷ []) (refl, (refl, refl)) refl refl; named = inr (inl (0, b, false, refl, refl, refl)) }
+
+shows_back : MayReply small 1 (before_last back_page 9) (reply.BackPage ((b, codes "2") ∷ []) (key_before b))
+shows_back = record {
+  command = back_b;
+  going = refl;
+  justified = inr (inr (inl (record {
+    upto = b;
+    asks = refl;
+    row = 9;
+    chain = last;
+    read = (refl, (refl, refl));
+    leaf = refl;
+    covers = refl;
+    short = record { short = omega arith; bytes_fit = (omega arith, tt) };
+    pairs = (b, codes "2") ∷ [];
+    exact = one_pair (Some (key_after b)) refl;
+    is = refl;
+    unlinked = refl;
+    basis = inl ((4, refl), refl);
+  })));
 }
 
 -- It comes to the leaf on the removed one's left, shows the removed leaf, and begins again. It comes there again, goes on to the
@@ -139,3 +166,7 @@ upkeep_disciplined = joined small [] removal upkeep removal_disciplined (discipl
 pub last_page_disciplined : IsDisciplined small (helped_split ++ last_page)
 last_page_disciplined = joined small [] helped_split last_page help_disciplined (disciplined helped_split last_page refl refl (
     (refl, lit< tt, refl) ▸ (refl, inr last_child) ▸ (refl, shows_last) ▸ tt))
+
+pub back_page_disciplined : IsDisciplined small (helped_split ++ back_page)
+back_page_disciplined = joined small [] helped_split back_page help_disciplined (disciplined helped_split back_page refl refl (
+    (refl, lit< tt, refl) ▸ (refl, inr back_child) ▸ (refl, shows_back) ▸ tt))

@@ -24,7 +24,7 @@ lacks : LacksRoom small at_last
 lacks = inr (λ word lt. let zero : word ≡ 0 = omega arith in rw zero)
 
 full : MayReply small 0 at_last reply.Full
-full = record { command = insert_a; going = refl; justified = inr (inr (inr (record { is = refl; writes = refl; unlinked = refl; lacks = lacks }))) }
+full = record { command = insert_a; going = refl; justified = inr (inr (inr (inr (record { is = refl; writes = refl; unlinked = refl; lacks = lacks })))) }
 
 pub no_room_disciplined : IsDisciplined small no_room
 no_room_disciplined = disciplined [] no_room refl refl ((refl, lit< tt, refl) ▸ (0, none_free, refl) ▸ (refl, full) ▸ tt)

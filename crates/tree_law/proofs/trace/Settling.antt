@@ -3,9 +3,10 @@ use Rattle.tree_law.proofs.Words.{[], ap, refl, Option, None, List, inl, ◌≢�
 use Rattle.tree_law.proofs.Words.{logged_value, update_of, command_key, Command, Reply, Limits, Record, slice_get_below, IsChainFrom, low_in, level_in, high_in, MayReply, MayAnswer, knows}
 use Rattle.tree_law.proofs.Words.{memory_at, command_of, memory_of, Entry, WasHeldBack, RepliesAt, Operation, IsOwnStep, log_at, log_of, IsPoint, IsQuiet, UpdatesAtLinks, IsRepliedAt}
 use Rattle.tree_law.proofs.Words.{shared_part, Tells, operation_from, IsState, IsAnsweredBy, IsMarked, HasFound, HaveStood, WereRead, WasLeafWith}
-use Rattle.traces.specs.discipline.Discipline.{IsHeldBack, MayShowPage, MayCallTidy, MayGiveUp}
+use Rattle.traces.specs.discipline.Discipline.{IsHeldBack, MayShowBack, MayShowPage, MayCallTidy, MayGiveUp}
 use Rattle.tree_law.proofs.answering.Answering.{answers}
-use Rattle.tree_law.proofs.shape.{chain_stands, shows}
+use Rattle.bw_model.specs.NextKeys.{key_before}
+use Rattle.tree_law.proofs.shape.{chain_stands, shows, shows_back}
 use Rattle.tree_law.proofs.trace.Remark.{remarked, log_of_same, log_at_same, marked', marked_now, told, told_other, updates', quiet'}
 use Rattle.tree_law.proofs.trace.Searches.{held_back, lacks}
 use Rattle.tree_law.proofs.trace.Standing.{was_standing}
@@ -104,7 +105,7 @@ module _ (limits : Limits) (entries : List Entry) (a : ℕ) (asked : Command) (s
   by_page reply may =
       let below : was.1.step < length entries = slice_get_below entries was.1.step _ was.1.own.2.1.entry in
       marked_late reply (no_point may.unlinked) was.1.step was.1.own was.1.asked (ap (λ c. update_of a c (logged_value (log_at entries state.points was.1.step) (command_key c))) may.asks)
-      (inr (record {
+      (inr (inl (record {
         from = may.from;
         asks = may.asks;
         items = may.pairs;
@@ -113,7 +114,26 @@ module _ (limits : Limits) (entries : List Entry) (a : ℕ) (asked : Command) (s
         page =
             shows (memory_at limits entries was.1.step) (log_at entries state.points was.1.step) (state.quiet.at_each was.1.step (omega (arith, below)))
             (record { pid = was.0; chain = may.chain }) was.1.stood may.from may.covers may.pairs may.exact;
-      }))
+      })))
+    where
+      was : (page : ℕ) × WasLeafWith limits entries mine (record { pid = page; chain = may.chain })
+      was = was_standing state.is_tree a limits entries mine stood may.row may.chain may.read may.leaf may.basis
+
+  -- and so has a page backward
+  by_back : (reply : Reply) → MayShowBack (knows entries a) asked reply → Settled limits entries (log_of entries state.points) state.point state.logs a asked (Some reply)
+  by_back reply may =
+      let below : was.1.step < length entries = slice_get_below entries was.1.step _ was.1.own.2.1.entry in
+      marked_late reply (no_point may.unlinked) was.1.step was.1.own was.1.asked (ap (λ c. update_of a c (logged_value (log_at entries state.points was.1.step) (command_key c))) may.asks)
+      (inr (inr (record {
+        upto = may.upto;
+        asks = may.asks;
+        items = may.pairs;
+        next = key_before (low_in may.chain);
+        is = may.is;
+        page =
+            shows_back (memory_at limits entries was.1.step) (log_at entries state.points was.1.step) (state.quiet.at_each was.1.step (omega (arith, below)))
+            (record { pid = was.0; chain = may.chain }) was.1.stood may.upto may.covers may.short may.pairs may.exact;
+      })))
     where
       was : (page : ℕ) × WasLeafWith limits entries mine (record { pid = page; chain = may.chain })
       was = was_standing state.is_tree a limits entries mine stood may.row may.chain may.read may.leaf may.basis
@@ -163,6 +183,7 @@ module _ (limits : Limits) (entries : List Entry) (a : ℕ) (asked : Command) (s
       elim may.justified [
         | inl value ↦ by_value reply (rw same at value)
         | inr (inl page) ↦ by_page reply (rw same at page)
-        | inr (inr (inl tidy)) ↦ by_tidying reply (rw same at tidy)
-        | inr (inr (inr want)) ↦ by_want reply (rw same at want)
+        | inr (inr (inl back)) ↦ by_back reply (rw same at back)
+        | inr (inr (inr (inl tidy))) ↦ by_tidying reply (rw same at tidy)
+        | inr (inr (inr (inr want))) ↦ by_want reply (rw same at want)
       ]

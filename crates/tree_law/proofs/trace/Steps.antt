@@ -8,8 +8,9 @@ use Rattle.tree_law.proofs.Words.{After, IsDue, Indexed, Linked, Phased, put, sh
 use Rattle.tree_law.proofs.Words.{slot_in, IsReadyPage, Tells, operation_from, IsSearch, IsState, phase_of, IsInTree, IsUnended, IsAnsweredBy, HasFound}
 use Rattle.tree_law.proofs.Words.{HaveStood, Times, Timed, times_after, IsTree, []}
 use Rattle.std.specs.Option.{option_to_list}
-use Rattle.bw_model.specs.declared.command.Command.TheVariants.{Get, Delete, Page, Tidy}
+use Rattle.bw_model.specs.declared.command.Command.TheVariants.{Add, Back, Get, Delete, DeleteIf, Page, Tidy}
 use Rattle.bw_model.specs.declared.command.Reply.TheVariants as reply
+use Rattle.bw_model.specs.Numbers.{is_number}
 use Rattle.op_machine.specs.theorem.Answered.{IsTrueReply}
 use Rattle.op_machine.specs.theorem.Points.{updates_by, has_point}
 use Rattle.tree_law.specs.Next.{grown, log_at_point as pointed'}
@@ -329,20 +330,29 @@ onwards limits entries a step answer r state busy allowed is = go (command_of en
 pub steps : Steps
 steps limits entries a step answer r state busy allowed is = (onwards limits entries a step answer r state busy allowed is).after
 
--- a reply by a value has a point, and so has a cursor page
+-- a reply that a test decides has a point, if both have one
+chosen_points : (test : Bool) (x y : Reply) → has_point x ≡ true → has_point y ≡ true → IfSome (if test then Some x else Some y) (λ r. has_point r ≡ true)
+chosen_points true x y h k = h
+chosen_points false x y h k = k
+
+-- a reply by a value has a point, and so has a cursor page of either direction
 value_points : (c : Command) (v : Option (List ℕ)) → IfSome (reply_of c v) (λ r. has_point r ≡ true)
 value_points (Get k) None = refl
 value_points (Insert k w) None = refl
 value_points (Upsert k w) None = refl
 value_points (Delete k) None = refl
-value_points (Swap k x w) (Some o) = elim (bytes_eq o x) as (λ t. IfSome (if t then Some reply.Swapped else Some (reply.Differs o)) (λ r. has_point r ≡ true)) [ true ↦ refl | false ↦ refl ]
+value_points (DeleteIf k x) (Some o) = chosen_points (bytes_eq o x) (reply.Deleted o) (reply.Differs o) refl refl
+value_points (Swap k x w) (Some o) = chosen_points (bytes_eq o x) reply.Swapped (reply.Differs o) refl refl
+value_points (Add k n) (Some o) = chosen_points (is_number o) (reply.Replaced o) (reply.Differs o) refl refl
 value_points (Page k) v = tt
+value_points (Back k) v = tt
 value_points (Tidy k) v = tt
 value_points c v = refl
 
 points_at : (memory : Memory) (log : List Update) (c : Command) (r : Reply) → RepliesAt memory log c r → has_point r ≡ true
 points_at memory log c r (inl e) = rw e at (value_points c (logged_value log (command_key c)))
-points_at memory log c r (inr shown) = ap has_point shown.is
+points_at memory log c r (inr (inl shown)) = ap has_point shown.is
+points_at memory log c r (inr (inr shown)) = ap has_point shown.is
 
 -- an operation without a point has replied one of the two
 without_point : (limits : Limits) (entries : List Entry) (op : Operation) (answer : Reply) → HasFound limits entries op answer → has_point answer ≡ false

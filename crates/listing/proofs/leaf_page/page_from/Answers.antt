@@ -1,9 +1,4 @@
-use Rattle.std.proofs.Common.{arith, None, subst, sym}
-use Rattle.bw_model.specs.Pairs.{ArePairsOf}
-use Rattle.base_page.specs.Pages.{content_at}
-use Rattle.traces.specs.discipline.Discipline.{value_of}
-use Rattle.row_chain.proofs.PairLaws.{are_pairs}
-use Rattle.listing.specs.Listed.{IsPageFrom}
+use Rattle.std.proofs.Common.{arith}
 use Rattle.listing.proofs.Finding.{found_among, found_stands, shows_from}
 use Rattle.listing.proofs.leaf_page.page_from.Goals as goal
 
@@ -21,13 +16,8 @@ page_of-page-requires-clause-stands g c =
 
 pub returns-clause-page : goal.returns-clause-page
 returns-clause-page g c = λ memory has leaves.
-    let page = c.page_of-page.result in
-    let from = c.args.from.now in
-    let pairs = c.show_from.new.pairs in
-    let are : ArePairsOf (λ key. value_of (content_at page.items key)) from None pairs = subst (ArePairsOf (λ key. value_of (content_at page.items key)) from None) (sym c.show_from.ensures)
-    (are_pairs from page.items c.page_of-page.ensures.ruled.is_page.ordered.ascending) in
-    subst (IsPageFrom leaves.pages from pairs) (sym c.end_of.ensures)
-    (shows_from _ memory leaves _ _ (c.leaf_with-leaf.ensures memory has leaves) page (λ chain. c.page_of-page.ensures.makes memory chain has) c.page_of-page.ensures.ruled pairs are)
+    rw (c.show.ensures, c.next.ensures)
+    (shows_from _ memory leaves _ _ (c.leaf_with-leaf.ensures memory has leaves) c.page_of-page.result (λ chain. c.page_of-page.ensures.makes memory chain has) c.page_of-page.ensures.ruled)
 
 pub returns-clause-leaf : goal.returns-clause-leaf
 returns-clause-leaf g c = λ memory has leaves. found_among _ memory leaves _ _ (c.leaf_with-leaf.ensures memory has leaves)

@@ -24,7 +24,7 @@ returns-in-Full-default-clause-stands g c spares k r h =
         command = task.command;
         going = full.0.asked.going;
         justified = inr
-            (inr (inr (record { is = refl; writes = full.1; unlinked = full.0.asked.unlinked; lacks = lacks_room task.limits k c.in-Full-default.kind full.2 })));
+            (inr (inr (inr (record { is = refl; writes = full.1; unlinked = full.0.asked.unlinked; lacks = lacks_room task.limits k c.in-Full-default.kind full.2 }))));
       },
       (refl, full.2),
     )

@@ -14,7 +14,7 @@ find-old-requires g c =
     (record { read = seen_is_read (g.R.Rows.has c.args.rows.now c.args.pass.now) k c.args.places.now.writer.page h.page.in_hand.seen there })
 
 pub update_over-requires : goal.update_over-requires
-update_over-requires g c = (c.find-old.result, rw (← c.as_ref-2.ensures.value, ← c.command-3.ensures, ← c.changes.ensures) c.if-not-changes.false)
+update_over-requires g c = rw (c.as_ref-3.ensures.value, ← c.as_ref-2.ensures.value, ← c.command-3.ensures, ← c.changes.ensures) c.if-not-changes.false
 
 pub begin_change-requires : goal.begin_change-requires
 begin_change-requires g c =
@@ -22,9 +22,10 @@ begin_change-requires g c =
     let task = c.args.self.now in
     let leaf = c.args.places.now.writer.page in
     let leaf_is : c.page-leaf.result.now ≡ leaf = c.page-leaf.ensures ∙ ap (λ (w : PlacedWrite). w.page) c.writer.ensures in
-    rw (c.update_over.ensures, c.pid.ensures, c.head.ensures, c.head-2.ensures, leaf_is) (record {
-      target = over_page task.limits k r leaf (update_over task.command leaf.head) h.page (over_next task.command leaf.head);
-      spells = over_spells task.command leaf.head leaf.is_row;
+    let old = c.find-old.result in
+    rw (c.update_over.ensures, c.as_ref-3.ensures.value, c.pid.ensures, c.head.ensures, c.head-2.ensures, leaf_is) (record {
+      target = over_page task.limits k r leaf (update_over task.command old leaf.head) h.page (over_next task.command old leaf.head);
+      spells = over_spells task.command old leaf.head leaf.is_row;
       room = h.seeks.spare.room;
     })
 
@@ -51,13 +52,13 @@ returns-clause-stands g c parent k r below idle =
     let alive = h.page in
     let fits = over_fits leaf.chain page makes alive.alive h.level few h.short (λ put. c.updates_fit.ensures.put leaf.chain page put makes ruled)
     (λ delete. c.updates_fit.ensures.delete leaf.chain page delete makes ruled)
-    task.command leaf.head (old, some) leaf.is_row covered in
-    c.begin_change.ensures.stands k r (rw (c.update_over.ensures, c.pid.ensures, c.head.ensures, c.head-2.ensures, leaf_is) (record {
+    task.command old leaf.head some leaf.is_row covered in
+    c.begin_change.ensures.stands k r (rw (c.update_over.ensures, c.as_ref-3.ensures.value, old_is, c.pid.ensures, c.head.ensures, c.head-2.ensures, leaf_is) (record {
       seeks = h.seeks;
       writer = h.writer;
       may = record {
         inside = h.seeks.inside;
-        links = c.plans_may_be_linked.ensures.update task.actor k leaf (update_over task.command leaf.head) alive.in_hand.seen alive.alive
+        links = c.plans_may_be_linked.ensures.update task.actor k leaf (update_over task.command old leaf.head) alive.in_hand.seen alive.alive
             (record {
               leaf = h.level;
               command = task.command;
@@ -70,13 +71,13 @@ returns-clause-stands g c parent k r below idle =
             })
             fits;
       };
-      keeps = over_kept task.command leaf.head _;
+      keeps = over_kept task.command old leaf.head _;
       brings = record {
         pid = leaf.pid;
         head = leaf.head;
-        content = update_over task.command leaf.head;
+        content = update_over task.command old leaf.head;
         is = refl;
-        updates = over_links task.command leaf.head (old, some);
+        updates = over_links task.command old leaf.head some;
         chain = leaf.chain;
         read = alive.in_hand.seen.read;
         leaf = h.level;
@@ -86,7 +87,7 @@ returns-clause-stands g c parent k r below idle =
         covers = covered;
         replies = replies;
       };
-      useful = over_useful k task.command leaf.head;
+      useful = over_useful k task.command old leaf.head;
       split = tt;
       recalled = alive.recalled;
     }))
