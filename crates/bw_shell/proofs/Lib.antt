@@ -1,3 +1,4 @@
+pub mod Backward
 pub mod Transcripts
 pub mod Feeding
 pub mod Weaving

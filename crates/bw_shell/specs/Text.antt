@@ -1,8 +1,8 @@
 -- What is printed.
-use Rattle.std.specs.Prelude.{ℕ, List, [], ◌++◌, length, codes, decimal, Option, Some, None}
+use Rattle.std.specs.Prelude.{ℕ, List, [], ◌++◌, length, codes, decimal, reverse, Option, Some, None}
 use Rattle.std.specs.List.{flat_map}
 use Rattle.bw_model.specs.declared.command.Reply.{Reply}
-use Rattle.bw_model.specs.declared.command.Reply.TheVariants.{Value, None as NoValue, Inserted, Exists, Set, Replaced, Deleted, Absent, Swapped, Differs, Page, Tidied, Full}
+use Rattle.bw_model.specs.declared.command.Reply.TheVariants.{Value, None as NoValue, Inserted, Exists, Set, Replaced, Deleted, Absent, Swapped, Differs, Page, BackPage, Tidied, Full}
 use Rattle.bw_shell.specs.declared.turns.Progress.{Progress}
 use Rattle.bw_shell.specs.declared.turns.Progress.TheVariants.{GoesOn, Linked, Done}
 use Rattle.shell_lines.specs.Token.{as_token}
@@ -10,16 +10,16 @@ use Rattle.bw_shell.specs.declared.refusal.Refusal.{Refusal}
 use Rattle.bw_shell.specs.declared.refusal.RefusedLine.{RefusedLine}
 use Rattle.bw_shell.specs.Refusal.{code_of}
 
--- a pair, as it stands in a cursor page
+-- a pair, as it stands in a page
 abbrev pub item_text : List ℕ × List ℕ → List ℕ
 item_text pair = codes " " ++ as_token pair.0 ++ codes " " ++ as_token pair.1
 
--- from which key the next cursor page goes on, or that there is none
+-- from which key the next page goes on, or that there is none
 abbrev pub next_text : Option (List ℕ) → List ℕ
 next_text None = codes " end\n"
 next_text (Some key) = codes " next " ++ as_token key ++ codes "\n"
 
--- a reply, as it stands behind its actor
+-- a reply, as it stands behind its actor; the keys of a page backward descend
 abbrev pub reply_text : Reply → List ℕ
 reply_text (Value v) = codes " value " ++ as_token v ++ codes "\n"
 reply_text NoValue = codes " none\n"
@@ -32,6 +32,7 @@ reply_text Absent = codes " absent\n"
 reply_text Swapped = codes " swapped\n"
 reply_text (Differs v) = codes " differs " ++ as_token v ++ codes "\n"
 reply_text (Page items next) = codes " page " ++ decimal (length items) ++ flat_map item_text items ++ next_text next
+reply_text (BackPage items next) = codes " back " ++ decimal (length items) ++ flat_map item_text (reverse items) ++ next_text next
 reply_text Tidied = codes " tidied\n"
 reply_text Full = codes " full\n"
 

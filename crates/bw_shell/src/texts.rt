@@ -1,6 +1,6 @@
 //! What is printed.
 
-ghost use Rattle.std.specs.Prelude.{◌+◌, ◌<◌, ◌≤◌, ◌++◌, ◌∷◌, length, decimal, codes, option_copied};
+ghost use Rattle.std.specs.Prelude.{◌+◌, ◌<◌, ◌≤◌, ◌++◌, ◌∷◌, length, decimal, codes, reverse, option_copied};
 ghost use Rattle.std.specs.List.{flat_map};
 ghost use Rattle.bw_model.specs.Bytes.{longest};
 ghost use Rattle.hex.specs.Hex.{encode_lower};
@@ -60,7 +60,7 @@ fn show_with<O: Output>(out: &mut O, word: &[u8], value: &Value)
     out.show(b"\n");
 }
 
-// A pair in a cursor page.
+// A pair in a page.
 fn show_item<O: Output>(out: &mut O, item: &(Key, Value))
     ensures { Prints (O.state out.old) (O.state out.new) (item_text item.now) }
 {
@@ -78,7 +78,7 @@ fn show_items<O: Output>(out: &mut O, items: &[(Key, Value)])
     }
 }
 
-// Where the next cursor page goes on.
+// Where the next page goes on.
 fn show_next<O: Output>(out: &mut O, next: Option<&Key>)
     ensures { Prints (O.state out.old) (O.state out.new) (next_text (option_copied next.entry)) }
 {
@@ -106,6 +106,25 @@ fn show_page<O: Output>(out: &mut O, items: &[(Key, Value)], next: Option<&Key>)
     show_next(out, next);
 }
 
+// The items from the last one to the first.
+fn show_items_back<O: Output>(out: &mut O, items: &[(Key, Value)])
+    ensures { Prints (O.state out.old) (O.state out.new) (flat_map item_text (reverse items.now)) }
+{
+    for place in (0..items.len()).rev() {
+        show_item(out, &items[place]);
+    }
+}
+
+fn show_back_page<O: Output>(out: &mut O, items: &[(Key, Value)], next: Option<&Key>)
+    ensures { Prints (O.state out.old) (O.state out.new)
+        (codes " back " ++ decimal (length items.now) ++ flat_map item_text (reverse items.now) ++ next_text (option_copied next.entry)) }
+{
+    out.show(b" back ");
+    show_number(out, items.len() as u64);
+    show_items_back(out, items);
+    show_next(out, next);
+}
+
 /// A reply, as it stands behind its actor.
 pub fn show_reply<O: Output>(out: &mut O, reply: &Reply)
     ensures { Prints (O.state out.old) (O.state out.new) (reply_text reply.now) }
@@ -122,6 +141,7 @@ pub fn show_reply<O: Output>(out: &mut O, reply: &Reply)
         Reply::Swapped => out.show(b" swapped\n"),
         Reply::Differs(value) => show_with(out, b" differs ", value),
         Reply::Page { items, next } => show_page(out, items.as_slice(), next.as_ref()),
+        Reply::BackPage { items, next } => show_back_page(out, items.as_slice(), next.as_ref()),
         Reply::Tidied => out.show(b" tidied\n"),
         Reply::Full => out.show(b" full\n"),
     }

@@ -1,7 +1,7 @@
 //! What an actor is asked: which commands are drawn, what each changes, and the replies that it may have.
 
-use crate::numbered::{key, value};
-use crate::plain_map::{ABSENT, VALUES};
+use crate::numbered::key;
+use crate::plain_map::{ABSENT, MULTIPLES, VALUES, multiple, multiple_in, value_at};
 use bw_model::{Command, Reply};
 use rand_core::utils::NextWord;
 use rand_pcg::Pcg32;
@@ -26,6 +26,10 @@ pub(crate) enum Kind {
     Swap,
     Page,
     Tidy,
+    DeleteIf,
+    /// Of a multiple of 2^61.
+    Add,
+    Back,
 }
 
 /// Which commands there are.
@@ -37,13 +41,18 @@ pub(crate) enum Mix {
     FewDeletes,
     /// Five deletes, a lookup and an insert.
     ManyDeletes,
-    /// All seven commands, each as often as the others.
+    /// All commands but the last three, each as often as the others.
     Seven,
     /// The same, where a swap expects the value that its key has when it is asked, if it has one.
     Swaps,
+    /// All ten commands, each as often as the others; what expects a value expects the one that its key has when it is asked, if it has
+    /// one.
+    Ten,
+    /// The same, with both deletions three times as often.
+    Shrinking,
 }
 
-pub(crate) const KINDS: [Kind; 7] = [
+pub(crate) const KINDS: [Kind; 10] = [
     Kind::Get,
     Kind::Insert,
     Kind::Upsert,
@@ -51,6 +60,9 @@ pub(crate) const KINDS: [Kind; 7] = [
     Kind::Swap,
     Kind::Page,
     Kind::Tidy,
+    Kind::DeleteIf,
+    Kind::Add,
+    Kind::Back,
 ];
 
 /// The places of one delete, and two each of the three others.
@@ -58,6 +70,9 @@ const FEW_DELETES: [u32; 7] = [0, 1, 2, 3, 0, 1, 2];
 
 /// The places of five deletes, a lookup and an insert.
 const MANY_DELETES: [u32; 7] = [0, 1, 3, 3, 3, 3, 3];
+
+/// The places of three deletions of each kind, and one each of the eight others.
+const SHRINKING: [u32; 14] = [0, 1, 2, 3, 4, 5, 6, 7, 8, 9, 3, 3, 7, 7];
 
 impl Mix {
     /// One of the commands.
@@ -67,8 +82,10 @@ impl Mix {
             Mix::FewDeletes => FEW_DELETES[draw(rng, 7) as usize % 7],
             Mix::ManyDeletes => MANY_DELETES[draw(rng, 7) as usize % 7],
             Mix::Seven | Mix::Swaps => draw(rng, 7),
+            Mix::Ten => draw(rng, 10),
+            Mix::Shrinking => SHRINKING[draw(rng, 14) as usize % 14],
         };
-        KINDS[place as usize % 7]
+        KINDS[place as usize % 10]
     }
 }
 
@@ -81,7 +98,7 @@ pub(crate) struct Asked {
     pub(crate) expected: u32,
     /// At which moment of the map it was asked.
     pub(crate) since: usize,
-    /// A bit for each value that its key has had since, the last for none.
+    /// A bit for each value that its key has had since, and for none.
     pub(crate) met: u32,
     /// The value of its key directly before its own update.
     pub(crate) changed: Option<u32>,
@@ -118,11 +135,14 @@ impl Asked {
         let key = key(self.key);
         match self.kind {
             Kind::Get => Command::Get(key),
-            Kind::Insert => Command::Insert(key, value(self.value)),
-            Kind::Upsert => Command::Upsert(key, value(self.value)),
+            Kind::Insert => Command::Insert(key, value_at(self.value)),
+            Kind::Upsert => Command::Upsert(key, value_at(self.value)),
             Kind::Delete => Command::Delete(key),
-            Kind::Swap => Command::Swap(key, value(self.expected), value(self.value)),
+            Kind::DeleteIf => Command::DeleteIf(key, value_at(self.expected)),
+            Kind::Swap => Command::Swap(key, value_at(self.expected), value_at(self.value)),
+            Kind::Add => Command::Add(key, u64::from(self.value % MULTIPLES) << 61),
             Kind::Page => Command::Page(key),
+            Kind::Back => Command::Back(key),
             Kind::Tidy => Command::Tidy(key),
         }
     }
@@ -130,29 +150,42 @@ impl Asked {
     /// Whether it changes the map where its key has this value.
     fn changes(&self, old: u32) -> bool {
         match self.kind {
-            Kind::Get | Kind::Page | Kind::Tidy => false,
+            Kind::Get | Kind::Page | Kind::Back | Kind::Tidy => false,
             Kind::Insert => old == ABSENT,
             Kind::Upsert => true,
             Kind::Delete => old != ABSENT,
-            Kind::Swap => old == self.expected,
+            Kind::Swap | Kind::DeleteIf => old == self.expected,
+            Kind::Add => old == ABSENT || multiple_in(old).is_some(),
         }
     }
 
-    /// Its reply where its key has this value; of a cursor page none, which goes by more.
+    /// What its update leaves where its key has this value.
+    pub(crate) fn left(&self, old: u32) -> u32 {
+        match self.kind {
+            Kind::Delete | Kind::DeleteIf => ABSENT,
+            Kind::Add => multiple(multiple_in(old).unwrap_or(0).wrapping_add(self.value)),
+            _ => self.value,
+        }
+    }
+
+    /// Its reply where its key has this value; of a page of either direction none, which goes by more.
     fn reply(&self, old: u32) -> Option<Reply> {
         match (self.kind, old == ABSENT) {
             (Kind::Get, true) => Some(Reply::None),
-            (Kind::Get, false) => Some(Reply::Value(value(old))),
+            (Kind::Get, false) => Some(Reply::Value(value_at(old))),
             (Kind::Insert, true) => Some(Reply::Inserted),
-            (Kind::Insert, false) => Some(Reply::Exists(value(old))),
-            (Kind::Upsert, true) => Some(Reply::Set),
-            (Kind::Upsert, false) => Some(Reply::Replaced(value(old))),
-            (Kind::Delete, true) => Some(Reply::Absent),
-            (Kind::Delete, false) => Some(Reply::Deleted(value(old))),
-            (Kind::Swap, true) => Some(Reply::Absent),
+            (Kind::Insert, false) => Some(Reply::Exists(value_at(old))),
+            (Kind::Upsert | Kind::Add, true) => Some(Reply::Set),
+            (Kind::Upsert, false) => Some(Reply::Replaced(value_at(old))),
+            (Kind::Delete | Kind::DeleteIf | Kind::Swap, true) => Some(Reply::Absent),
+            (Kind::Delete, false) => Some(Reply::Deleted(value_at(old))),
+            (Kind::DeleteIf, false) if old == self.expected => Some(Reply::Deleted(value_at(old))),
             (Kind::Swap, false) if old == self.expected => Some(Reply::Swapped),
-            (Kind::Swap, false) => Some(Reply::Differs(value(old))),
-            (Kind::Page, _) => None,
+            (Kind::Add, false) if multiple_in(old).is_some() => Some(Reply::Replaced(value_at(
+                old,
+            ))),
+            (Kind::DeleteIf | Kind::Swap | Kind::Add, false) => Some(Reply::Differs(value_at(old))),
+            (Kind::Page | Kind::Back, _) => None,
             (Kind::Tidy, _) => Some(Reply::Tidied),
         }
     }
@@ -164,9 +197,9 @@ impl Asked {
             return Some(reply) == self.reply(old).as_ref();
         }
         if *reply == Reply::Full {
-            return self.kind != Kind::Get && self.kind != Kind::Page;
+            return !matches!(self.kind, Kind::Get | Kind::Page | Kind::Back);
         }
-        for old in 0..=ABSENT {
+        for old in 0..=ABSENT + MULTIPLES {
             let met = self.met & bit(old) != 0 && !self.changes(old);
             if met && Some(reply) == self.reply(old).as_ref() {
                 return true;

@@ -85,7 +85,7 @@ fn drawn_deletes_on_four_and_five_levels(rt: HostRuntime) {
 }
 
 /// The commands of the other actor, and how many turns each takes at most beside one that stands.
-const BESIDE: [(Kind, u32); 7] = [
+const BESIDE: [(Kind, u32); 10] = [
     (Kind::Get, 100),
     (Kind::Insert, 1000),
     (Kind::Upsert, 1000),
@@ -93,6 +93,9 @@ const BESIDE: [(Kind, u32); 7] = [
     (Kind::Swap, 1000),
     (Kind::Page, 100),
     (Kind::Tidy, 1000),
+    (Kind::DeleteIf, 1000),
+    (Kind::Add, 1000),
+    (Kind::Back, 100),
 ];
 
 /// Whether an actor's operation comes to its end within so many turns.
@@ -133,11 +136,11 @@ fn stops(
         Asked::drawn(kind, rng, DRAWN),
         Asked::drawn(other, rng, DRAWN),
     );
-    if !asks(core, twin, 0, Mix::Seven, first) {
+    if !asks(core, twin, 0, Mix::Ten, first) {
         return None;
     }
     let stood = stands(core, twin, count)?;
-    let right = asks(core, twin, 1, Mix::Seven, second)
+    let right = asks(core, twin, 1, Mix::Ten, second)
         && ends(core, twin, 1, turns)
         && (!stood || ends(core, twin, 0, 1000));
     right.then_some(stood)

@@ -9,13 +9,19 @@
 #[cfg(test)]
 mod accounts;
 #[cfg(test)]
+mod additions;
+#[cfg(test)]
 mod alone;
 #[cfg(test)]
 mod asked;
 #[cfg(test)]
+mod back_stops;
+#[cfg(test)]
 mod by_hand;
 #[cfg(test)]
 mod crowds;
+#[cfg(test)]
+mod deletions;
 #[cfg(test)]
 mod drawn_levels;
 #[cfg(test)]

@@ -1,4 +1,4 @@
-//! Lookups, cursor pages and swaps between each two stages of a removal, and through them.
+//! Lookups, pages of either direction and swaps between each two stages of a removal, and through them.
 
 use crate::by_hand::let_go;
 use crate::scripts::{Ask, Line, NONE, Say, opened, runs};
@@ -24,8 +24,8 @@ const BEFORE_STAGES: usize = 2;
 
 const BEFORE_MERGE: usize = 5;
 
-/// What actor 1 finds in both leaves, where the first one has these pairs from k5 on.
-fn found(fifth: Say) -> [Line; 8] {
+/// What actor 1 finds in both leaves, where the first one has these pairs from k5 on, and the leaf that has k11 these up to that key.
+fn found(fifth: Say, eleventh: Say) -> [Line; 12] {
     [
         Line::Replies(1, Ask::Get(8), Say::Value(8)),
         Line::Replies(1, Ask::Get(9), Say::Value(9)),
@@ -35,17 +35,22 @@ fn found(fifth: Say) -> [Line; 8] {
         Line::Replies(1, Ask::Page(9), Say::Page(9, 12, None)),
         Line::Replies(1, Ask::Page(11), Say::Page(11, 12, None)),
         Line::Replies(1, Ask::Page(13), Say::Page(13, 12, None)),
+        Line::Replies(1, Ask::Back(11), eleventh),
+        Line::Replies(1, Ask::Back(8), Say::Back(1, 8, None)),
+        Line::Replies(1, Ask::Back(0), Say::Back(1, 0, None)),
+        Line::WalksBack(1, 13, 1, 12),
     ]
 }
 
 /// Whether actor 0 comes to the stage of a place, and both leaves are read there. Until the merge the first leaf ends before k9.
 fn stands(alloc: Global, core: &mut Core, place: usize, stage: Line) -> bool {
-    let fifth = if place < BEFORE_MERGE {
-        Say::Page(5, 8, Some(9))
+    let (fifth, eleventh) = if place < BEFORE_MERGE {
+        (Say::Page(5, 8, Some(9)), Say::Back(9, 11, Some(9)))
     } else {
-        Say::Page(5, 12, None)
+        (Say::Page(5, 12, None), Say::Back(1, 11, None))
     };
-    runs(alloc, core, &[stage]) && (place < BEFORE_STAGES || runs(alloc, core, &found(fifth)))
+    let found = found(fifth, eleventh);
+    runs(alloc, core, &[stage]) && (place < BEFORE_STAGES || runs(alloc, core, &found))
 }
 
 /// Whether it does at each stage.
@@ -59,9 +64,10 @@ fn stands_everywhere(alloc: Global, core: &mut Core) -> bool {
 }
 
 /// The end of the removal.
-const END: [Line; 3] = [
+const END: [Line; 4] = [
     Line::Until(0, Link::Delete),
     Line::Replies(1, Ask::Page(9), Say::Page(9, 11, None)),
+    Line::Replies(1, Ask::Back(12), Say::Back(1, 11, None)),
     Line::Ends(0, Say::Deleted(12)),
 ];
 
@@ -117,16 +123,18 @@ fn go_through(alloc: Global, asked: (Ask, [Say; 2]), least: u32, tenth: u32) -> 
     true
 }
 
-// A lookup and a cursor page of k10.
+// A lookup and a page of either direction of k10.
 #[test]
 fn readers_through_a_removal(rt: HostRuntime) {
     let found = [Say::Value(10), Say::Value(10)];
     let pages = [Say::Page(10, 12, None), Say::Page(10, 11, None)];
+    let back = [Say::Back(9, 10, Some(9)), Say::Back(1, 10, None)];
     let right = [
         go_through(rt.alloc(), (Ask::Get(10), found), 6, 10),
         go_through(rt.alloc(), (Ask::Page(10), pages), 6, 10),
+        go_through(rt.alloc(), (Ask::Back(10), back), 6, 10),
     ];
-    assert!(rt; right == [true; 2]);
+    assert!(rt; right == [true; 3]);
 }
 
 #[test]

@@ -49,7 +49,7 @@ impl Twin {
     /// An actor is asked.
     fn begin(&mut self, actor: usize, mix: Mix, asked: &mut Asked) {
         let had = self.map.value(asked.key);
-        if matches!(mix, Mix::Swaps) && had != ABSENT {
+        if matches!(mix, Mix::Swaps | Mix::Ten | Mix::Shrinking) && had != ABSENT {
             asked.expected = had;
         }
         asked.met = bit(had);
@@ -66,12 +66,9 @@ impl Twin {
             return Ok(());
         };
         let key = own.key;
-        let left = if own.kind == Kind::Delete {
-            ABSENT
-        } else {
-            own.value
-        };
-        own.changed = Some(self.map.value(key));
+        let old = self.map.value(key);
+        let left = own.left(old);
+        own.changed = Some(old);
         for asked in self.asked.iter_mut() {
             if asked.key == key {
                 asked.met |= bit(left);
@@ -100,15 +97,21 @@ impl Twin {
         };
         match reply {
             Reply::Page { items, next } => asked.kind == Kind::Page && self.had(asked, items, next),
+            Reply::BackPage { items, next } => {
+                asked.kind == Kind::Back && self.had(asked, items, next)
+            }
             _ => asked.may_reply(reply),
         }
     }
 
-    /// Whether the cursor page was the map's at a moment since it was asked for.
+    /// Whether the page, of its command's direction, was the map's at a moment since it was asked for.
     fn had(&self, asked: &Asked, items: &Pairs, next: &Option<Key>) -> bool {
-        let had = self
-            .map
-            .had_page(asked.since, asked.key, items, next.as_ref());
+        let (since, next) = (asked.since, next.as_ref());
+        let had = if asked.kind == Kind::Back {
+            self.map.had_back_page(since, asked.key, items, next)
+        } else {
+            self.map.had_page(since, asked.key, items, next)
+        };
         had == Ok(true)
     }
 
@@ -240,12 +243,21 @@ fn seven_commands_on_three_levels(rt: HostRuntime) {
     assert!(rt; seven == [Some((2, false, false)); 2], "{seven:?}");
 }
 
+// Few keys, with few rows, and many keys.
+#[test]
+fn ten_commands(rt: HostRuntime) {
+    let few = in_both(rt.alloc(), (Mix::Ten, 8), (17, 4, 20_000), (64, 64));
+    assert!(rt; few == [Some((0, false, false)); 2], "{few:?}");
+    let many = in_both(rt.alloc(), (Mix::Ten, 676), (18, 5, 40_000), (256, 2048));
+    assert!(rt; many == [Some((2, false, false)); 2], "{many:?}");
+}
+
 /// How many slots four seeds clear, each without a fault.
-fn cleared(alloc: Global, size: Size, first: u64) -> Option<u32> {
+fn cleared(alloc: Global, mix: Mix, size: Size, first: u64) -> Option<u32> {
     let mut cleared = 0u32;
     for more in 0..4u64 {
         let seed = first.wrapping_add(more);
-        let seen = watch(alloc, (Mix::Swaps, 64), (seed, 4, 20_000), size)?;
+        let seen = watch(alloc, (mix, 64), (seed, 4, 20_000), size)?;
         cleared = cleared.saturating_add(seen.cleared);
     }
     Some(cleared)
@@ -259,7 +271,16 @@ fn seeds_1_to_8(rt: HostRuntime) {
         (Size::Large(256, 4096), 1),
         (Size::Large(64, 4096), 5),
     ] {
-        assert!(rt; cleared(rt.alloc(), size, first) > Some(0), "{first}");
+        let cleared = cleared(rt.alloc(), Mix::Swaps, size, first);
+        assert!(rt; cleared > Some(0), "{first}: {cleared:?}");
+    }
+}
+
+#[test]
+fn ten_commands_beside_removals(rt: HostRuntime) {
+    for size in [Size::Small(256, 4096), Size::Large(64, 4096)] {
+        let cleared = cleared(rt.alloc(), Mix::Shrinking, size, 19);
+        assert!(rt; cleared > Some(0), "{cleared:?}");
     }
 }
 

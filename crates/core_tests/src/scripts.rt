@@ -1,7 +1,7 @@
 //! Scripts: lines of what actors do with keys by their numbers, and what each line is to tell.
 
-use crate::by_hand::{begins, end, finish, let_go, replies, stepped, steps, until};
-use crate::numbered::{between, insert, is_pair, key, page, value};
+use crate::by_hand::{begins, end, finish, let_go, replies, reply, stepped, steps, until};
+use crate::numbered::{back_page, between, insert, is_pair, key, page, value};
 use bw_model::{Command, Key, Limits, Link, Reply, Value};
 use std::alloc::Global;
 use step_core::Core;
@@ -13,8 +13,10 @@ pub(crate) enum Ask {
     Insert(u32),
     Upsert(u32, u32),
     Delete(u32),
+    DeleteIf(u32, u32),
     Swap(u32, u32, u32),
     Page(u32),
+    Back(u32),
     Tidy(u32),
 }
 
@@ -26,8 +28,10 @@ impl Ask {
             Ask::Insert(number) => insert(number),
             Ask::Upsert(number, new) => Command::Upsert(key(number), value(new)),
             Ask::Delete(number) => Command::Delete(key(number)),
+            Ask::DeleteIf(number, old) => Command::DeleteIf(key(number), value(old)),
             Ask::Swap(number, old, new) => Command::Swap(key(number), value(old), value(new)),
             Ask::Page(number) => Command::Page(key(number)),
+            Ask::Back(number) => Command::Back(key(number)),
             Ask::Tidy(number) => Command::Tidy(key(number)),
         }
     }
@@ -39,12 +43,15 @@ pub(crate) enum Say {
     Value(u32),
     None,
     Inserted,
+    Set,
     Replaced(u32),
     Deleted(u32),
     Swapped,
     Differs(u32),
     /// The pairs from the first number to the second, and the next key.
     Page(u32, u32, Option<u32>),
+    /// The same of a page backward, in a leaf from the key of the third number on, or from the least key.
+    Back(u32, u32, Option<u32>),
     Tidied,
 }
 
@@ -54,11 +61,13 @@ impl Say {
             Say::Value(number) => Reply::Value(value(number)),
             Say::None => Reply::None,
             Say::Inserted => Reply::Inserted,
+            Say::Set => Reply::Set,
             Say::Replaced(number) => Reply::Replaced(value(number)),
             Say::Deleted(number) => Reply::Deleted(value(number)),
             Say::Swapped => Reply::Swapped,
             Say::Differs(number) => Reply::Differs(value(number)),
             Say::Page(first, last, next) => page(first, last, next),
+            Say::Back(first, last, low) => back_page(first, last, low),
             Say::Tidied => Reply::Tidied,
         }
     }
@@ -91,6 +100,9 @@ pub(crate) enum Line {
     Deletes(u8, u32, u32),
     /// It deletes the keys from one number up to another, each with the value of its number.
     DeletesUp(u8, u32, u32),
+    /// Its pages backward, from the key of the first number down, show exactly the keys from the second number to the third, each with the
+    /// value of its number.
+    WalksBack(u8, u32, u32, u32),
     /// Exactly the keys from one number to another are listed, each with the value of its number.
     ListsAll(u32, u32),
     /// Exactly the keys of these ranges are listed, each with the value of its number, but the tenth with that of another one.
@@ -145,6 +157,37 @@ fn deletes_up(core: &mut Core, actor: u8, first: u32, last: u32) -> bool {
         }
     }
     true
+}
+
+/// The number below those of a page's pairs, if these are the numbers from one on down, each with the value of its number.
+fn below(pairs: &[(Key, Value)], from: u32) -> Option<u32> {
+    let mut number = from;
+    for pair in pairs.iter().rev() {
+        if !is_pair(Some(pair), number, number) {
+            return None;
+        }
+        number = number.wrapping_sub(1);
+    }
+    Some(number)
+}
+
+/// Whether an actor's pages backward, from the key of a number down, show exactly the keys from one number to another.
+fn walks_back(core: &mut Core, actor: u8, upto: u32, first: u32, last: u32) -> bool {
+    let (mut number, mut bound) = (last, key(upto));
+    for _ in first..=last {
+        let Some(Reply::BackPage { items, next }) = reply(core, actor, Command::Back(bound)) else {
+            return false;
+        };
+        match below(items.as_slice(), number) {
+            Some(below) => number = below,
+            None => return false,
+        }
+        match next {
+            Some(next) => bound = next,
+            None => return number.wrapping_add(1) == first,
+        }
+    }
+    false
 }
 
 /// Whether a range's keys are the next ones, each with the value of its number, but the tenth with this one; and how many they are.
@@ -214,6 +257,7 @@ fn holds(alloc: Global, core: &mut Core, line: Line) -> bool {
         Line::InsertsBehind(actor, number) => inserts_behind(core, actor, number),
         Line::Deletes(actor, last, first) => deletes(core, actor, last, first),
         Line::DeletesUp(actor, first, last) => deletes_up(core, actor, first, last),
+        Line::WalksBack(actor, upto, first, last) => walks_back(core, actor, upto, first, last),
         Line::ListsAll(first, last) => lists_all(alloc, core, first, last),
         Line::Lists(ranges, tenth) => lists(alloc, core, ranges, tenth),
     }

@@ -1,4 +1,4 @@
-//! A removal on level 2 beside each of the seven commands: the delete stops after each of its steps, and the command goes to its end; and the other
+//! A removal on level 2 beside each of seven commands: the delete stops after each of its steps, and the command goes to its end; and the other
 //! way round. How many turns each takes at most is known.
 
 use crate::by_hand::{begins, end, let_go, until};

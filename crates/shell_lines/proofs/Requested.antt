@@ -6,7 +6,7 @@ use Rattle.std.specs.Str.{bytes_eq}
 use Rattle.std.proofs.lemmas.Slice.Eq.{bytes_eq-Decides}
 use Rattle.std.proofs.lemmas.Bool.Decides.{nat_tests}
 use Rattle.bw_model.specs.declared.command.Command.{Command}
-use Rattle.bw_model.specs.declared.command.Command.TheVariants.{Get, Insert, Upsert, Delete, Swap, Page, Tidy}
+use Rattle.bw_model.specs.declared.command.Command.TheVariants.{Get, Insert, Upsert, Delete, DeleteIf, Swap, Add, Page, Back, Tidy}
 use Rattle.bw_model.specs.declared.step.Link.{Link}
 use Rattle.bw_model.specs.declared.step.Link.TheVariants as link
 use Rattle.shell_lines.specs.declared.request.Language.{Language}
@@ -19,7 +19,8 @@ use Rattle.shell_lines.specs.Token.{Means, token_value}
 use Rattle.shell_lines.specs.Number.{number_of, up_to_most, fitting}
 use Rattle.shell_lines.specs.Fields.{fields_of}
 use Rattle.shell_lines.specs.Request.{Says, SpellsRequest, SpellsNumber, SpellsCommand, IsAskedIn, IsShortRequest, word_of}
-use Rattle.shell_lines.specs.Reading.{key_in, pair_in, pair_said, swap_in, command_in, capped_number, begin_in, turn_by, turn_in, link_in, until_in, finish_in}
+use Rattle.shell_lines.specs.Reading.{key_in, pair_in, pair_said, swap_in, number_said, addition_in, command_in, capped_number}
+use Rattle.shell_lines.specs.Reading.{begin_in, turn_by, turn_in, link_in, until_in, finish_in}
 use Rattle.shell_lines.specs.Reading.{mix_by, mix_in, list_in, woven_in, script_in, request_in, GivesRequest}
 use Rattle.shell_lines.proofs.Tokens.{chosen, some_is, value_means, means_value}
 
@@ -39,6 +40,17 @@ number_is a n h = let m = map_some up_to_most (number_of a) n h in (m.0, m.1, sy
 
 is_number : (a : List ℕ) (n : ℕ) → SpellsNumber a n → capped_number a ≡ Some n
 is_number a n h = rw (h.1, h.2) refl
+
+-- a number that 64 bits hold
+is_small : (n m : ℕ) → fitting n ≡ Some m → (n ≡ m) × (n < 2 ^ 64)
+is_small n m h =
+    elim (chosen (nat_lt n (2 ^ 64)) _ _ (Some m) h) [
+      | inl p ↦ let low : n < 2 ^ 64 = grind (arith, nat_tests, p.0) in (some_is n m p.1, low)
+      | inr out ↦ cc out.1
+    ]
+
+is_fitting : (n : ℕ) → n < 2 ^ 64 → fitting n ≡ Some n
+is_fitting n low = let e : nat_lt n (2 ^ 64) ≡ true = grind (arith, nat_tests, low) in rw e refl
 
 -- ---- links
 
@@ -116,61 +128,70 @@ swap_is (k ∷ e ∷ v ∷ []) c h =
     rw (sym b.2) (k, e, v, refl, p.0, p.1, value_means v b.0 b.1)
 swap_is (k ∷ e ∷ v ∷ x ∷ rest) c h = cc h
 
--- a verb with one token, and with two
-one_field : (verb word k : List ℕ) (args : List (List ℕ)) → verb ≡ word → args ≡ k ∷ [] → verb ∷ args ≡ word ∷ k ∷ []
-one_field verb word k args e f = rw (e, f) refl
-
-two_fields : (verb word k v : List ℕ) (args : List (List ℕ)) → verb ≡ word → args ≡ k ∷ v ∷ [] → verb ∷ args ≡ word ∷ k ∷ v ∷ []
-two_fields verb word k v args e f = rw (e, f) refl
+addition_is : (args : List (List ℕ)) (c : Command) → addition_in args ≡ Some c → SpellsCommand (codes "add" ∷ args) c
+unfolding addition_in
+addition_is [] c h = cc h
+addition_is (k ∷ []) c h = cc h
+addition_is (k ∷ n ∷ []) c h =
+    let a = then_some (λ (key : List ℕ). option_map (Add key) (number_said n)) (token_value k) c h in
+    let b = map_some (Add a.0) (number_said n) c a.2 in
+    let d = then_some fitting (number_of n) b.0 b.1 in
+    let m = is_small d.0 b.0 d.2 in
+    rw (sym b.2) (k, n, refl, value_means k a.0 a.1, d.1 ∙ ap Some m.0, subst (λ (i : ℕ). i < 2 ^ 64) m.0 m.1)
+addition_is (k ∷ n ∷ x ∷ rest) c h = cc h
 
 pub command_is : (fs : List (List ℕ)) (c : Command) → command_in fs ≡ Some c → SpellsCommand fs c
 unfolding command_in
 command_is [] c h = cc h
 command_is (verb ∷ args) c h =
-    elim (chosen (bytes_eq verb (codes "get")) _ _ (Some c) h) [
-      | inl p ↦ one_token (codes "get") Get p.0 p.1 (λ key k. k)
-      | inr q ↦ elim (chosen (bytes_eq verb (codes "insert")) _ _ (Some c) q.1) [
-        | inl p ↦
-            let m = map_some (λ (pair : List ℕ × List ℕ). Insert pair.0 pair.1) (pair_in args) c p.1 in
-            let k = pair_is args m.0 m.1 in
-            subst (SpellsCommand (verb ∷ args)) m.2 (k.0, k.1, two_fields verb (codes "insert") k.0 k.1 args (is_text verb (codes "insert") p.0) k.2, k.3, k.4)
-        | inr r ↦ elim (chosen (bytes_eq verb (codes "upsert")) _ _ (Some c) r.1) [
-          | inl p ↦
-              let m = map_some (λ (pair : List ℕ × List ℕ). Upsert pair.0 pair.1) (pair_in args) c p.1 in
-              let k = pair_is args m.0 m.1 in
-              subst (SpellsCommand (verb ∷ args)) m.2 (k.0, k.1, two_fields verb (codes "upsert") k.0 k.1 args (is_text verb (codes "upsert") p.0) k.2, k.3, k.4)
-          | inr s ↦ elim (chosen (bytes_eq verb (codes "delete")) _ _ (Some c) s.1) [
-            | inl p ↦ one_token (codes "delete") Delete p.0 p.1 (λ key k. k)
-            | inr t ↦ elim (chosen (bytes_eq verb (codes "swap")) _ _ (Some c) t.1) [
-              | inl p ↦ rw (is_text verb (codes "swap") p.0) (swap_is args c p.1)
-              | inr u ↦ elim (chosen (bytes_eq verb (codes "page")) _ _ (Some c) u.1) [
-                | inl p ↦ one_token (codes "page") Page p.0 p.1 (λ key k. k)
-                | inr w ↦ elim (chosen (bytes_eq verb (codes "tidy")) _ _ (Some c) w.1) [
-                  | inl p ↦ one_token (codes "tidy") Tidy p.0 p.1 (λ key k. k)
-                  | inr n ↦ cc n.1
-                ]
-              ]
-            ]
-          ]
-        ]
-      ]
-    ]
+    verb_is (codes "get") (one_token (codes "get") Get (λ key k. k))
+    (verb_is (codes "insert") (two_tokens (codes "insert") Insert (λ key value k. k))
+    (verb_is (codes "upsert") (two_tokens (codes "upsert") Upsert (λ key value k. k))
+    (verb_is (codes "delete") (one_token (codes "delete") Delete (λ key k. k))
+    (verb_is (codes "delete_if") (two_tokens (codes "delete_if") DeleteIf (λ key value k. k))
+    (verb_is (codes "swap") (swap_is args c)
+    (verb_is (codes "add") (addition_is args c)
+    (verb_is (codes "page") (one_token (codes "page") Page (λ key k. k))
+    (verb_is (codes "back") (one_token (codes "back") Back (λ key k. k))
+    (verb_is (codes "tidy") (one_token (codes "tidy") Tidy (λ key k. k)) (λ none. cc none)))))))))) h
   where
-    one_token : (word : List ℕ) (made : List ℕ → Command) → bytes_eq verb word ≡ true → option_map made (key_in args) ≡ Some c
-        → ((key : List ℕ) → ((k : List ℕ) × (verb ∷ args ≡ word ∷ k ∷ []) × Means k key) → SpellsCommand (verb ∷ args) (made key)) → SpellsCommand (verb ∷ args) c
-    one_token word made is found spells =
+    -- a test of one verb more
+    verb_is : {made rest : Option Command} (word : List ℕ) → (made ≡ Some c → SpellsCommand (word ∷ args) c) → (rest ≡ Some c → SpellsCommand (verb ∷ args) c)
+        → cond (bytes_eq verb word) made rest ≡ Some c → SpellsCommand (verb ∷ args) c
+    verb_is {made} {rest} word spelled others found =
+        elim (chosen (bytes_eq verb word) made rest (Some c) found) [
+          | inl p ↦ rw (is_text verb word p.0) (spelled p.1)
+          | inr q ↦ others q.1
+        ]
+
+    one_token : (word : List ℕ) (made : List ℕ → Command)
+        → ((key : List ℕ) → ((k : List ℕ) × (word ∷ args ≡ word ∷ k ∷ []) × Means k key) → SpellsCommand (word ∷ args) (made key))
+        → option_map made (key_in args) ≡ Some c → SpellsCommand (word ∷ args) c
+    one_token word made spells found =
         let m = map_some made (key_in args) c found in
         let k = key_is args m.0 m.1 in
-        subst (SpellsCommand (verb ∷ args)) m.2 (spells m.0 (k.0, one_field verb word k.0 args (is_text verb word is) k.1, k.2))
+        subst (SpellsCommand (word ∷ args)) m.2 (spells m.0 (k.0, ap (λ (fs : List (List ℕ)). word ∷ fs) k.1, k.2))
+
+    two_tokens : (word : List ℕ) (made : List ℕ → List ℕ → Command)
+        → ((key value : List ℕ) → ((k : List ℕ) × (v : List ℕ) × (word ∷ args ≡ word ∷ k ∷ v ∷ []) × Means k key × Means v value)
+        → SpellsCommand (word ∷ args) (made key value))
+        → option_map (λ (pair : List ℕ × List ℕ). made pair.0 pair.1) (pair_in args) ≡ Some c → SpellsCommand (word ∷ args) c
+    two_tokens word made spells found =
+        let m = map_some (λ (pair : List ℕ × List ℕ). made pair.0 pair.1) (pair_in args) c found in
+        let k = pair_is args m.0 m.1 in
+        subst (SpellsCommand (word ∷ args)) m.2 (spells m.0.0 m.0.1 (k.0, k.1, ap (λ (fs : List (List ℕ)). word ∷ fs) k.2, k.3, k.4))
 
 pub is_command : (fs : List (List ℕ)) (c : Command) → SpellsCommand fs c → command_in fs ≡ Some c
-unfolding command_in key_in pair_in swap_in
+unfolding command_in key_in pair_in swap_in addition_in
 is_command fs (Get key) h = rw (h.1, means_value h.0 key h.2) refl
 is_command fs (Insert key value) h = rw (h.2, means_value h.0 key h.3, means_value h.1 value h.4) refl
 is_command fs (Upsert key value) h = rw (h.2, means_value h.0 key h.3, means_value h.1 value h.4) refl
 is_command fs (Delete key) h = rw (h.1, means_value h.0 key h.2) refl
+is_command fs (DeleteIf key expected) h = rw (h.2, means_value h.0 key h.3, means_value h.1 expected h.4) refl
 is_command fs (Swap key expected value) h = rw (h.3, means_value h.0 key h.4, means_value h.1 expected h.5, means_value h.2 value h.6) refl
+is_command fs (Add key number) h = rw (h.2, means_value h.0 key h.3, h.4, is_fitting number h.5) refl
 is_command fs (Page key) h = rw (h.1, means_value h.0 key h.2) refl
+is_command fs (Back key) h = rw (h.1, means_value h.0 key h.2) refl
 is_command fs (Tidy key) h = rw (h.1, means_value h.0 key h.2) refl
 
 -- ---- lines
@@ -219,13 +240,6 @@ unfolding finish_in
 finish_is [] request h = cc h
 finish_is (a ∷ []) request h = let n = map_some Finish (capped_number a) request h in rw (sym n.2) ((a, refl, number_is a n.0 n.1), tt)
 finish_is (a ∷ x ∷ rest) request h = cc h
-
-is_small : (n m : ℕ) → fitting n ≡ Some m → (n ≡ m) × (n < 2 ^ 64)
-is_small n m h =
-    elim (chosen (nat_lt n (2 ^ 64)) _ _ (Some m) h) [
-      | inl p ↦ let low : n < 2 ^ 64 = grind (arith, nat_tests, p.0) in (some_is n m p.1, low)
-      | inr out ↦ cc out.1
-    ]
 
 mix_is : (args : List (List ℕ)) (request : Request) → mix_in args ≡ Some request → Spells Weave (codes "mix" ∷ args) request
 unfolding mix_in
@@ -290,9 +304,6 @@ pub asked_is : (language : Language) (fs : List (List ℕ)) (request : Request) 
 asked_is Script fs request h = script_is fs request h
 asked_is Weave fs request h = woven_is fs request h
 
-is_fitting : (n : ℕ) → n < 2 ^ 64 → fitting n ≡ Some n
-is_fitting n low = let e : nat_lt n (2 ^ 64) ≡ true = grind (arith, nat_tests, low) in rw e refl
-
 is_woven : (fs : List (List ℕ)) (request : Request) → SpellsRequest fs request → IsAskedIn Weave request → woven_in fs ≡ Some request
 unfolding woven_in begin_in turn_in until_in finish_in mix_in list_in
 is_woven fs (Begin actor command) h a = rw (h.2, is_number h.0 actor h.3, is_command h.1 command h.4) refl
@@ -314,8 +325,11 @@ is_run fs (Get key) h = rw h.1 refl
 is_run fs (Insert key value) h = rw h.2 refl
 is_run fs (Upsert key value) h = rw h.2 refl
 is_run fs (Delete key) h = rw h.1 refl
+is_run fs (DeleteIf key expected) h = rw h.2 refl
 is_run fs (Swap key expected value) h = rw h.3 refl
+is_run fs (Add key number) h = rw h.2 refl
 is_run fs (Page key) h = rw h.1 refl
+is_run fs (Back key) h = rw h.1 refl
 is_run fs (Tidy key) h = rw h.1 refl
 
 is_script : (fs : List (List ℕ)) (request : Request) → SpellsRequest fs request → IsAskedIn Script request → script_in fs ≡ Some request

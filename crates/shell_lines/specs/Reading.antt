@@ -4,7 +4,7 @@ use Rattle.std.specs.Option.{option_and_then}
 use Rattle.std.specs.Str.{bytes_eq}
 use Rattle.bw_model.specs.Bytes.{longest}
 use Rattle.bw_model.specs.declared.command.Command.{Command}
-use Rattle.bw_model.specs.declared.command.Command.TheVariants.{Get, Insert, Upsert, Delete, Swap, Page, Tidy}
+use Rattle.bw_model.specs.declared.command.Command.TheVariants.{Get, Insert, Upsert, Delete, DeleteIf, Swap, Add, Page, Back, Tidy}
 use Rattle.bw_model.specs.declared.step.Link.{Link}
 use Rattle.bw_model.specs.declared.step.Link.TheVariants as link
 use Rattle.shell_lines.specs.declared.request.Language.{Language}
@@ -36,6 +36,16 @@ swap_said k e v = option_and_then (λ pair. option_map (Swap pair.0 pair.1) (tok
 unfoldable pub swap_in : List (List ℕ) → Option Command
 swap_in fields = option_and_then (λ three. swap_said three.0 three.1 three.2) (three_of fields)
 
+-- the addition that they give, if they are a key and a number that 64 bits hold
+abbrev pub number_said : List ℕ → Option ℕ
+number_said n = option_and_then fitting (number_of n)
+
+abbrev pub addition_said : List ℕ → List ℕ → Option Command
+addition_said k n = option_and_then (λ key. option_map (Add key) (number_said n)) (token_value k)
+
+unfoldable pub addition_in : List (List ℕ) → Option Command
+addition_in fields = option_and_then (λ two. addition_said two.0 two.1) (two_of fields)
+
 unfoldable pub command_in : List (List ℕ) → Option Command
 command_in [] = None
 command_in (verb ∷ args) =
@@ -43,8 +53,11 @@ command_in (verb ∷ args) =
     else if bytes_eq verb (codes "insert") then option_map (λ pair. Insert pair.0 pair.1) (pair_in args)
     else if bytes_eq verb (codes "upsert") then option_map (λ pair. Upsert pair.0 pair.1) (pair_in args)
     else if bytes_eq verb (codes "delete") then option_map Delete (key_in args)
+    else if bytes_eq verb (codes "delete_if") then option_map (λ pair. DeleteIf pair.0 pair.1) (pair_in args)
     else if bytes_eq verb (codes "swap") then swap_in args
+    else if bytes_eq verb (codes "add") then addition_in args
     else if bytes_eq verb (codes "page") then option_map Page (key_in args)
+    else if bytes_eq verb (codes "back") then option_map Back (key_in args)
     else if bytes_eq verb (codes "tidy") then option_map Tidy (key_in args)
     else None
 

@@ -2,7 +2,7 @@
 use Rattle.std.specs.Prelude.{◌≡◌, ℕ, ◌≤◌, ◌<◌, ◌^◌, List, [], ◌∷◌, length, codes, Option, Some, None}
 use Rattle.bw_model.specs.Bytes.{longest}
 use Rattle.bw_model.specs.declared.command.Command.{Command}
-use Rattle.bw_model.specs.declared.command.Command.TheVariants.{Get, Insert, Upsert, Delete, Swap, Page, Tidy}
+use Rattle.bw_model.specs.declared.command.Command.TheVariants.{Get, Insert, Upsert, Delete, DeleteIf, Swap, Add, Page, Back, Tidy}
 use Rattle.bw_model.specs.declared.step.Link.{Link}
 use Rattle.bw_model.specs.declared.step.Link.TheVariants as link
 use Rattle.shell_lines.specs.declared.request.Language.{Language}
@@ -23,8 +23,12 @@ SpellsCommand fields (Get key) = (k : List ℕ) × (fields ≡ codes "get" ∷ k
 SpellsCommand fields (Insert key value) = (k : List ℕ) × (v : List ℕ) × (fields ≡ codes "insert" ∷ k ∷ v ∷ []) × Means k key × Means v value
 SpellsCommand fields (Upsert key value) = (k : List ℕ) × (v : List ℕ) × (fields ≡ codes "upsert" ∷ k ∷ v ∷ []) × Means k key × Means v value
 SpellsCommand fields (Delete key) = (k : List ℕ) × (fields ≡ codes "delete" ∷ k ∷ []) × Means k key
+SpellsCommand fields (DeleteIf key expected) = (k : List ℕ) × (e : List ℕ) × (fields ≡ codes "delete_if" ∷ k ∷ e ∷ []) × Means k key × Means e expected
 SpellsCommand fields (Swap key expected value) = (k : List ℕ) × (e : List ℕ) × (v : List ℕ) × (fields ≡ codes "swap" ∷ k ∷ e ∷ v ∷ []) × Means k key × Means e expected × Means v value
+SpellsCommand fields (Add key number) =
+    (k : List ℕ) × (n : List ℕ) × (fields ≡ codes "add" ∷ k ∷ n ∷ []) × Means k key × (number_of n ≡ Some number) × (number < 2 ^ 64)
 SpellsCommand fields (Page key) = (k : List ℕ) × (fields ≡ codes "page" ∷ k ∷ []) × Means k key
+SpellsCommand fields (Back key) = (k : List ℕ) × (fields ≡ codes "back" ∷ k ∷ []) × Means k key
 SpellsCommand fields (Tidy key) = (k : List ℕ) × (fields ≡ codes "tidy" ∷ k ∷ []) × Means k key
 
 -- the word of a link; a page that is made ready, and the undoing of that, have none
@@ -77,8 +81,11 @@ IsShortCommand (Get key) = length key ≤ longest
 IsShortCommand (Insert key value) = (length key ≤ longest) × (length value ≤ longest)
 IsShortCommand (Upsert key value) = (length key ≤ longest) × (length value ≤ longest)
 IsShortCommand (Delete key) = length key ≤ longest
+IsShortCommand (DeleteIf key expected) = (length key ≤ longest) × (length expected ≤ longest)
 IsShortCommand (Swap key expected value) = (length key ≤ longest) × (length expected ≤ longest) × (length value ≤ longest)
+IsShortCommand (Add key number) = length key ≤ longest
 IsShortCommand (Page key) = length key ≤ longest
+IsShortCommand (Back key) = length key ≤ longest
 IsShortCommand (Tidy key) = length key ≤ longest
 
 abbrev pub IsShortRequest : Request → Type 0

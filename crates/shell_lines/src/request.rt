@@ -6,7 +6,8 @@ ghost use Rattle.shell_lines.specs.Fields.{fields_in, fields_of};
 ghost use Rattle.shell_lines.specs.Gives.{Gives};
 ghost use Rattle.shell_lines.specs.Request.{Says, IsShortRequest};
 ghost use Rattle.shell_lines.specs.Both.{both_of};
-ghost use Rattle.shell_lines.specs.Reading.{GivesCommand, GivesPair, GivesRequest, key_in, pair_in, pair_said, swap_in, swap_said, command_in, begin_in};
+ghost use Rattle.shell_lines.specs.Reading.{GivesCommand, GivesPair, GivesRequest, key_in, pair_in, pair_said, swap_in, swap_said};
+ghost use Rattle.shell_lines.specs.Reading.{addition_in, addition_said, command_in, begin_in};
 ghost use Rattle.shell_lines.specs.Reading.{turn_in, link_in, until_in, finish_in, mix_in, list_in, woven_in, script_in, request_in};
 ghost use Rattle.shell_lines.specs.declared.request.Language.{Language as LanguageSeen};
 ghost use Rattle.shell_lines.specs.declared.request.Request.{Request as RequestSeen};
@@ -97,6 +98,22 @@ fn read_swap(args: Option<&[u8]>) -> Result<Command, LineError>
     swap_by(key, expected, new)
 }
 
+// An addition of a number to what a key has.
+fn addition_by(key: &[u8], number: &[u8]) -> Result<Command, LineError>
+    ensures { GivesCommand result (addition_said key.now number.now) }
+{
+    let (key, number) = both(key_of(key), needed(read_seed(number)))?;
+    Ok(Command::Add(key, number))
+}
+
+#[tactic(auto, unfolding(crate::specs::Reading::addition_in))]
+fn read_addition(args: Option<&[u8]>) -> Result<Command, LineError>
+    ensures { GivesCommand result (addition_in (fields_in (option_copied args.entry))) }
+{
+    let (key, number) = needed(two_fields(args))?;
+    addition_by(key, number)
+}
+
 // The command that the fields spell.
 #[tactic(auto, unfolding(crate::specs::Reading::command_in))]
 pub fn read_command(fields: Option<&[u8]>) -> Result<Command, LineError>
@@ -117,11 +134,21 @@ pub fn read_command(fields: Option<&[u8]>) -> Result<Command, LineError>
     if spells(verb, "delete") {
         return Ok(Command::Delete(read_key(args)?));
     }
+    if spells(verb, "delete_if") {
+        let (key, expected) = read_pair(args)?;
+        return Ok(Command::DeleteIf(key, expected));
+    }
     if spells(verb, "swap") {
         return read_swap(args);
     }
+    if spells(verb, "add") {
+        return read_addition(args);
+    }
     if spells(verb, "page") {
         return Ok(Command::Page(read_key(args)?));
+    }
+    if spells(verb, "back") {
+        return Ok(Command::Back(read_key(args)?));
     }
     if spells(verb, "tidy") {
         return Ok(Command::Tidy(read_key(args)?));

@@ -34,6 +34,9 @@ const WEAVE_TOKENS: &[u8] = b"begin 0 get ==\n\
     begin 0 get =0x\n\
     begin 0 swap a =1 2\n\
     begin 0 swap a 1 =123\n\
+    begin 0 delete_if a =1\n\
+    begin 0 add =6 1\n\
+    begin 0 back =6\n\
     begin 0 insert 12345678901234567890123456789012345678901234567890123456789012345 =6";
 
 /// Tokens that are too long.
@@ -41,7 +44,11 @@ const WEAVE_LONG: &[u8] =
     b"begin 0 get 12345678901234567890123456789012345678901234567890123456789012345\n\
     begin 0 upsert a 12345678901234567890123456789012345678901234567890123456789012345\n\
     begin 0 swap a 12345678901234567890123456789012345678901234567890123456789012345 1\n\
-    begin 0 swap a 1 12345678901234567890123456789012345678901234567890123456789012345";
+    begin 0 swap a 1 12345678901234567890123456789012345678901234567890123456789012345\n\
+    begin 0 delete_if 12345678901234567890123456789012345678901234567890123456789012345 1\n\
+    begin 0 delete_if a 12345678901234567890123456789012345678901234567890123456789012345\n\
+    begin 0 add 12345678901234567890123456789012345678901234567890123456789012345 1\n\
+    begin 0 back 12345678901234567890123456789012345678901234567890123456789012345";
 
 /// Numbers that are none, or too large.
 const WEAVE_NUMBERS: &[u8] = b"turn -0 1\n\
@@ -54,6 +61,9 @@ const WEAVE_NUMBERS: &[u8] = b"turn -0 1\n\
     turn 0 99999999999999999999\n\
     turn 0 00000000000000000000\n\
     begin 99999999999999999999 get =6\n\
+    begin 0 add a x\n\
+    begin 0 add a -1\n\
+    begin 0 add a 18446744073709551616\n\
     mix +1 1\n\
     mix 99999999999999999999 1\n\
     mix 1 18446744073709551617\n\
@@ -79,13 +89,22 @@ const WEAVE_WORDS: &[u8] = b"List\n\
     begin 0 get a \n\
     begin 0 swap a 1\n\
     begin 0 swap a 1 2 3\n\
+    begin 0 delete_if a\n\
+    begin 0 delete_if a 1 2\n\
+    begin 0 add a\n\
+    begin 0 add a 1 2\n\
+    begin 0 back\n\
+    begin 0 back a b\n\
     turn\n\
     turn 0\n\
     turn 0 1 1\n\
     until 0 put \n\
     finish\n\
     finish 0 0\n\
-    swap a 1 2";
+    swap a 1 2\n\
+    delete_if a 1\n\
+    add a 1\n\
+    back a";
 
 /// Lines of a script outside the grammar.
 const SCRIPT: &[u8] = b"\0\n\
@@ -104,13 +123,21 @@ const SCRIPT: &[u8] = b"\0\n\
     swap a 1\n\
     swap a 1 2 3\n\
     delete\n\
+    delete_if a\n\
+    add a\n\
+    add a x\n\
+    add a 18446744073709551616\n\
+    back\n\
     0 get a\n\
     insert 12345678901234567890123456789012345678901234567890123456789012345 =6";
 
 /// Tokens of a script that are too long.
 const SCRIPT_LONG: &[u8] =
     b"get 12345678901234567890123456789012345678901234567890123456789012345\n\
-    swap a 12345678901234567890123456789012345678901234567890123456789012345 1";
+    swap a 12345678901234567890123456789012345678901234567890123456789012345 1\n\
+    delete_if a 12345678901234567890123456789012345678901234567890123456789012345\n\
+    add 12345678901234567890123456789012345678901234567890123456789012345 0\n\
+    back 12345678901234567890123456789012345678901234567890123456789012345";
 
 /// Lines, and the end of their refusal.
 const TABLE: [(Language, &[u8], &[u8]); 9] = [
@@ -161,5 +188,5 @@ fn refused(
 fn bad_lines(rt: HostRuntime) {
     let (alloc, limits) = (rt.alloc(), limits(&rt));
     let counts = TABLE.map(|row| refused(alloc, limits, row));
-    assert_eq!(rt; counts, [20, 6, 4, 14, 2, 6, 16, 18, 2]);
+    assert_eq!(rt; counts, [20, 9, 8, 17, 2, 6, 25, 23, 5]);
 }

@@ -7,9 +7,13 @@
 #![tactic(auto)]
 
 #[cfg(test)]
+mod backward;
+#[cfg(test)]
 mod bad_lines;
 #[cfg(test)]
 mod breaking;
+#[cfg(test)]
+mod by_value;
 #[cfg(test)]
 mod choppy;
 #[cfg(test)]
@@ -30,6 +34,8 @@ mod lines;
 mod numbered;
 #[cfg(test)]
 mod parts;
+#[cfg(test)]
+mod picture_commands;
 #[cfg(test)]
 mod picture_keys;
 #[cfg(test)]

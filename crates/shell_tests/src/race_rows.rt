@@ -32,6 +32,18 @@ const ROWS: &[(&[u8], &[u8])] = &[
         b"0 swap a 1 2\n0 insert a 1\n0 swap a 2 3\n0 swap a 1 3\n0 get a\n",
         b"0 absent\n0 inserted\n0 differs 1\n0 swapped\n0 value 3\npairs 1\na 3\n",
     ),
+    (
+        b"0 delete_if a 1\n0 insert a 1\n0 delete_if a 2\n0 delete_if a 1\n0 get a\n0 insert b 1\n",
+        b"0 absent\n0 inserted\n0 differs 1\n0 deleted 1\n0 none\n0 inserted\npairs 1\nb 1\n",
+    ),
+    (
+        b"0 add a 5\n0 add a 6\n0 insert b 1\n0 add b 1\n0 add c 18446744073709551615\n0 add c 2\n",
+        b"0 set\n0 replaced =0000000000000005\n0 inserted\n0 differs 1\n0 set\n0 replaced =ffffffffffffffff\npairs 3\na =000000000000000b\nb 1\nc =0000000000000001\n",
+    ),
+    (
+        b"0 back b\n0 insert a 1\n0 insert b 2\n0 back c\n0 back a\n0 back =\n",
+        b"0 back 0 end\n0 inserted\n0 inserted\n0 back 2 b 2 a 1 end\n0 back 1 a 1 end\n0 back 0 end\npairs 2\na 1\nb 2\n",
+    ),
     // three jobs
     (
         b"12 insert l 1\n5 insert e 1\n4000 insert z 1\n5 get e\n12 get l\n4000 get z\n",
@@ -106,6 +118,13 @@ const REFUSED: &[(&[u8], &[u8])] = &[
     (b"0 get =6g", MALFORMED),
     (b"0 swap a 1", MALFORMED),
     (b"0 swap a 1 2 3", MALFORMED),
+    (b"0 delete_if a", MALFORMED),
+    (b"0 delete_if a 1 2", MALFORMED),
+    (b"0 add a", MALFORMED),
+    (b"0 add a x", MALFORMED),
+    (b"0 add a 18446744073709551616", MALFORMED),
+    (b"0 back", MALFORMED),
+    (b"0 back a b", MALFORMED),
     (b"0 get a\0", MALFORMED),
     (b"0 get \x7f", MALFORMED),
     (b"0 get \x80", MALFORMED),
@@ -118,6 +137,10 @@ const REFUSED: &[(&[u8], &[u8])] = &[
     ),
     (
         b"0 insert a 12345678901234567890123456789012345678901234567890123456789012345",
+        TOO_LONG,
+    ),
+    (
+        b"0 add 12345678901234567890123456789012345678901234567890123456789012345 1",
         TOO_LONG,
     ),
     (

@@ -12,13 +12,16 @@ use std::alloc::Global;
 const LINES: u64 = 5000;
 
 /// The forms of lines, with N for a number, K for a token and L for a link.
-const WEAVE: [&str; 14] = [
+const WEAVE: [&str; 17] = [
     "begin N get K",
     "begin N insert K K",
     "begin N upsert K K",
     "begin N delete K",
+    "begin N delete_if K K",
     "begin N swap K K K",
+    "begin N add K N",
     "begin N page K",
+    "begin N back K",
     "begin N tidy K",
     "turn N N",
     "until N L",
@@ -29,13 +32,16 @@ const WEAVE: [&str; 14] = [
     "N get K",
 ];
 
-const SCRIPT: [&str; 10] = [
+const SCRIPT: [&str; 13] = [
     "get K",
     "insert K K",
     "upsert K K",
     "delete K",
+    "delete_if K K",
     "swap K K K",
+    "add K N",
     "page K",
+    "back K",
     "tidy K",
     "list",
     "begin N get K",

@@ -58,30 +58,36 @@ fn refused_commands(rt: HostRuntime) {
 }
 
 /// Commands of a script, each with a key's number in place of each #.
-const SCRIPT: [&str; 6] = [
+const SCRIPT: [&str; 9] = [
     "insert k# v#\n",
     "insert k# x\n",
     "upsert k# =\n",
     "page k#\n",
     "delete k#\n",
     "tidy k#\n",
+    "delete_if k# v#\n",
+    "add k# #\n",
+    "back k#\n",
 ];
 
 /// The same as operations of actor 0, from the begin to the end.
-const WEAVE: [&str; 6] = [
+const WEAVE: [&str; 9] = [
     "begin 0 insert k# v#\nfinish 0\n",
     "begin 0 insert k# x\nfinish 0\n",
     "begin 0 upsert k# =\nfinish 0\n",
     "begin 0 page k#\nfinish 0\n",
     "begin 0 delete k#\nfinish 0\n",
     "begin 0 tidy k#\nfinish 0\n",
+    "begin 0 delete_if k# v#\nfinish 0\n",
+    "begin 0 add k# #\nfinish 0\n",
+    "begin 0 back k#\nfinish 0\n",
 ];
 
-/// Sixty of these over 23 keys, and a listing.
-fn sixty(alloc: Global, forms: &[&str]) -> Result<String, AllocError> {
+/// Ninety of these over 23 keys, and a listing.
+fn ninety(alloc: Global, forms: &[&str]) -> Result<String, AllocError> {
     let mut lines = String::new(alloc);
-    for number in 0..60u32 {
-        let form = forms.get((number % 6) as usize).copied().unwrap_or("");
+    for number in 0..90u32 {
+        let form = forms.get((number % 9) as usize).copied().unwrap_or("");
         Width::Two.put(&mut lines, form, number * 7 % 23)?;
     }
     lines.push_str("list\n")?;
@@ -90,7 +96,7 @@ fn sixty(alloc: Global, forms: &[&str]) -> Result<String, AllocError> {
 
 /// What they print.
 fn printed(alloc: Global, limits: Limits, language: Language, forms: &[&str]) -> Option<Ran> {
-    match sixty(alloc, forms) {
+    match ninety(alloc, forms) {
         Ok(lines) => Some(whole(alloc, language, limits, lines.as_bytes())),
         Err(_) => None,
     }

@@ -33,6 +33,9 @@ returns-in-Differs g c = rw c.in-Differs.is c.show_with-in-Differs.ensures
 pub returns-in-Page : goal.returns-in-Page
 returns-in-Page g c = rw c.in-Page.is (rw (c.as_slice.ensures.pairs, c.as_ref.ensures.value) at c.show_page.ensures)
 
+pub returns-in-BackPage : goal.returns-in-BackPage
+returns-in-BackPage g c = rw c.in-BackPage.is (rw (c.as_slice-in-BackPage.ensures.pairs, c.as_ref-in-BackPage.ensures.value) at c.show_back_page.ensures)
+
 pub returns-in-Tidied : goal.returns-in-Tidied
 returns-in-Tidied g c = rw c.in-Tidied.is c.show-in-Tidied.ensures
 
