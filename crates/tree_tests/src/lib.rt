@@ -65,6 +65,8 @@ mod trees;
 #[cfg(test)]
 mod turns;
 #[cfg(test)]
+mod walk_back;
+#[cfg(test)]
 mod walk_beside;
 #[cfg(test)]
 mod walk_numbered;

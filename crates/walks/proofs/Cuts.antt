@@ -1,9 +1,10 @@
 -- Pairs in the order of their keys, cut off at a bound.
-use Rattle.std.proofs.Common.{◌≡◌, ℕ, zero, suc, List, [], ◌∷◌, map, Bool, true, false, cond, Option, Some, None, refl, sym, ap, subst, ◌∙◌, arith, Less}
-use Rattle.std.specs.Prelude.{Contains, filter, not, if◌then◌else◌}
+use Rattle.std.proofs.Common.{◌≡◌, ℕ, zero, suc, List, [], ◌∷◌, length, map, Bool, true, false, cond, Option, Some, None, refl, sym, ap, subst, ◌∙◌, arith, Less}
+use Rattle.std.specs.Prelude.{◌==◌, Contains, filter, not, if◌then◌else◌}
 use Rattle.std.specs.List.{AllByRecursion, take_while}
 use Rattle.std.specs.List.Sorted.{IsStrictlySortedBy}
 use Rattle.std.specs.Ordering.{is_lt}
+use Rattle.std.proofs.lemmas.Bool.{eqb-true}
 use Rattle.std.proofs.lemmas.List.Elements.{All-contains, All-contains_itself, All-filter, Contains-append_right, filter_passes}
 use Rattle.std.proofs.lemmas.List.Kept.{IsStrictlySortedBy-filter}
 use Rattle.std.proofs.lemmas.List.Sums.{take_while-cons}
@@ -16,8 +17,12 @@ use Rattle.walks.specs.Walks.{PairsAscend}
 abbrev pub Pair : Type 0
 Pair = List ℕ × List ℕ
 
-abbrev keys : List Pair → List (List ℕ)
+abbrev pub keys : List Pair → List (List ℕ)
 keys pairs = map (λ (pair : Pair). pair.0) pairs
+
+pub no_item : {X : Type 0} (xs : List X) → (length xs == 0) ≡ true → xs ≡ []
+no_item [] is = refl
+no_item (x ∷ xs) is = let e = eqb-true (length (x ∷ xs)) 0 is in absurd (omega (arith, e))
 
 abbrev test : Option (List ℕ) → Pair → Bool
 test bound pair = is_under pair.0 bound
@@ -63,11 +68,11 @@ module _ {X : Type 0} (p : X → Bool) where
       (λ inn. subst (λ zs. Contains zs x) (sym (ap (λ b. cond b (y ∷ filter p xs) (filter p xs)) inn)) (Contains-append_right (y ∷ []) (filter p xs) x rest))
       (λ out. subst (λ zs. Contains zs x) (sym (ap (λ b. cond b (y ∷ filter p xs) (filter p xs)) out)) rest)
 
-keys_kept : (bound : Option (List ℕ)) (pairs : List Pair) → keys (pairs_under bound pairs) ≡ filter (λ key. is_under key bound) (keys pairs)
-keys_kept bound [] = refl
-keys_kept bound (pair ∷ pairs) = either (is_under pair.0 bound)
-    (λ inn. rw inn (ap (λ rest. pair.0 ∷ rest) (keys_kept bound pairs)))
-    (λ out. rw out (keys_kept bound pairs))
+pub keys_kept : (p : List ℕ → Bool) (pairs : List Pair) → keys (filter (λ (pair : Pair). p pair.0) pairs) ≡ filter p (keys pairs)
+keys_kept p [] = refl
+keys_kept p (pair ∷ pairs) = either (p pair.0)
+    (λ inn. rw inn (ap (λ rest. pair.0 ∷ rest) (keys_kept p pairs)))
+    (λ out. rw out (keys_kept p pairs))
 
 -- a key is below both ends exactly if it is below the one that comes first
 module _ (bound : Option (List ℕ)) (key : List ℕ) where
@@ -93,7 +98,7 @@ module _ (bound : Option (List ℕ)) (key : List ℕ) where
 pub cut_pairs : (value_at : List ℕ → Option (List ℕ)) (from : List ℕ) (high bound : Option (List ℕ)) (pairs : List Pair) → ArePairsOf value_at from high pairs
     → ArePairsOf value_at from (end_under bound (place_under bound high)) (pairs_under bound pairs)
 cut_pairs value_at from high bound pairs are = record {
-  ascending = subst (IsStrictlySortedBy key_cmp) (sym (keys_kept bound pairs)) (IsStrictlySortedBy-filter key_cmp (λ key. is_under key bound) (keys pairs) are.ascending);
+  ascending = subst (IsStrictlySortedBy key_cmp) (sym (keys_kept (λ key. is_under key bound) pairs)) (IsStrictlySortedBy-filter key_cmp (λ key. is_under key bound) (keys pairs) are.ascending);
   exact = λ key value. (
     (λ among.
         let (within, has) = (are.exact key value).0 (kept_was (test bound) pairs (key, value) among) in

@@ -1,4 +1,14 @@
+pub mod BackCuts
+pub mod BackPaging
+pub mod BackReplying
+pub mod BackWalked
+pub mod BackWalking
+pub mod Calling
+pub mod Calls
 pub mod Cuts
+pub mod LeastAbove
+pub mod Neighbouring
+pub mod NextPairs
 pub mod Paging
 pub mod Replying
 pub mod Walked

@@ -58,7 +58,8 @@ module _ (limits : Limits) (run : List Entry) (points : List Bool) (operation : 
 
   at_point : (answer : Reply) → RepliesAtPoint limits run points operation answer → IsPaged run points operation from answer
   at_point answer (n, own, point, inl by_value) = absurd (let none = sym (ap (λ c. reply_of c (logged_value (log_at run points n) (command_key operation.command))) asks) ∙ by_value in cc)
-  at_point answer (n, own, point, inr page) = shown answer n own point page
+  at_point answer (n, own, point, inr (inl page)) = shown answer n own point page
+  at_point answer (n, own, point, inr (inr back)) = absurd (let both = sym asks ∙ back.asks in cc)
 
   not_tidy : FindsTidy limits run operation → ⊥
   not_tidy tidy = let both = sym asks ∙ tidy.asks in cc

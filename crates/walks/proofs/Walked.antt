@@ -1,74 +1,30 @@
 -- What a cursor has walked on a seat.
-use Rattle.std.proofs.Common.{◌≡◌, ◌+◌, ◌++◌, ℕ, List, [], ◌∷◌, length, map, Bool, true, false, Option, None, Some, refl, sym, ap, subst, ◌∙◌, arith, append_assoc}
-use Rattle.std.proofs.lemmas.List.{append-nil, length-append, map-append}
-use Rattle.bw_model.specs.declared.command.Command.{Command}
+use Rattle.std.proofs.Common.{◌≡◌, ◌+◌, ◌++◌, ℕ, List, [], ◌∷◌, length, Some, refl, sym, ap, subst, ◌∙◌, arith, append_assoc}
+use Rattle.std.proofs.lemmas.List.{append-nil, length-append}
 use Rattle.bw_model.specs.declared.command.Command.TheVariants as command
-use Rattle.bw_model.specs.declared.command.Reply.{Reply}
-use Rattle.traces.specs.trace.Trace.{command_of}
-use Rattle.traces.specs.declared.trace.Entry.{Entry}
-use Rattle.running_tree.specs.Calls.{answered_last, calls_in}
 use Rattle.running_tree.specs.Runs.{StartsWith}
-use Rattle.running_tree.specs.Seats.{IsSame, Seat, unfinished_command}
-use Rattle.running_tree.specs.declared.called.Called.{Called}
+use Rattle.running_tree.specs.Seats.{IsSame, Seat}
 use Rattle.running_tree.specs.declared.called.Called.TheVariants as called
 use Rattle.running_tree.proofs.Going.{starts_on}
-use Rattle.walks.specs.Cursors.{CallsPages, Cursor, HasShown, HasTold, HasWalked, IsNextOf, IsRunOn, IsSpentAt, WasIdle, added_by, commands_in}
+use Rattle.walks.specs.Cursors.{CallsPages, Cursor, HasShown, HasTold, HasWalked, IsNextOf, IsSpentAt, added_by, commands_in}
 use Rattle.walks.specs.Walks.{IsWalk, pairs_shown}
 use Rattle.walks.specs.declared.cursor.Walk.{Walk}
 use Rattle.walks.specs.declared.cursor.Walk.TheVariants as walk
+use Rattle.walks.proofs.Calls.{calls_alone, calls_on, done_idle, idle_still, no_call, spent_grows}
 use Rattle.walks.proofs.Replying.{page_is_shown}
 use Rattle.walks.proofs.Walking.{shown_on, walk_on, walk_stays, walk_tells}
-
-done_idle : (asked : Bool) (seat later : Seat) (from : List ℕ) (budget : ℕ) (reply : Reply)
-    → IsRunOn asked seat (command.Page from) budget (called.Done reply) later → (StartsWith later.seen seat.seen) × (unfinished_command later ≡ None)
-done_idle false seat later from budget reply run = (run.grows, run.idle)
-done_idle true seat later from budget reply run = (run.grows, run.idle)
-
-spent_grows : (asked : Bool) (seat later : Seat) (from : List ℕ) (budget : ℕ) → IsRunOn asked seat (command.Page from) budget called.Spent later → StartsWith later.seen seat.seen
-spent_grows false seat later from budget run = run.grows
-spent_grows true seat later from budget run = run.grows
-
--- an answer leaves the commands as they are
-answered_commands : (calls : List (Command × Option Reply)) (reply : Reply) → map (λ call. call.0) (answered_last calls reply) ≡ map (λ call. call.0) calls
-answered_commands [] reply = refl
-answered_commands ((asked, before) ∷ []) reply = refl
-answered_commands (first ∷ second ∷ rest) reply = ap (λ z. first.0 ∷ z) (answered_commands (second ∷ rest) reply)
-
-no_page : (seat later : Seat) → commands_in later ≡ commands_in seat → CallsPages seat later
-no_page seat later same = ([], same ∙ sym (append-nil (commands_in seat)))
-
-one_page : (seat later : Seat) (from : List ℕ) (reply : Option Reply) → calls_in later ≡ calls_in seat ++ (command.Page from, reply) ∷ [] → CallsPages seat later
-one_page seat later from reply more = (from ∷ [], ap (map (λ call. call.0)) more ∙ map-append (λ call. call.0) (calls_in seat) ((command.Page from, reply) ∷ []))
-
--- whatever a run for a page comes to
-pages_alone : (asked : Bool) (seat later : Seat) (from : List ℕ) (budget : ℕ) (answered : Called) → IsRunOn asked seat (command.Page from) budget answered later → CallsPages seat later
-pages_alone false seat later from budget (called.Done reply) run = one_page seat later from (Some reply) run.calls
-pages_alone false seat later from budget called.Spent run = one_page seat later from None run.calls
-pages_alone true seat later from budget (called.Done reply) run = no_page seat later (ap (map (λ call. call.0)) run.calls ∙ answered_commands (calls_in seat) reply)
-pages_alone true seat later from budget called.Spent run = no_page seat later (ap (map (λ call. call.0)) run.calls)
-
-pages_on : (a b c : Seat) → CallsPages a b → CallsPages b c → CallsPages a c
-pages_on a b c one more = (
-  one.0 ++ more.0,
-  more.1 ∙ ap (λ z. z ++ map command.Page more.0) one.1 ∙ append_assoc (commands_in a) (map command.Page one.0) (map command.Page more.0)
-      ∙ ap (λ z. commands_in a ++ z) (sym (map-append command.Page one.0 more.0)),
-)
-
--- a seat that has seen more was idle when it was idle
-idle_still : (seat later : Seat) (early : List Entry) → IsSame seat later → StartsWith later.seen seat.seen → WasIdle seat early → WasIdle later early
-idle_still seat later early same grows idle = (starts_on early seat.seen later.seen idle.0 grows, subst (λ actor. command_of early actor ≡ None) (sym same.actor) idle.1)
 
 walked_page : (old new : Cursor) (seat later : Seat) (budget : ℕ) (before : List (List ℕ × List ℕ)) → IsSame seat later → HasShown old seat budget new later
     → HasWalked old seat before (before ++ new.pairs) new later
 walked_page old new seat later budget before same h =
-    let (grows, idle) = done_idle old.asked seat later h.page.from budget h.reply h.run in
+    let (grows, idle) = done_idle old.asked seat later (command.Page h.page.from) budget h.reply h.run in
     let last = h.last in record {
       pages = h.page ∷ [];
       shown = ap (λ z. before ++ z.pairs) h.stands ∙ ap (λ pairs. before ++ pairs) (sym (append-nil h.page.pairs));
       walk = λ early was. (later.seen, (([], sym (append-nil later.seen)), idle), (h.from, h.since early was, h.is, (ap (λ z. z.at) h.stands, omega arith)));
       bound = ap (λ z. z.bound) h.stands;
       grows = grows;
-      alone = pages_alone old.asked seat later h.page.from budget (called.Done h.reply) h.run;
+      alone = calls_alone command.Page old.asked seat later h.page.from budget (called.Done h.reply) h.run;
     }
 
 walked_none : (old new : Cursor) (seat later : Seat) (before : List (List ℕ × List ℕ)) → IsSame seat later → StartsWith later.seen seat.seen
@@ -86,10 +42,10 @@ pub walked_next : (old new : Cursor) (seat later : Seat) (budget : ℕ) (answere
     → HasWalked old seat before (before ++ added_by answered new) new later
 walked_next old new seat later budget walk.Page before same h = walked_page old new seat later budget before same h
 walked_next old new seat later budget walk.Spent before same h =
-    walked_none old new seat later before same (spent_grows old.asked seat later h.from budget h.run)
-    (pages_alone old.asked seat later h.from budget called.Spent h.run) (ap (λ z. z.at) h.stands) (ap (λ z. z.bound) h.stands)
+    walked_none old new seat later before same (spent_grows old.asked seat later (command.Page h.from) budget h.run)
+    (calls_alone command.Page old.asked seat later h.from budget called.Spent h.run) (ap (λ z. z.at) h.stands) (ap (λ z. z.bound) h.stands)
 walked_next old new seat later budget walk.End before same h =
-    walked_none old new seat later before same ([], ap (λ z. z.seen) h.2 ∙ sym (append-nil seat.seen)) (no_page seat later (ap commands_in h.2)) (ap (λ z. z.at) h.1) (ap (λ z. z.bound) h.1)
+    walked_none old new seat later before same ([], ap (λ z. z.seen) h.2 ∙ sym (append-nil seat.seen)) (no_call command.Page seat later (ap commands_in h.2)) (ap (λ z. z.at) h.1) (ap (λ z. z.bound) h.1)
 
 pub walked_on : (first mid last : Cursor) (seat between later : Seat) (before middle after : List (List ℕ × List ℕ))
     → HasWalked first seat before middle mid between → HasWalked mid between middle after last later → HasWalked first seat before after last later
@@ -109,7 +65,7 @@ walked_on first mid last seat between later before middle after one more = recor
       );
   bound = more.bound ∙ one.bound;
   grows = starts_on seat.seen between.seen later.seen one.grows more.grows;
-  alone = pages_on seat between later one.alone more.alone;
+  alone = calls_on command.Page seat between later one.alone more.alone;
 }
 
 -- one answer more
@@ -138,7 +94,7 @@ module _ (first mid last : Cursor) (seat between later : Seat) (budget : ℕ) (a
 pub walked_nothing : (cursor : Cursor) (seat : Seat) (pairs : List (List ℕ × List ℕ)) → (walked : HasWalked cursor seat pairs pairs cursor seat) × (length walked.pages ≡ 0)
 walked_nothing cursor seat pairs = (
   record
-      { pages = []; shown = sym (append-nil pairs); walk = λ early was. (early, was, (refl, omega arith)); bound = refl; grows = ([], sym (append-nil seat.seen)); alone = no_page seat seat refl },
+      { pages = []; shown = sym (append-nil pairs); walk = λ early was. (early, was, (refl, omega arith)); bound = refl; grows = ([], sym (append-nil seat.seen)); alone = no_call command.Page seat seat refl },
   refl,
 )
 

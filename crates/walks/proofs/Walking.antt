@@ -1,5 +1,5 @@
 -- Walks that go on, and what they show.
-use Rattle.std.proofs.Common.{◌≡◌, ◌≤◌, ◌<◌, ◌+◌, ℕ, List, [], ◌∷◌, ◌++◌, length, map, Bool, true, false, Option, Some, None, inl, inr, refl, sym, ap, subst, ◌∙◌, arith, append_assoc, Less}
+use Rattle.std.proofs.Common.{◌≡◌, ◌≤◌, ◌<◌, ◌+◌, ℕ, List, [], ◌∷◌, ◌++◌, length, Bool, true, false, Option, Some, None, inl, inr, refl, sym, ap, subst, ◌∙◌, arith, append_assoc, Less}
 use Rattle.std.specs.Prelude.{if◌then◌else◌, Contains, not}
 use Rattle.std.specs.List.{AllByRecursion}
 use Rattle.std.specs.List.Sorted.{IsStrictlySortedBy}
@@ -15,10 +15,10 @@ use Rattle.op_machine.specs.theorem.Operations.{Finishes, Operation}
 use Rattle.running_tree.specs.Runs.{StartsWith}
 use Rattle.walks.specs.Pages.{IsPageOf, IsPageShown, WalkedPage, end_under, page_operation, place_under}
 use Rattle.walks.specs.Walks.{PairsAscend, IsWalk, TellMap, pairs_shown}
-use Rattle.walks.proofs.Cuts.{Pair, below_bound}
+use Rattle.walks.proofs.Cuts.{Pair, below_bound, keys}
 
 -- a page of a run is one of each longer run
-finish_stays : (run rest : List Entry) (operation : Operation) (n : ℕ) (answered : Reply) → Finishes run operation n answered → Finishes (run ++ rest) operation n answered
+pub finish_stays : (run rest : List Entry) (operation : Operation) (n : ℕ) (answered : Reply) → Finishes run operation n answered → Finishes (run ++ rest) operation n answered
 finish_stays run rest operation n answered (step, told, own) = (
   step,
   told,
@@ -68,11 +68,8 @@ pub shown_on : (pages more : List WalkedPage) → pairs_shown (pages ++ more) �
 shown_on [] more = refl
 shown_on (page ∷ pages) more = ap (λ rest. page.pairs ++ rest) (shown_on pages more) ∙ sym (append_assoc page.pairs (pairs_shown pages) (pairs_shown more))
 
-abbrev keys : List Pair → List (List ℕ)
-keys pairs = map (λ (pair : Pair). pair.0) pairs
-
 -- ascending pairs above ascending pairs
-sorted_on : (xs ys : List Pair) → PairsAscend xs → PairsAscend ys → ((x y : List ℕ) (v w : List ℕ) → Contains xs (x, v) → Contains ys (y, w) → key_cmp x y ≡ Less) → PairsAscend (xs ++ ys)
+pub sorted_on : (xs ys : List Pair) → PairsAscend xs → PairsAscend ys → ((x y : List ℕ) (v w : List ℕ) → Contains xs (x, v) → Contains ys (y, w) → key_cmp x y ≡ Less) → PairsAscend (xs ++ ys)
 unfolding IsStrictlySortedBy
 sorted_on [] ys one other apart = other
 sorted_on (pair ∷ xs) ys one other apart = (
@@ -89,7 +86,7 @@ sorted_on (pair ∷ xs) ys one other apart = (
     above [] ys key own h = above_all key ys h
     above (next ∷ xs) ys key own h = (own.0, above xs ys key own.1 h)
 
-none_in : {X : Type 0} (x : X) → Contains [] x → ⊥
+pub none_in : {X : Type 0} (x : X) → Contains [] x → ⊥
 none_in x (k, within, is) = omega arith
 
 module _ (run : List Entry) (points : List Bool) where

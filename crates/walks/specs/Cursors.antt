@@ -1,5 +1,5 @@
 -- Cursors, and what asking one for its next page comes to.
-use Rattle.std.specs.Prelude.{◌≡◌, ◌+◌, ◌≤◌, ◌++◌, ◌-◌, ◌^◌, ◌⊎◌, ℕ, Bool, true, false, List, [], Option, None, Some, if◌then◌else◌, length, map}
+use Rattle.std.specs.Prelude.{◌≡◌, ◌+◌, ◌<◌, ◌≤◌, ◌++◌, ◌-◌, ◌^◌, ◌⊎◌, ℕ, Bool, true, false, List, [], Option, None, Some, if◌then◌else◌, length, map}
 use Rattle.bw_model.specs.declared.command.Command.{Command}
 use Rattle.bw_model.specs.declared.command.Command.TheVariants as command
 use Rattle.bw_model.specs.declared.command.Reply.{Reply}
@@ -120,3 +120,9 @@ HasManyPages old seat before after new later = (walked : HasWalked old seat befo
 abbrev pub HasScanStopped : Scanned → Cursor → Seat → ℕ → List (List ℕ × List ℕ) → List (List ℕ × List ℕ) → Cursor → Seat → Type 0
 HasScanStopped scanned.End old seat budget before after new later = new.at ≡ None
 HasScanStopped scanned.Spent old seat budget before after new later = IsSpentAt seat budget new later ⊎ HasManyPages old seat before after new later
+
+-- What seeking a pair came to: a page that has one, or the walk's end; or steps or pages were too few.
+abbrev pub HasSought : Walk → Cursor → Seat → ℕ → Cursor → Seat → Type 0
+HasSought walk.Page old seat budget new later = 0 < length new.pairs
+HasSought walk.Spent old seat budget new later = IsSpentAt seat budget new later ⊎ HasManyPages old seat [] [] new later
+HasSought walk.End old seat budget new later = new.at ≡ None

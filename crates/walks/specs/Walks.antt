@@ -11,7 +11,8 @@ use Rattle.walks.specs.Pages.{IsPageOf, WalkedPage}
 -- before it ended, and its operation was begun after that one's was done. All of it was between two places of the run.
 abbrev pub IsWalk : List Entry → Option (List ℕ) → Option (List ℕ) → ℕ → List WalkedPage → Option (List ℕ) → ℕ → Type 0
 IsWalk run bound at since [] to till = (to ≡ at) × (since ≤ till)
-IsWalk run bound at since (page ∷ pages) to till = (at ≡ Some page.from) × (since ≤ page.begun) × IsPageOf run bound page × IsWalk run bound page.next (page.done + 1) pages to till
+IsWalk run bound at since (page ∷ pages) to till = (at ≡ Some page.from) × (since ≤ page.begun) × IsPageOf run bound page
+    × IsWalk run bound page.next (page.done + 1) pages to till
 
 -- what the pages show, one page's pairs after another's
 abbrev pub pairs_shown : List WalkedPage → List (List ℕ × List ℕ)
@@ -35,9 +36,16 @@ HasOnce run points since till key value = (n : ℕ) × (since ≤ n) × (n < til
 
 -- What pairs tell of a map that others change meanwhile: their keys ascend strictly and are in the range; a key that is there throughout is
 -- among them, a value that it has throughout with it; and what is among them the map has had.
-pub record TellMap (run : List Entry) (points : List Bool) (since till : ℕ) (from : List ℕ) (end : Option (List ℕ)) (pairs : List (List ℕ × List ℕ)) : Type 0 where
+pub record TellMap (run : List Entry) (points : List Bool) (since till : ℕ) (from : List ℕ) (end : Option (List ℕ))
+    (pairs : List (List ℕ × List ℕ)) : Type 0 where
   pub ascending : PairsAscend pairs
   pub within : (key value : List ℕ) → Contains pairs (key, value) → IsTrue (is_in_range from end key)
   pub there : (key : List ℕ) → IsTrue (is_in_range from end key) → IsThereThroughout run points since till key → (value : List ℕ) × Contains pairs (key, value)
   pub stays : (key value : List ℕ) → IsTrue (is_in_range from end key) → HasThroughout run points since till key value → Contains pairs (key, value)
   pub was : (key value : List ℕ) → Contains pairs (key, value) → HasOnce run points since till key value
+
+-- What a walk tells of its next pair: the map has had it, and of the keys before it none was there throughout.
+abbrev pub TellNext : List Entry → List Bool → ℕ → ℕ → List ℕ → List ℕ → List ℕ → Type 0
+TellNext run points since till from key value =
+    HasOnce run points since till key value ×
+    ((other : List ℕ) → IsTrue (is_in_range from (Some key) other) → IsThereThroughout run points since till other → ⊥)

@@ -8,9 +8,11 @@ ghost use Rattle.running_tree.specs.Runs.{IsOneHistory};
 ghost use Rattle.running_tree.specs.Seats.{IsSame, unfinished_command};
 ghost use Rattle.running_tree.specs.Trees.{IsSeatOf};
 ghost use Rattle.walks.specs.Cursors.{IsNextOf, IsRunOn, cursor_command};
+ghost use Rattle.walks.specs.Neighbours.{key_above};
 ghost use Rattle.walks.specs.Pages.{pairs_under, place_under};
 ghost use Rattle.walks.specs.Walks.{PairsAscend};
 
+use crate::neighbours::above;
 use bw_model::{Command, Key, Pairs, Reply, Value};
 use running_tree::{BwSeat, Called, Tree};
 use std::alloc::Allocator;
@@ -56,6 +58,33 @@ impl Cursor {
         Cursor {
             at: under(Some(from), &bound),
             bound,
+            asked: false,
+            page: Pairs::new(),
+            shown: 0,
+        }
+    }
+
+    /// A walk over all keys: the first pair that it seeks is the tree's first one.
+    pub fn first() -> Cursor
+        ensures { result ≡ record { at = Some []; bound = None; asked = false; pairs = [] } }
+    {
+        Cursor::new(Key::default(), None)
+    }
+
+    /// A walk from a key on: the first pair that it seeks has the least key at or above this one.
+    pub fn ceiling(key: Key) -> Cursor
+        ensures { result ≡ record { at = Some key; bound = None; asked = false; pairs = [] } }
+    {
+        Cursor::new(key, None)
+    }
+
+    /// A walk above a key: the first pair that it seeks has the least key above this one. Above the greatest key it is at its end.
+    pub fn higher(key: &Key) -> Cursor
+        ensures { result ≡ record { at = key_above key.now; bound = None; asked = false; pairs = [] } }
+    {
+        Cursor {
+            at: above(key),
+            bound: None,
             asked: false,
             page: Pairs::new(),
             shown: 0,

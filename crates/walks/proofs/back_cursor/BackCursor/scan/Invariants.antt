@@ -1,0 +1,12 @@
+use Rattle.std.proofs.Common.{◌≡◌, length}
+use Rattle.running_tree.specs.Seats.{IsSame, unfinished_command}
+use Rattle.walks.specs.BackCursors.{HasToldBack, HasWalkedBack, back_command}
+use Rattle.walks.proofs.back_cursor.BackCursor.scan.Given as goal
+
+abbrev pub invariant-loop : goal.invariant-loop
+invariant-loop g l = record {
+  same : IsSame l.fn.seat l.seat;
+  ready : unfinished_command l.seat ≡ back_command l.self;
+  walked : (w : HasWalkedBack l.fn.self l.fn.seat l.fn.list.items l.list.items l.self l.seat) × (length w.pages ≡ l.counter);
+  told : HasToldBack l.fn.self l.fn.seat l.fn.list.items l.list.items l.self l.seat;
+}

@@ -1,0 +1,15 @@
+use Rattle.std.proofs.Common.{◌∙◌, ap, drop, false}
+use Rattle.std.specs.List.{prefix_len}
+use Rattle.bw_model.specs.Bytes.{is_below}
+use Rattle.walks.specs.BackPages.{pairs_from, place_from}
+use Rattle.walks.proofs.BackCuts.{rest_is}
+use Rattle.walks.proofs.Cuts.{Pair}
+use Rattle.walks.proofs.back_cursor.BackCursor.show.Goals as goal
+
+pub returns : goal.returns
+returns c =
+    let counted = c.count_below-self-inside.ensures.count ∙ ap (prefix_len (λ (pair : Pair). is_below pair.0 c.self.inside.low)) c.as_slice.ensures.pairs in
+    let cut = ap (λ n. drop n c.args.items) counted ∙ rest_is c.self.inside.low c.args.items c.requires.ascend
+    ∙ ap (λ z. pairs_from z.low c.args.items) c.self.view_is in
+    let at = c.over-self-inside.ensures ∙ ap (λ z. place_from z.low c.args.below) c.self.view_is in
+    λ i. record { at = at i; low = (c.self.view_is i).low; asked = false; pairs = cut i }

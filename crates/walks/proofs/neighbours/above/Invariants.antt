@@ -1,0 +1,9 @@
+use Rattle.std.proofs.Common.{◌≡◌, ◌-◌, None, drop}
+use Rattle.walks.specs.Neighbours.{above_in}
+use Rattle.walks.proofs.neighbours.above.Given as goal
+
+abbrev pub invariant-loop-place : goal.invariant-loop-place
+invariant-loop-place l = record {
+  same : l.bytes ≡ l.key;
+  none : above_in (64 - l.place) (drop l.place l.key) ≡ None;
+}
