@@ -46,7 +46,7 @@
 extern "C" {
 #endif
 
-#define BWTREE_VERSION "0.1.0" /* what its numbers mean: CHANGELOG.md */
+#define BWTREE_VERSION "0.1.1" /* what its numbers mean: CHANGELOG.md */
 #define BWTREE_MAX_LENGTH 64  /* bytes of a key or a value */
 #define BWTREE_MAX_SEATS 16   /* seats of a tree */
 #define BWTREE_PAGE_PAIRS 24  /* pairs of a page */
@@ -54,10 +54,10 @@ extern "C" {
 /* What a call answers. Below 16 an operation took place; from 16 on nothing was done, and nothing that the call may write was written. */
 enum {
     BWTREE_OK = 0,          /* done: the key had the value, or got one, or lost it */
-    BWTREE_ABSENT = 1,      /* the key has no value (get, delete, swap) */
+    BWTREE_ABSENT = 1,      /* the key has no value (get, delete, delete_if, swap) */
     BWTREE_EXISTS = 2,      /* the key has the value `old`, and keeps it (insert) */
-    BWTREE_REPLACED = 3,    /* done: the key had the value `old` before (upsert) */
-    BWTREE_DIFFERS = 4,     /* the key has the value `old`, which isn't the expected one, and keeps it (swap) */
+    BWTREE_REPLACED = 3,    /* done: the key had the value `old` before (upsert, add) */
+    BWTREE_DIFFERS = 4,     /* the key has the value `old`, which isn't the expected one (delete_if, swap), or has not eight bytes (add), and keeps it */
     BWTREE_FULL = 5,        /* nothing was free for a change, and no key was changed: for a moment, or for good (above, *Full*) */
     BWTREE_SPENT = 6,       /* after 65,536 steps, or as many as resume was given, the operation isn't done: it stays in the seat. Resume it */
     BWTREE_NO_ROOM = 7,     /* the tree is closed, and its pairs, which are more than there is room for, wait (close_pairs) */
@@ -100,7 +100,8 @@ typedef struct bwtree_pair {
     bwtree_bytes value;
 } bwtree_pair;
 
-/* The pairs of one leaf from a key on, keys ascending, 0 to 24 of them. Where `more` is 1, the walk goes on from `next`; where it is 0, it is at its end. */
+/* The pairs of one leaf from a key on, or up to a key, keys ascending, 0 to 24 of them. Where `more` is 1, the walk goes on from `next`, or backward
+ * at `next`; where it is 0, it is at its end. */
 typedef struct bwtree_page_pairs {
     uint64_t count;
     uint64_t more;
@@ -131,10 +132,14 @@ uint32_t bwtree_raw_insert(const bwtree *tree, uint32_t seat, const uint8_t *key
 uint32_t bwtree_raw_upsert(const bwtree *tree, uint32_t seat, const uint8_t *key, size_t key_length, const uint8_t *value, size_t value_length,
                            bwtree_bytes *old);
 uint32_t bwtree_raw_delete(const bwtree *tree, uint32_t seat, const uint8_t *key, size_t key_length, bwtree_bytes *old);
+uint32_t bwtree_raw_delete_if(const bwtree *tree, uint32_t seat, const uint8_t *key, size_t key_length, const uint8_t *expected, size_t expected_length,
+                              bwtree_bytes *old);
 uint32_t bwtree_raw_swap(const bwtree *tree, uint32_t seat, const uint8_t *key, size_t key_length, const uint8_t *expected, size_t expected_length,
                          const uint8_t *value, size_t value_length, bwtree_bytes *old);
+uint32_t bwtree_raw_add(const bwtree *tree, uint32_t seat, const uint8_t *key, size_t key_length, uint64_t number, bwtree_bytes *old);
 uint32_t bwtree_raw_tidy(const bwtree *tree, uint32_t seat, const uint8_t *key, size_t key_length);
 uint32_t bwtree_raw_page(const bwtree *tree, uint32_t seat, const uint8_t *from, size_t from_length, bwtree_page_pairs *page);
+uint32_t bwtree_raw_back(const bwtree *tree, uint32_t seat, const uint8_t *upto, size_t upto_length, bwtree_page_pairs *page);
 uint32_t bwtree_raw_resume(const bwtree *tree, uint32_t seat, uint32_t budget, bwtree_bytes *old, bwtree_page_pairs *page);
 uint32_t bwtree_raw_is_idle(const bwtree *tree, uint32_t seat);
 uint32_t bwtree_raw_room(const bwtree *tree, uint32_t seat, bwtree_room *room);
@@ -220,12 +225,26 @@ static inline uint32_t bwtree_delete(const bwtree *tree, uint32_t seat, const vo
     return bwtree_raw_delete(tree, seat, bwtree_slice_(key), key_length, old);
 }
 
+/* Makes a key absent where it has the expected value. OK with `old`, DIFFERS with `old`, ABSENT, FULL; SPENT, CLOSED, NO_SEAT, BUSY, UNFINISHED, TOO_LONG. */
+static inline uint32_t bwtree_delete_if(const bwtree *tree, uint32_t seat, const void *key, size_t key_length, const void *expected,
+                                        size_t expected_length, bwtree_bytes *old) {
+    if (!tree || !old || (!key && key_length) || (!expected && expected_length)) return BWTREE_NULL;
+    return bwtree_raw_delete_if(tree, seat, bwtree_slice_(key), key_length, bwtree_slice_(expected), expected_length, old);
+}
+
 /* Gives a key the value where it has the expected one. OK, DIFFERS with `old`, ABSENT, FULL; SPENT, CLOSED, NO_SEAT, BUSY, UNFINISHED, TOO_LONG. */
 static inline uint32_t bwtree_swap(const bwtree *tree, uint32_t seat, const void *key, size_t key_length, const void *expected,
                                    size_t expected_length, const void *value, size_t value_length, bwtree_bytes *old) {
     if (!tree || !old || (!key && key_length) || (!expected && expected_length) || (!value && value_length)) return BWTREE_NULL;
     return bwtree_raw_swap(tree, seat, bwtree_slice_(key), key_length, bwtree_slice_(expected), expected_length, bwtree_slice_(value), value_length,
                            old);
+}
+
+/* Adds a number, modulo 2^64, to the one that a key's value of eight bytes is, the highest byte first; a key without a value gets the number. OK, REPLACED
+ * with `old`, DIFFERS with `old`, FULL; SPENT, CLOSED, NO_SEAT, BUSY, UNFINISHED, TOO_LONG. */
+static inline uint32_t bwtree_add(const bwtree *tree, uint32_t seat, const void *key, size_t key_length, uint64_t number, bwtree_bytes *old) {
+    if (!tree || !old || (!key && key_length)) return BWTREE_NULL;
+    return bwtree_raw_add(tree, seat, bwtree_slice_(key), key_length, number, old);
 }
 
 /* Does what upkeep is due at the leaf of a key; no value changes. OK, FULL; SPENT, CLOSED, NO_SEAT, BUSY, UNFINISHED, TOO_LONG. */
@@ -238,6 +257,13 @@ static inline uint32_t bwtree_tidy(const bwtree *tree, uint32_t seat, const void
 static inline uint32_t bwtree_page(const bwtree *tree, uint32_t seat, const void *from, size_t from_length, bwtree_page_pairs *page) {
     if (!tree || !page || (!from && from_length)) return BWTREE_NULL;
     return bwtree_raw_page(tree, seat, bwtree_slice_(from), from_length, page);
+}
+
+/* The pairs of the leaf that has a key, up to that key, and in `next` the greatest key below that leaf, at which the next page backward goes on. A page may
+ * be empty and have more before it. OK with `page`; SPENT, CLOSED, NO_SEAT, BUSY, UNFINISHED, TOO_LONG. */
+static inline uint32_t bwtree_back(const bwtree *tree, uint32_t seat, const void *upto, size_t upto_length, bwtree_page_pairs *page) {
+    if (!tree || !page || (!upto && upto_length)) return BWTREE_NULL;
+    return bwtree_raw_back(tree, seat, bwtree_slice_(upto), upto_length, page);
 }
 
 /* Goes on with the seat's unfinished operation, for at most `budget` steps (0: for none, and SPENT). What that operation answers, with its value in
@@ -255,6 +281,8 @@ static inline uint32_t bwtree_is_idle(const bwtree *tree, uint32_t seat) {
 static inline uint32_t bwtree_free_room(const bwtree *tree, uint32_t seat, bwtree_room *room) {
     return tree && room ? bwtree_raw_room(tree, seat, room) : (uint32_t)BWTREE_NULL;
 }
+
+/* Walks in both directions, the neighbours of a key, and counts: bwtree_walks.h. Keys of numbers and texts in their order: bwtree_keys.h. */
 
 /* What a status means. */
 static inline const char *bwtree_text(uint32_t status) {

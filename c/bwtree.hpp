@@ -6,6 +6,7 @@
 #define BWTREE_HPP
 
 #include "bwtree.h"
+#include "bwtree_walks.h"
 #include <atomic>
 #include <cstdint>
 #include <cstring>
@@ -29,20 +30,61 @@ private:
     uint32_t status_;
 };
 
-// What a swap found. It is true where the value was the expected one, and is the new one now; else `found` is the value that the key has, if it has one.
+// What a swap or a deletion by value found. It is true where the value was the expected one, and is the new one or none now; else `found` is the value that
+// the key has, if it has one.
 struct swapped {
     bool done;
     std::optional<std::string> found;
     explicit operator bool() const noexcept { return done; }
 };
 
+// What an addition found. It is true where the number was added: to `old`, or to none where the key had no value. Else `found` is the key's value, which has
+// not eight bytes.
+struct added {
+    bool done;
+    std::optional<uint64_t> old;
+    std::optional<std::string> found;
+    explicit operator bool() const noexcept { return done; }
+};
+
+using pair = std::pair<std::string, std::string>;
+
+// The keys of a walk. Throws error(BWTREE_TOO_LONG) where a bound has more than 64 bytes.
+class range {
+public:
+    static range all() { return range(); }
+    static range from(std::string_view key) { return of(key, std::nullopt); }
+    static range below(std::string_view key) { return of({}, key); }
+    // The keys from one on, and below another one.
+    static range between(std::string_view from, std::string_view below) { return of(from, below); }
+    // The keys that begin with some bytes.
+    static range prefix(std::string_view bytes) {
+        range made;
+        if (uint32_t status = bwtree_prefix(bytes.data(), bytes.size(), &made.raw_)) throw error(status);
+        return made;
+    }
+
+private:
+    friend class seat;
+    range() = default;
+    static range of(std::string_view from, std::optional<std::string_view> below) {
+        range made;
+        const char *end = !below ? nullptr : below->empty() ? "" : below->data();
+        if (uint32_t status = bwtree_between(from.data(), from.size(), end, below ? below->size() : 0, &made.raw_)) throw error(status);
+        return made;
+    }
+    bwtree_range raw_ = {};
+};
+
 namespace detail {
 
-// The handle, which stays where it is; which of its seats are free, a bit each; and what the closed tree has handed over, until it is told.
+// The handle, which stays where it is; which of its seats are free, a bit each; how many keys it has; and what the closed tree has handed over, until it is
+// told.
 struct shared {
     ::bwtree handle = {};
     std::atomic<uint32_t> free{0};
     uint32_t all = 0;
+    bwtree_count count = {};
     std::vector<bwtree_pair> left;
     ~shared() { bwtree_close(&handle); }
 };
@@ -83,31 +125,49 @@ public:
     // The value of a key.
     std::optional<std::string> get(std::string_view key) {
         bwtree_bytes value;
-        return shown(bwtree_get(handle(), number_, key.data(), key.size(), &value), value, BWTREE_OK);
+        return shown(done(bwtree_get(handle(), number_, key.data(), key.size(), &value), value), value, BWTREE_OK);
     }
     // Gives a key a value where it has none: the value that it has, if it has one.
     std::optional<std::string> insert(std::string_view key, std::string_view value) {
         bwtree_bytes old;
-        return shown(bwtree_insert(handle(), number_, key.data(), key.size(), value.data(), value.size(), &old), old, BWTREE_EXISTS);
+        return shown(set(bwtree_insert(handle(), number_, key.data(), key.size(), value.data(), value.size(), &old), old), old, BWTREE_EXISTS);
     }
     // Gives a key a value: the one that it had before, if it had one.
     std::optional<std::string> upsert(std::string_view key, std::string_view value) {
         bwtree_bytes old;
-        return shown(bwtree_upsert(handle(), number_, key.data(), key.size(), value.data(), value.size(), &old), old, BWTREE_REPLACED);
+        return shown(set(bwtree_upsert(handle(), number_, key.data(), key.size(), value.data(), value.size(), &old), old), old, BWTREE_REPLACED);
+    }
+    // Gives a key a value where it has one: the value that it had. It makes several calls, and takes effect atomically in the last one.
+    std::optional<std::string> replace(std::string_view key, std::string_view value) {
+        bwtree_bytes old;
+        return shown(done(bwtree_replace(handle(), number_, key.data(), key.size(), value.data(), value.size(), &old), old), old, BWTREE_REPLACED);
     }
     // Makes a key absent: the value that it had.
     std::optional<std::string> erase(std::string_view key) {
         bwtree_bytes old;
-        return shown(bwtree_delete(handle(), number_, key.data(), key.size(), &old), old, BWTREE_OK);
+        return shown(deleted(bwtree_delete(handle(), number_, key.data(), key.size(), &old), old), old, BWTREE_OK);
+    }
+    // Makes a key absent where it has the expected value.
+    swapped erase_if(std::string_view key, std::string_view expected) {
+        bwtree_bytes old;
+        return found(deleted(bwtree_delete_if(handle(), number_, key.data(), key.size(), expected.data(), expected.size(), &old), old), old);
+    }
+    // Adds a number, modulo 2^64, to the one that a key's value of eight bytes is, the highest byte first; a key without a value gets the number.
+    added add(std::string_view key, uint64_t number) {
+        bwtree_bytes old;
+        uint64_t was = 0;
+        size_t at = 0;
+        uint32_t status = set(bwtree_add(handle(), number_, key.data(), key.size(), number, &old), old);
+        if (status == BWTREE_DIFFERS) return {false, std::nullopt, std::string(detail::text(old))};
+        if (status == BWTREE_REPLACED && bwtree_read_u64(&old, &at, &was)) return {true, was, std::nullopt};
+        return {true, std::nullopt, std::nullopt};
     }
     // Gives a key the value where it has the expected one.
     swapped swap(std::string_view key, std::string_view expected, std::string_view value) {
         bwtree_bytes old;
         uint32_t status =
             bwtree_swap(handle(), number_, key.data(), key.size(), expected.data(), expected.size(), value.data(), value.size(), &old);
-        status = done(status, old);
-        if (status == BWTREE_DIFFERS) return {false, std::string(detail::text(old))};
-        return {status == BWTREE_OK, std::nullopt};
+        return found(done(status, old), old);
     }
     // Does what upkeep is due at the leaf of a key.
     void tidy(std::string_view key) {
@@ -117,17 +177,20 @@ public:
 
     // Calls each(key, value) for the pairs from a key on, keys ascending, until it answers false. Other threads may change the tree meanwhile: what
     // is there throughout is shown, and what never is there isn't. Its arguments last as long as the call.
-    template <class Each> void walk(std::string_view from, Each each) {
-        auto page = std::make_unique<bwtree_page_pairs>();
-        std::string next(from);
-        bwtree_bytes old;
-        do {
-            done(bwtree_page(handle(), number_, next.data(), next.size(), page.get()), old, page.get());
-            for (uint64_t i = 0; i < page->count; i++)
-                if (!each(detail::text(page->pairs[i].key), detail::text(page->pairs[i].value))) return;
-            if (page->more) next = detail::text(page->next);
-        } while (page->more);
-    }
+    template <class Each> void walk(std::string_view from, Each each) { walk(range::from(from), std::move(each)); }
+    // The same for the keys of a range.
+    template <class Each> void walk(const range &keys, Each each) { walked(keys, 0, each); }
+    // The same backward, from the greatest key of a range down.
+    template <class Each> void walk_back(const range &keys, Each each) { walked(keys, 1, each); }
+
+    // The pair of the least key, of the greatest one, and of those next to a key: the greatest up to it and below it, the least from it on and above it.
+    // The answer is atomic if the first page that is read has a pair; otherwise it is a walk's.
+    std::optional<pair> first() { return near_by(bwtree_ceiling, {}); }
+    std::optional<pair> last() { return near_by(bwtree_floor, std::string(BWTREE_MAX_LENGTH, '\377')); }
+    std::optional<pair> floor(std::string_view key) { return near_by(bwtree_floor, key); }
+    std::optional<pair> lower(std::string_view key) { return near_by(bwtree_lower, key); }
+    std::optional<pair> ceiling(std::string_view key) { return near_by(bwtree_ceiling, key); }
+    std::optional<pair> higher(std::string_view key) { return near_by(bwtree_higher, key); }
 
     // How many pages and records are free.
     bwtree_room free_room() {
@@ -160,10 +223,40 @@ private:
         while (status == BWTREE_SPENT);
         return status;
     }
+    // What an operation that may set a key came to, and one that may delete it. It is counted.
+    uint32_t set(uint32_t status, bwtree_bytes &old) {
+        status = done(status, old);
+        bwtree_count_set(&shared_->count, number_, status);
+        return status;
+    }
+    uint32_t deleted(uint32_t status, bwtree_bytes &old) {
+        status = done(status, old);
+        bwtree_count_deleted(&shared_->count, number_, status);
+        return status;
+    }
     // The value that goes with one of the statuses.
-    std::optional<std::string> shown(uint32_t status, bwtree_bytes &old, uint32_t with_value) {
-        if (done(status, old) != with_value) return std::nullopt;
+    static std::optional<std::string> shown(uint32_t status, const bwtree_bytes &old, uint32_t with_value) {
+        if (status != with_value) return std::nullopt;
         return std::string(detail::text(old));
+    }
+    // What a call with an expected value found.
+    static swapped found(uint32_t status, const bwtree_bytes &old) { return {status == BWTREE_OK, shown(status, old, BWTREE_DIFFERS)}; }
+
+    template <class Each> void walked(const range &keys, int backward, Each &each) {
+        auto walk = std::make_unique<bwtree_walk>();
+        bwtree_pair next;
+        uint32_t status;
+        detail::must(bwtree_walk_begin(walk.get(), &keys.raw_, backward));
+        while ((status = bwtree_walk_next(handle(), number_, walk.get(), &next)) == BWTREE_OK)
+            if (!each(detail::text(next.key), detail::text(next.value))) return;
+        if (status != BWTREE_ABSENT) throw error(status);
+    }
+    std::optional<pair> near_by(uint32_t (*call)(const ::bwtree *, uint32_t, const void *, size_t, bwtree_pair *), std::string_view key) {
+        bwtree_pair near;
+        uint32_t status = call(handle(), number_, key.data(), key.size(), &near);
+        if (status == BWTREE_ABSENT) return std::nullopt;
+        detail::must(status);
+        return pair(detail::text(near.key), detail::text(near.value));
     }
 
     std::shared_ptr<detail::shared> shared_;
@@ -213,6 +306,11 @@ public:
         if (auto free = try_lease()) return std::move(*free);
         throw error(BWTREE_BUSY);
     }
+    // How many keys the tree has: exact when no call is under way; otherwise it may lack some calls that are.
+    uint64_t size() const {
+        if (!shared_) throw error(BWTREE_CLOSED);
+        return bwtree_counted(&shared_->count);
+    }
     // Closes the tree; throws error(BWTREE_BUSY) where a seat is lent, and error(BWTREE_CLOSED) where it is closed.
     void close() {
         all_seats all(shared_);
@@ -220,7 +318,7 @@ public:
     }
     // Closes the tree, and hands its pairs over, keys ascending. Throws as close() does; error(BWTREE_NO_MEMORY), which leaves it open; and std::bad_alloc,
     // from which on the pairs wait for the next such call.
-    std::vector<std::pair<std::string, std::string>> close_with_pairs() {
+    std::vector<pair> close_with_pairs() {
         all_seats all(shared_);
         std::vector<bwtree_pair> &left = all.shared->left;
         if (left.empty()) {
@@ -231,7 +329,7 @@ public:
             detail::must(status);
             left.swap(raw);
         }
-        std::vector<std::pair<std::string, std::string>> pairs;
+        std::vector<pair> pairs;
         pairs.reserve(left.size());
         for (const auto &[key, value] : left) pairs.emplace_back(detail::text(key), detail::text(value));
         std::vector<bwtree_pair>().swap(left);
@@ -241,6 +339,7 @@ public:
 private:
     tree(const bwtree_limits &limits, const std::vector<bwtree_pair> &pairs) : shared_(std::make_shared<detail::shared>()) {
         detail::must(bwtree_open_from(&limits, pairs.data(), pairs.size(), &shared_->handle));
+        bwtree_count_more(&shared_->count, 0, int64_t(pairs.size()));
         lend_all(limits);
     }
     // All seats of a tree, for who closes it.

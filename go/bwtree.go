@@ -10,7 +10,6 @@
 // cgo finds bwtree.h and libbwtree by pkg-config: PKG_CONFIG_PATH names the folder of bwtree.pc.
 package bwtree
 
-// #cgo pkg-config: bwtree
 // #include <stdlib.h>
 // #include "bwtree.h"
 import "C"
@@ -38,6 +37,7 @@ const (
 	BadLimits Error = C.BWTREE_BAD_LIMITS // a limit is outside its range
 	NoMemory  Error = C.BWTREE_NO_MEMORY  // malloc refused
 	BadOrder  Error = C.BWTREE_BAD_ORDER  // the keys of pairs don't ascend
+	Differs   Error = C.BWTREE_DIFFERS    // a value that a number was to be added to has not eight bytes
 )
 
 func (e Error) Error() string {
@@ -99,6 +99,14 @@ type Tree struct {
 	handle *C.bwtree
 	// the numbers of the seats that are free
 	free chan uint32
+	// how many more keys each seat has set than deleted
+	counts [C.BWTREE_MAX_SEATS]count
+}
+
+// A count has a cache line of its own.
+type count struct {
+	keys atomic.Int64
+	_    [56]byte
 }
 
 // given are bytes as C reads them.
@@ -150,7 +158,8 @@ func OpenFrom(limits Limits, pairs []Pair) (*Tree, error) {
 		C.free(unsafe.Pointer(handle))
 		return nil, err
 	}
-	tree := &Tree{handle, make(chan uint32, limits.Actors)}
+	tree := &Tree{handle: handle, free: make(chan uint32, limits.Actors)}
+	tree.counts[0].keys.Store(int64(len(all)))
 	for number := uint32(0); number < uint32(limits.Actors); number++ {
 		tree.free <- number
 	}
@@ -180,6 +189,18 @@ func (tree *Tree) withAllSeats(close func() error) error {
 	err := close()
 	runtime.KeepAlive(tree)
 	return err
+}
+
+// Len is how many keys the tree has: exact when no call is under way; otherwise it may lack some calls that are.
+func (tree *Tree) Len() int {
+	sum := int64(0)
+	for i := range tree.counts {
+		sum += tree.counts[i].keys.Load()
+	}
+	if sum < 0 {
+		return 0
+	}
+	return int(sum)
 }
 
 // Close closes the tree and frees it. It answers Busy where a seat is lent, and Closed where the tree is closed.
@@ -282,9 +303,18 @@ func (seat *Seat) done(status C.uint32_t, old *C.bwtree_bytes) (C.uint32_t, erro
 	return status, settled(status)
 }
 
-// shown is the value that goes with one of the statuses.
-func (seat *Seat) shown(status C.uint32_t, old *C.bwtree_bytes, withValue C.uint32_t) ([]byte, bool, error) {
+// counted is what an operation came to that changes the number of keys by this where it is OK.
+func (seat *Seat) counted(status C.uint32_t, old *C.bwtree_bytes, more int64) (C.uint32_t, error) {
 	status, err := seat.done(status, old)
+	if status == C.BWTREE_OK {
+		seat.tree.counts[seat.number].keys.Add(more)
+	}
+	return status, err
+}
+
+// shown is the value that goes with one of the statuses, of an operation that changes the number of keys by this where it is OK.
+func (seat *Seat) shown(status C.uint32_t, old *C.bwtree_bytes, more int64, withValue C.uint32_t) ([]byte, bool, error) {
+	status, err := seat.counted(status, old, more)
 	if err != nil || status != withValue {
 		return nil, false, err
 	}
@@ -296,7 +326,7 @@ func (seat *Seat) Get(key []byte) ([]byte, bool, error) {
 	var value C.bwtree_bytes
 	k := some(key)
 	status := C.bwtree_get(seat.tree.handle, C.uint32_t(seat.number), unsafe.Pointer(&k[0]), C.size_t(len(key)), &value)
-	return seat.shown(status, &value, C.BWTREE_OK)
+	return seat.shown(status, &value, 0, C.BWTREE_OK)
 }
 
 // Insert gives a key a value where it has none; else it answers the value that the key has, and true.
@@ -305,7 +335,7 @@ func (seat *Seat) Insert(key, value []byte) ([]byte, bool, error) {
 	k := some(key)
 	v := some(value)
 	status := C.bwtree_insert(seat.tree.handle, C.uint32_t(seat.number), unsafe.Pointer(&k[0]), C.size_t(len(key)), unsafe.Pointer(&v[0]), C.size_t(len(value)), &old)
-	return seat.shown(status, &old, C.BWTREE_EXISTS)
+	return seat.shown(status, &old, 1, C.BWTREE_EXISTS)
 }
 
 // Upsert gives a key a value. It answers the value that the key had before, and whether it had one.
@@ -314,7 +344,7 @@ func (seat *Seat) Upsert(key, value []byte) ([]byte, bool, error) {
 	k := some(key)
 	v := some(value)
 	status := C.bwtree_upsert(seat.tree.handle, C.uint32_t(seat.number), unsafe.Pointer(&k[0]), C.size_t(len(key)), unsafe.Pointer(&v[0]), C.size_t(len(value)), &old)
-	return seat.shown(status, &old, C.BWTREE_REPLACED)
+	return seat.shown(status, &old, 1, C.BWTREE_REPLACED)
 }
 
 // Delete makes a key absent. It answers the value that the key had, and whether it had one.
@@ -322,7 +352,7 @@ func (seat *Seat) Delete(key []byte) ([]byte, bool, error) {
 	var old C.bwtree_bytes
 	k := some(key)
 	status := C.bwtree_delete(seat.tree.handle, C.uint32_t(seat.number), unsafe.Pointer(&k[0]), C.size_t(len(key)), &old)
-	return seat.shown(status, &old, C.BWTREE_OK)
+	return seat.shown(status, &old, -1, C.BWTREE_OK)
 }
 
 // Swap gives a key the value where it has the expected one, and says whether it had; else found is the value that the key has, nil where it has none.
@@ -346,45 +376,6 @@ func (seat *Seat) Tidy(key []byte) error {
 	k := some(key)
 	_, err := seat.done(C.bwtree_tidy(seat.tree.handle, C.uint32_t(seat.number), unsafe.Pointer(&k[0]), C.size_t(len(key))), &old)
 	return err
-}
-
-// Page is the pairs of one leaf from a key on, keys ascending, and where the next page begins, if there is more. A page may be empty and have more after it.
-func (seat *Seat) Page(from []byte) (pairs []Pair, next []byte, more bool, err error) {
-	var page C.bwtree_page_pairs
-	var old C.bwtree_bytes
-	k := some(from)
-	status := C.bwtree_page(seat.tree.handle, C.uint32_t(seat.number), unsafe.Pointer(&k[0]), C.size_t(len(from)), &page)
-	for status == C.BWTREE_SPENT {
-		status = C.bwtree_resume(seat.tree.handle, C.uint32_t(seat.number), steps, &old, &page)
-	}
-	runtime.KeepAlive(seat)
-	if err := settled(status); err != nil {
-		return nil, nil, false, err
-	}
-	for i := range page.pairs[:page.count] {
-		pairs = append(pairs, Pair{taken(&page.pairs[i].key), taken(&page.pairs[i].value)})
-	}
-	if page.more != 0 {
-		next = taken(&page.next)
-	}
-	return pairs, next, page.more != 0, nil
-}
-
-// Walk calls each for the pairs from a key on, keys ascending, until it answers false. What is there throughout is shown, and what never is there isn't.
-func (seat *Seat) Walk(from []byte, each func(key, value []byte) bool) error {
-	for more := true; more; {
-		var pairs []Pair
-		var err error
-		if pairs, from, more, err = seat.Page(from); err != nil {
-			return err
-		}
-		for _, pair := range pairs {
-			if !each(pair.Key, pair.Value) {
-				return nil
-			}
-		}
-	}
-	return nil
 }
 
 // Room says how many pages and records are free.

@@ -9,7 +9,8 @@ The tree is linearizable (Herlihy and Wing), proved over all states of the tree:
 call that has returned precedes a call that begins afterwards, whatever threads and seats make the two. In a program's own proof, order between two
 seats comes from meeting or a note, because the language has no clock.
 
-The library is looked for where BWTREE_LIB says, a file or a folder, then where `./bwtree build` puts it, then where the system's loader looks.
+The library is looked for where BWTREE_LIB says, a file or a folder, then beside this file, where a wheel has it, then where `./bwtree build` puts it, then
+where the system's loader looks.
 """
 
 import contextlib
@@ -18,8 +19,10 @@ import functools
 import os
 import queue
 import weakref
-from collections.abc import ItemsView, Iterable, Iterator, MutableMapping, ValuesView
+from collections.abc import Iterable, Iterator
 from typing import Any, NamedTuple, NoReturn, Optional
+
+import bwtree_walks
 
 __all__ = ["Error", "Full", "Room", "Seat", "Swapped", "Tree", "MAX_LENGTH"]
 
@@ -42,6 +45,8 @@ _TEXTS = {
     _BAD_ORDER: "the keys don't ascend",
 }
 _STEPS = 1 << 16
+# how many more keys a tree has where an operation is OK
+_MORE = {"insert": 1, "upsert": 1, "add": 1, "delete": -1, "delete_if": -1}
 _NOTHING = object()
 
 
@@ -90,7 +95,9 @@ assert [ctypes.sizeof(it) for it in (_Tree, _Limits, _Room, _Bytes, _Pair, _Page
 
 def _load() -> ctypes.CDLL:
     """The library, with the declarations of bwtree.h."""
-    built = os.path.join(os.path.dirname(os.path.abspath(__file__)), "..", "c", "out", "libbwtree.so.0")
+    here = os.path.dirname(os.path.abspath(__file__))
+    beside, built = os.path.join(here, "libbwtree.so.0"), os.path.join(here, "..", "c", "out", "libbwtree.so.0")
+    built = beside if os.path.isfile(beside) else built
     place = os.environ.get("BWTREE_LIB", built if os.path.isfile(built) else "libbwtree.so.0")
     file = os.path.join(place, "libbwtree.so.0") if os.path.isdir(place) else place
     try:
@@ -114,9 +121,12 @@ def _load() -> ctypes.CDLL:
         "insert": [tree, seat, text, size, text, size, old],
         "upsert": [tree, seat, text, size, text, size, old],
         "delete": [tree, seat, text, size, old],
+        "delete_if": [tree, seat, text, size, text, size, old],
         "swap": [tree, seat, text, size, text, size, text, size, old],
+        "add": [tree, seat, text, size, count, old],
         "tidy": [tree, seat, text, size],
         "page": [tree, seat, text, size, page],
+        "back": [tree, seat, text, size, page],
         "resume": [tree, seat, ctypes.c_uint32, old, page],
         "room": [tree, seat, ctypes.POINTER(_Room)],
     }.items():
@@ -150,7 +160,8 @@ class Full(Error):
 
 
 class Swapped(NamedTuple):
-    """What a swap found: whether the value was the expected one, and is the new one now; else the value that the key has, if it has one."""
+    """What a swap or a deletion by value found: whether the value was the expected one, and is the new one or none now; else the value that the key has, if
+    it has one."""
 
     done: bool
     found: Optional[bytes] = None
@@ -198,12 +209,20 @@ class Tree:
         status = _library.bwtree_raw_open_from(ctypes.byref(limits), (_Pair * max(len(given), 1))(*given), len(given), ctypes.byref(self._handle))
         _must(_FULL if status == _SPENT else status)
         self._seats = seats
+        # how many more keys each seat has set than deleted
+        self._counts = [0] * seats
+        self._counts[0] = len(given)
         for number in reversed(range(seats)):
             self._free.put(number)
 
     def seat(self, timeout: Optional[float] = None) -> "Seat":
         """Leases a seat; waits for one where none is free, at most so many seconds, and then raises queue.Empty."""
         return Seat(self, timeout)
+
+    def count(self) -> int:
+        """How many keys the tree has, without a walk: exact when no call is under way; otherwise it may lack some calls that are. A call that a signal's
+        handler interrupts, as Ctrl-C does, may never be counted."""
+        return max(0, sum(self._counts))
 
     @contextlib.contextmanager
     def _all_seats(self) -> Iterator["ctypes._Pointer[_Tree]"]:
@@ -259,7 +278,7 @@ class Tree:
             _library.bwtree_raw_close(ctypes.byref(self._handle))
 
 
-class Seat(MutableMapping[bytes, bytes]):
+class Seat(bwtree_walks.Walks):
     """A seat of a tree, for one thread at a time. It goes back to its tree by `close`, at the end of a `with`, or when nothing refers to it."""
 
     _tree: Optional[Tree] = None
@@ -283,14 +302,17 @@ class Seat(MutableMapping[bytes, bytes]):
             raise Error(_CLOSED)
         return ctypes.pointer(self._tree._handle)
 
-    def _run(self, name: str, *texts: bytes) -> tuple[int, bytes]:
+    def _run(self, name: str, *texts: bytes, numbers: tuple[int, ...] = ()) -> tuple[int, bytes]:
         """The status of an operation, and the value that goes with it, if one does."""
         words: list[object] = []
         for text in map(_plain, texts):
             words += [text, len(text)]
         old = _Bytes()
         more = () if name == "tidy" else (ctypes.byref(old),)
-        return self._called(name, [*words, *more], old), old.taken()
+        status = self._called(name, [*words, *numbers, *more], old)
+        if status == _OK and name in _MORE and self._tree is not None:
+            self._tree._counts[self._number] += _MORE[name]
+        return status, old.taken()
 
     def _called(self, name: str, words: list[object], old: _Bytes, page: Optional[_Page] = None) -> int:
         """The status of an operation. It runs to its end, also where that is interrupted: none is left in the seat."""
@@ -304,10 +326,15 @@ class Seat(MutableMapping[bytes, bytes]):
             raise
         return _must(status)
 
-    def _page(self, start: bytes) -> tuple[list[tuple[bytes, bytes]], Optional[bytes]]:
-        """The pairs of a page, and the key from which the next one goes on, if there is more."""
-        start, page = _plain(start), _Page()
-        self._called("page", [start, len(start), ctypes.byref(page)], _Bytes(), page)
+    def _key(self, key: bytes) -> bytes:
+        key = _plain(key)
+        if len(key) > MAX_LENGTH:
+            raise ValueError(_TEXTS[_TOO_LONG])
+        return key
+
+    def _page(self, at: bytes, reverse: bool) -> tuple[list[tuple[bytes, bytes]], Optional[bytes]]:
+        page = _Page()
+        self._called("back" if reverse else "page", [at, len(at), ctypes.byref(page)], _Bytes(), page)
         pairs = [(pair.key.taken(), pair.value.taken()) for pair in page.pairs[: page.count]]
         return pairs, page.next.taken() if page.more else None
 
@@ -326,19 +353,6 @@ class Seat(MutableMapping[bytes, bytes]):
 
     def __contains__(self, key: object) -> bool:
         return isinstance(key, (bytes, bytearray, memoryview)) and self._run("get", _plain(key))[0] == _OK
-
-    def __iter__(self) -> Iterator[bytes]:
-        return (key for key, _ in self.pairs())
-
-    def __len__(self) -> int:
-        """How many keys a walk over all of them meets."""
-        return sum(1 for _ in self.pairs())
-
-    def items(self) -> ItemsView[bytes, bytes]:
-        return _Items(self)
-
-    def values(self) -> ValuesView[bytes]:
-        return _Values(self)
 
     # Each of these is one operation on a key, whatever other threads do: the mapping's own are two.
     def pop(self, key: bytes, default: Any = _NOTHING) -> Any:
@@ -377,6 +391,29 @@ class Seat(MutableMapping[bytes, bytes]):
         status, old = self._run("delete", key)
         return old if status == _OK else None
 
+    def delete_if(self, key: bytes, expected: bytes) -> Swapped:
+        """Makes a key absent where it has the expected value."""
+        status, old = self._run("delete_if", key, expected)
+        return Swapped(status == _OK, old if status == _DIFFERS else None)
+
+    def replace(self, key: bytes, value: bytes) -> Optional[bytes]:
+        """Gives a key a value where it has one: the value that it had. It makes several calls, and takes effect atomically in the last one."""
+        value, old = self._key(value), self.get(key)
+        while old is not None:
+            swapped = self.swap(key, old, value)
+            if swapped.done:
+                break
+            old = swapped.found
+        return old
+
+    def add(self, key: bytes, number: int) -> Optional[int]:
+        """Adds a number, modulo 2^64, to the one that a key's value of eight bytes is, the highest byte first: the number before. A key without a value gets
+        the number. Raises ValueError where the value has not eight bytes."""
+        status, old = self._run("add", key, numbers=(number % (1 << 64),))
+        if status == _DIFFERS:
+            raise ValueError("the key's value has not eight bytes")
+        return int.from_bytes(old, "big") if status == _REPLACED else None
+
     def swap(self, key: bytes, expected: bytes, value: bytes) -> Swapped:
         """Gives a key the value where it has the expected one."""
         status, old = self._run("swap", key, expected, value)
@@ -385,16 +422,6 @@ class Seat(MutableMapping[bytes, bytes]):
     def tidy(self, key: bytes) -> None:
         """Does what upkeep is due at the leaf of a key; no value changes."""
         self._run("tidy", key)
-
-    def pairs(self, start: bytes = b"", stop: Optional[bytes] = None) -> Iterator[tuple[bytes, bytes]]:
-        """The pairs from a key on, below another one, keys ascending. What is there throughout the walk is shown, and what never is there isn't."""
-        after: Optional[bytes] = _plain(start)
-        while after is not None:
-            found, after = self._page(after)
-            for key, value in found:
-                if stop is not None and key >= stop:
-                    return
-                yield key, value
 
     def room(self) -> Room:
         """How many pages and records are free."""
@@ -420,25 +447,3 @@ class Seat(MutableMapping[bytes, bytes]):
 def _give_back(seats: list[Seat]) -> None:
     for seat in seats:
         seat.close()
-
-
-class _Items(ItemsView[bytes, bytes]):
-    """Pairs as a walk shows them: no key is looked up again."""
-
-    def __init__(self, seat: Seat):
-        super().__init__(seat)
-        self._seat = seat
-
-    def __iter__(self) -> Iterator[tuple[bytes, bytes]]:
-        return self._seat.pairs()
-
-
-class _Values(ValuesView[bytes]):
-    """Values as a walk shows them."""
-
-    def __init__(self, seat: Seat):
-        super().__init__(seat)
-        self._seat = seat
-
-    def __iter__(self) -> Iterator[bytes]:
-        return (value for _, value in self._seat.pairs())

@@ -55,9 +55,12 @@ static void all_answer(const bwtree *tree, uint32_t seat, uint32_t status) {
     CHECK(bwtree_insert(tree, seat, "a", 1, "x", 1, &old) == status);
     CHECK(bwtree_upsert(tree, seat, "a", 1, "x", 1, &old) == status);
     CHECK(bwtree_delete(tree, seat, "a", 1, &old) == status);
+    CHECK(bwtree_delete_if(tree, seat, "a", 1, "x", 1, &old) == status);
     CHECK(bwtree_swap(tree, seat, "a", 1, "x", 1, "y", 1, &old) == status);
+    CHECK(bwtree_add(tree, seat, "a", 1, 1, &old) == status);
     CHECK(bwtree_tidy(tree, seat, "a", 1) == status);
     CHECK(bwtree_page(tree, seat, "", 0, &page) == status);
+    CHECK(bwtree_back(tree, seat, "", 0, &page) == status);
     CHECK(bwtree_resume(tree, seat, 1, &old, &page) == status);
     CHECK(bwtree_is_idle(tree, seat) == status);
     CHECK(bwtree_free_room(tree, seat, &room) == status);

@@ -109,6 +109,16 @@ extern "C" {
         old: *mut RawBytes,
     ) -> u32;
     pub(crate) fn bwtree_raw_delete(tree: *const RawTree, seat: u32, key: *const u8, key_length: usize, old: *mut RawBytes) -> u32;
+    pub(crate) fn bwtree_raw_delete_if(
+        tree: *const RawTree,
+        seat: u32,
+        key: *const u8,
+        key_length: usize,
+        expected: *const u8,
+        expected_length: usize,
+        old: *mut RawBytes,
+    ) -> u32;
+    pub(crate) fn bwtree_raw_add(tree: *const RawTree, seat: u32, key: *const u8, key_length: usize, number: u64, old: *mut RawBytes) -> u32;
     pub(crate) fn bwtree_raw_swap(
         tree: *const RawTree,
         seat: u32,
@@ -122,6 +132,7 @@ extern "C" {
     ) -> u32;
     pub(crate) fn bwtree_raw_tidy(tree: *const RawTree, seat: u32, key: *const u8, key_length: usize) -> u32;
     pub(crate) fn bwtree_raw_page(tree: *const RawTree, seat: u32, from: *const u8, from_length: usize, page: *mut RawPage) -> u32;
+    pub(crate) fn bwtree_raw_back(tree: *const RawTree, seat: u32, upto: *const u8, upto_length: usize, page: *mut RawPage) -> u32;
     pub(crate) fn bwtree_raw_resume(tree: *const RawTree, seat: u32, budget: u32, old: *mut RawBytes, page: *mut RawPage) -> u32;
     pub(crate) fn bwtree_raw_room(tree: *const RawTree, seat: u32, room: *mut RawRoom) -> u32;
 }

@@ -19,13 +19,17 @@
 //!
 //! A thread that calls needs 512 KB of stack, which Rust's own threads have.
 mod ffi;
+pub mod keys;
+mod walks;
 
+pub use walks::{Pair, Pairs};
+
+use bwtree_sys as _;
 use ffi::*;
 use std::cell::Cell;
 use std::fmt;
-use std::iter::FusedIterator;
 use std::marker::PhantomData;
-use std::sync::atomic::{AtomicU32, Ordering::SeqCst};
+use std::sync::atomic::{AtomicI64, AtomicU32, Ordering::Relaxed, Ordering::SeqCst};
 
 /// How many bytes a key or a value may have.
 pub const MAX_LENGTH: usize = 64;
@@ -77,6 +81,28 @@ pub enum Swap {
     Absent,
 }
 
+/// What a deletion by value came to.
+#[derive(Clone, Debug, PartialEq, Eq)]
+pub enum DeleteIf {
+    /// The key had the expected value, and has none.
+    Deleted,
+    /// The key has this value, and keeps it.
+    Differs(Vec<u8>),
+    /// The key has no value.
+    Absent,
+}
+
+/// What an addition came to.
+#[derive(Clone, Debug, PartialEq, Eq)]
+pub enum Add {
+    /// The key had no value, and has the number.
+    Set,
+    /// The key had this number, and has the sum.
+    Added(u64),
+    /// The key has this value, which has not eight bytes, and keeps it.
+    Differs(Vec<u8>),
+}
+
 /// How large a tree is.
 #[derive(Clone, Copy, Debug, PartialEq, Eq)]
 pub struct Limits {
@@ -119,10 +145,16 @@ pub struct Room {
     pub free_rows: u64,
 }
 
+/// How many more keys a seat has set than deleted, in a cache line of its own.
+#[derive(Default)]
+#[repr(align(64))]
+struct Count(AtomicI64);
+
 /// An ordered map from byte strings to byte strings. It is closed when it is dropped.
 pub struct Tree {
     handle: Box<RawTree>,
     free: AtomicU32,
+    counts: Box<[Count]>,
 }
 
 // The library's contract: all threads share a handle. What it points to, the library alone reads.
@@ -139,10 +171,12 @@ impl Tree {
     pub fn open_from<K: AsRef<[u8]>, V: AsRef<[u8]>>(limits: Limits, pairs: impl IntoIterator<Item = (K, V)>) -> Result<Tree> {
         let raw_pair = |(key, value): (K, V)| Some(RawPair { key: RawBytes::of(key.as_ref())?, value: RawBytes::of(value.as_ref())? });
         let pairs = pairs.into_iter().map(raw_pair).collect::<Option<Vec<_>>>().ok_or(Error::TooLong)?;
-        Tree::opened(limits, |raw, handle| match unsafe { bwtree_raw_open_from(raw, pairs.as_ptr(), pairs.len(), handle) } {
+        let tree = Tree::opened(limits, |raw, handle| match unsafe { bwtree_raw_open_from(raw, pairs.as_ptr(), pairs.len(), handle) } {
             SPENT => FULL,
             status => status,
-        })
+        })?;
+        tree.counts[0].0.store(pairs.len() as i64, Relaxed);
+        Ok(tree)
     }
 
     fn opened(limits: Limits, open: impl FnOnce(&RawLimits, &mut RawTree) -> u32) -> Result<Tree> {
@@ -150,7 +184,8 @@ impl Tree {
         let raw = RawLimits { actors, pids, rows, epoch: 1, large: u64::from(large) };
         let mut handle = Box::new(RawTree { held: 0, at: std::ptr::null() });
         settled(open(&raw, &mut handle))?;
-        Ok(Tree { handle, free: AtomicU32::new((1 << limits.actors) - 1) })
+        let counts = (0..limits.actors).map(|_| Count::default()).collect();
+        Ok(Tree { handle, free: AtomicU32::new((1 << limits.actors) - 1), counts })
     }
 
     /// An empty tree with so many seats, for so many different keys, all counted that it ever has.
@@ -175,11 +210,21 @@ impl Tree {
         }
         None
     }
+
+    /// How many keys the tree has: exact when no call is under way; otherwise it may lack some calls that are.
+    pub fn len(&self) -> usize {
+        self.counts.iter().map(|count| count.0.load(Relaxed)).sum::<i64>().max(0) as usize
+    }
+
+    /// Whether the tree has no keys, as [`Tree::len`] counts them.
+    pub fn is_empty(&self) -> bool {
+        self.len() == 0
+    }
 }
 
 impl Tree {
     /// Closes the tree, and hands its pairs over, keys ascending. Where memory is refused, the tree comes back as it was.
-    pub fn into_pairs(self) -> std::result::Result<Vec<(Vec<u8>, Vec<u8>)>, (Tree, Error)> {
+    pub fn into_pairs(self) -> std::result::Result<Vec<Pair>, (Tree, Error)> {
         let mut raw: Vec<RawPair> = Vec::new();
         let mut count = 0;
         // (all its seats were dropped, so no call is inside one, and none has left an operation)
@@ -236,7 +281,12 @@ fn settled(status: u32) -> Result<u32> {
     }
 }
 
-impl<'tree> Seat<'tree> {
+/// The value that goes with one of the statuses.
+fn shown(status: u32, old: &RawBytes, with_value: u32) -> Option<Vec<u8>> {
+    (status == with_value).then(|| old.as_slice().to_vec())
+}
+
+impl Seat<'_> {
     fn handle(&self) -> *const RawTree {
         &*self.tree.handle
     }
@@ -252,38 +302,80 @@ impl<'tree> Seat<'tree> {
         settled(status)
     }
 
-    /// The value that goes with one of the statuses.
-    fn shown(&mut self, status: u32, mut old: RawBytes, with_value: u32) -> Result<Option<Vec<u8>>> {
-        let status = self.done(status, &mut old)?;
-        Ok((status == with_value).then(|| old.as_slice().to_vec()))
+    /// What an operation came to that changes the number of keys by this where it is OK.
+    fn counted(&mut self, status: u32, old: &mut RawBytes, more: i64) -> Result<u32> {
+        let status = self.done(status, old)?;
+        if status == OK {
+            self.tree.counts[self.number as usize].0.fetch_add(more, Relaxed);
+        }
+        Ok(status)
     }
 
     /// The value of a key.
     pub fn get(&mut self, key: &[u8]) -> Result<Option<Vec<u8>>> {
         let mut value = RawBytes::EMPTY;
         let status = unsafe { bwtree_raw_get(self.handle(), self.number, key.as_ptr(), key.len(), &mut value) };
-        self.shown(status, value, OK)
+        Ok(shown(self.done(status, &mut value)?, &value, OK))
     }
 
     /// Gives a key a value where it has none: the value that it has, if it has one.
     pub fn insert(&mut self, key: &[u8], value: &[u8]) -> Result<Option<Vec<u8>>> {
         let mut old = RawBytes::EMPTY;
         let status = unsafe { bwtree_raw_insert(self.handle(), self.number, key.as_ptr(), key.len(), value.as_ptr(), value.len(), &mut old) };
-        self.shown(status, old, EXISTS)
+        Ok(shown(self.counted(status, &mut old, 1)?, &old, EXISTS))
     }
 
     /// Gives a key a value: the one that it had before, if it had one.
     pub fn upsert(&mut self, key: &[u8], value: &[u8]) -> Result<Option<Vec<u8>>> {
         let mut old = RawBytes::EMPTY;
         let status = unsafe { bwtree_raw_upsert(self.handle(), self.number, key.as_ptr(), key.len(), value.as_ptr(), value.len(), &mut old) };
-        self.shown(status, old, REPLACED)
+        Ok(shown(self.counted(status, &mut old, 1)?, &old, REPLACED))
+    }
+
+    /// Gives a key a value where it has one: the value that it had. It makes several calls, and takes effect atomically in the last one.
+    pub fn replace(&mut self, key: &[u8], value: &[u8]) -> Result<Option<Vec<u8>>> {
+        if value.len() > MAX_LENGTH {
+            return Err(Error::TooLong);
+        }
+        let mut old = self.get(key)?;
+        while let Some(expected) = old {
+            old = match self.swap(key, &expected, value)? {
+                Swap::Swapped => return Ok(Some(expected)),
+                Swap::Differs(found) => Some(found),
+                Swap::Absent => None,
+            }
+        }
+        Ok(None)
     }
 
     /// Makes a key absent: the value that it had.
     pub fn delete(&mut self, key: &[u8]) -> Result<Option<Vec<u8>>> {
         let mut old = RawBytes::EMPTY;
         let status = unsafe { bwtree_raw_delete(self.handle(), self.number, key.as_ptr(), key.len(), &mut old) };
-        self.shown(status, old, OK)
+        Ok(shown(self.counted(status, &mut old, -1)?, &old, OK))
+    }
+
+    /// Makes a key absent where it has the expected value.
+    pub fn delete_if(&mut self, key: &[u8], expected: &[u8]) -> Result<DeleteIf> {
+        let mut old = RawBytes::EMPTY;
+        let status =
+            unsafe { bwtree_raw_delete_if(self.handle(), self.number, key.as_ptr(), key.len(), expected.as_ptr(), expected.len(), &mut old) };
+        Ok(match self.counted(status, &mut old, -1)? {
+            OK => DeleteIf::Deleted,
+            DIFFERS => DeleteIf::Differs(old.as_slice().to_vec()),
+            _ => DeleteIf::Absent,
+        })
+    }
+
+    /// Adds a number, modulo 2^64, to the one that a key's value of eight bytes is, the highest byte first; a key without a value gets the number.
+    pub fn add(&mut self, key: &[u8], number: u64) -> Result<Add> {
+        let mut old = RawBytes::EMPTY;
+        let status = unsafe { bwtree_raw_add(self.handle(), self.number, key.as_ptr(), key.len(), number, &mut old) };
+        Ok(match (self.counted(status, &mut old, 1)?, old.as_slice().try_into()) {
+            (REPLACED, Ok(bytes)) => Add::Added(u64::from_be_bytes(bytes)),
+            (OK, _) => Add::Set,
+            _ => Add::Differs(old.as_slice().to_vec()),
+        })
     }
 
     /// Gives a key the value where it has the expected one.
@@ -316,17 +408,6 @@ impl<'tree> Seat<'tree> {
         self.done(status, &mut old).map(drop)
     }
 
-    /// The pairs from a key on, keys ascending. What is in the tree throughout the walk is shown, and what never is there isn't.
-    pub fn pairs_from(&mut self, from: &[u8]) -> Pairs<'_, 'tree> {
-        let mut page = Box::new(RawPage { more: 1, ..RawPage::EMPTY });
-        let is_long = from.len() > MAX_LENGTH;
-        if !is_long {
-            page.next.length = from.len() as u64;
-            page.next.bytes[..from.len()].copy_from_slice(from);
-        }
-        Pairs { seat: self, page, shown: 0, is_long }
-    }
-
     /// How many pages and records are free.
     pub fn room(&mut self) -> Room {
         let mut room = RawRoom { free_pids: 0, free_rows: 0 };
@@ -335,49 +416,3 @@ impl<'tree> Seat<'tree> {
         Room { free_pids: room.free_pids, free_rows: room.free_rows }
     }
 }
-
-/// An iterator over the pairs of a tree.
-pub struct Pairs<'seat, 'tree> {
-    seat: &'seat mut Seat<'tree>,
-    page: Box<RawPage>,
-    shown: u64,
-    is_long: bool,
-}
-
-impl Pairs<'_, '_> {
-    /// Fills the page with the next pairs.
-    fn turn(&mut self) -> Result<()> {
-        let (seat, from, mut old) = (&mut *self.seat, self.page.next, RawBytes::EMPTY);
-        let mut status = unsafe { bwtree_raw_page(seat.handle(), seat.number, from.bytes.as_ptr(), from.length as usize, &mut *self.page) };
-        while status == SPENT {
-            status = unsafe { bwtree_raw_resume(seat.handle(), seat.number, STEPS, &mut old, &mut *self.page) };
-        }
-        self.shown = 0;
-        settled(status).map(drop)
-    }
-}
-
-impl Iterator for Pairs<'_, '_> {
-    type Item = Result<(Vec<u8>, Vec<u8>)>;
-
-    fn next(&mut self) -> Option<Self::Item> {
-        if std::mem::take(&mut self.is_long) {
-            self.page.more = 0;
-            return Some(Err(Error::TooLong));
-        }
-        while self.shown == self.page.count {
-            if self.page.more == 0 {
-                return None;
-            }
-            if let Err(error) = self.turn() {
-                (self.page.count, self.page.more, self.shown) = (0, 0, 0);
-                return Some(Err(error));
-            }
-        }
-        let pair = &self.page.pairs[self.shown as usize];
-        self.shown += 1;
-        Some(Ok((pair.key.as_slice().to_vec(), pair.value.as_slice().to_vec())))
-    }
-}
-
-impl FusedIterator for Pairs<'_, '_> {}

@@ -12,7 +12,7 @@ use Rattle.bw_tree_c.specs.declared.shared.Shared.{Shared}
 abbrev pub ComesToValue : Option Shared → ℕ → Command → ℕ → Bytes → Bytes → Type 0
 ComesToValue kept number command status old new = OnSeat kept number status (new ≡ old) (λ before after. IsRunToValue before command status old new after)
 
--- one whose reply is a page
+-- one whose reply is a page of either direction
 abbrev pub ComesToPage : Option Shared → ℕ → Command → ℕ → Page → Page → Type 0
 ComesToPage kept number command status old new = OnSeat kept number status (new ≡ old) (λ before after. IsRunToPage before command status old new after)
 

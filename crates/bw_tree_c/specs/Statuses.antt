@@ -21,6 +21,7 @@ status_of reply.Absent = ABSENT
 status_of reply.Swapped = OK
 status_of (reply.Differs value) = DIFFERS
 status_of (reply.Page items next) = OK
+status_of (reply.BackPage items next) = OK
 status_of reply.Tidied = OK
 status_of reply.Full = FULL
 

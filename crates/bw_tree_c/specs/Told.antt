@@ -21,10 +21,11 @@ reply_value reply.Absent = None
 reply_value reply.Swapped = None
 reply_value (reply.Differs value) = Some value
 reply_value (reply.Page items next) = None
+reply_value (reply.BackPage items next) = None
 reply_value reply.Tidied = None
 reply_value reply.Full = None
 
--- the pairs and the next key that a reply has, if it is a page
+-- the pairs and the next key that a reply has, if it is a page of either direction
 abbrev pub reply_page : Reply → Option (List (List ℕ × List ℕ) × Option (List ℕ))
 reply_page (reply.Value value) = None
 reply_page reply.None = None
@@ -37,6 +38,7 @@ reply_page reply.Absent = None
 reply_page reply.Swapped = None
 reply_page (reply.Differs value) = None
 reply_page (reply.Page items next) = Some (items, next)
+reply_page (reply.BackPage items next) = Some (items, next)
 reply_page reply.Tidied = None
 reply_page reply.Full = None
 
@@ -58,6 +60,9 @@ abbrev pub ShowsMaybePage : Option (List (List ℕ × List ℕ) × Option (List 
 ShowsMaybePage None old new = new ≡ old
 ShowsMaybePage (Some page) old new = ShowsWholePage page.0 page.1 new
 
+abbrev pub TellsPage : Reply → Page → Page → Type 0
+TellsPage given old new = ShowsMaybePage (reply_page given) old new
+
 abbrev pub ShowsPageOf : Called → Page → Page → Type 0
-ShowsPageOf (Done given) old new = ShowsMaybePage (reply_page given) old new
+ShowsPageOf (Done given) old new = TellsPage given old new
 ShowsPageOf Spent old new = new ≡ old

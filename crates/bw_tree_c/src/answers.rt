@@ -1,7 +1,7 @@
 //! Replies as C reads them: a status, and the value that goes with it.
 ghost use Rattle.std.specs.Prelude.{◌≡◌};
 ghost use Rattle.running_tree.specs.Calls.{called_if};
-ghost use Rattle.bw_tree_c.specs.Told.{TellsValue, ShowsPageOf, ShowsValueOf};
+ghost use Rattle.bw_tree_c.specs.Told.{TellsPage, TellsValue, ShowsPageOf, ShowsValueOf};
 ghost use Rattle.bw_tree_c.specs.Statuses.{status_of, status_of_called};
 
 use crate::bytes::{Bytes, Page};
@@ -19,7 +19,7 @@ pub(crate) const EXISTS: u32 = 2;
 /// The key had another value before.
 pub(crate) const REPLACED: u32 = 3;
 
-/// The key has a value that isn't the expected one, and keeps it.
+/// The key has a value that isn't the expected one, or no number, and keeps it.
 pub(crate) const DIFFERS: u32 = 4;
 
 /// Nothing was free for a change, and no key was changed.
@@ -77,6 +77,7 @@ fn status_of(reply: &Reply) -> u32
         Reply::Swapped => OK,
         Reply::Differs(_) => DIFFERS,
         Reply::Page { items: _, next: _ } => OK,
+        Reply::BackPage { items: _, next: _ } => OK,
         Reply::Tidied => OK,
         Reply::Full => FULL,
     }
@@ -103,6 +104,17 @@ fn show_value(reply: &Reply, old: &mut Bytes)
     }
 }
 
+/// Shows the pairs of a reply, if it is a page of either direction.
+fn show_page(reply: &Reply, page: &mut Page)
+    ensures { TellsPage reply.now page.old page.new }
+{
+    match reply {
+        Reply::Page { items, next } => page.set(items, next),
+        Reply::BackPage { items, next } => page.set(items, next),
+        _ => {}
+    }
+}
+
 /// Tells what became of a call whose reply has a value, or none.
 pub(crate) fn tell_value(done: bool, reply: &Reply, old: &mut Bytes) -> u32
     ensures status { result ≡ status_of_called (called_if done reply.now) }
@@ -114,13 +126,13 @@ pub(crate) fn tell_value(done: bool, reply: &Reply, old: &mut Bytes) -> u32
     status_of_called(done, reply)
 }
 
-/// Tells what became of a call whose reply is a page.
+/// Tells what became of a call whose reply is a page of either direction.
 pub(crate) fn tell_page(done: bool, reply: &Reply, page: &mut Page) -> u32
     ensures status { result ≡ status_of_called (called_if done reply.now) }
     ensures told { ShowsPageOf (called_if done reply.now) page.old page.new }
 {
-    if done && let Reply::Page { items, next } = reply {
-        page.set(items, next);
+    if done {
+        show_page(reply, page);
     }
     status_of_called(done, reply)
 }

@@ -21,7 +21,7 @@ pub struct Pair {
     pub(crate) value: Bytes,
 }
 
-/// The pairs of a page, and the key from which the next page goes on, if there is more.
+/// The pairs of a page of either direction, and the key from which the next page goes on, if there is more.
 #[repr(C)]
 #[derive(Drop)]
 pub struct Page {

@@ -103,6 +103,24 @@ pub extern "C" fn bwtree_raw_delete(
     tree.run(seat, Command::Delete(key), old)
 }
 
+/// Makes a key absent where it has the expected value.
+#[unsafe(no_mangle)]
+pub extern "C" fn bwtree_raw_delete_if(
+    tree: &TreeHandle,
+    seat: u32,
+    key: &[u8],
+    expected: &[u8],
+    old: &mut Bytes,
+) -> u32
+    ensures long { (MAX_LENGTH < length key.now) ⊎ (MAX_LENGTH < length expected.now) → (result ≡ TOO_LONG) × (old.new ≡ old.old) }
+    ensures called { length key.now ≤ MAX_LENGTH → length expected.now ≤ MAX_LENGTH → ComesToValue tree.now.kept.value seat (command.DeleteIf key.now expected.now) result old.old old.new }
+{
+    let (Ok(key), Ok(expected)) = (Key::from_slice(key), Value::from_slice(expected)) else {
+        return TOO_LONG;
+    };
+    tree.run(seat, Command::DeleteIf(key, expected), old)
+}
+
 /// Gives a key the new value where it has the expected one.
 #[unsafe(no_mangle)]
 pub extern "C" fn bwtree_raw_swap(
@@ -124,6 +142,24 @@ pub extern "C" fn bwtree_raw_swap(
         return TOO_LONG;
     };
     tree.run(seat, Command::Swap(key, expected, value), old)
+}
+
+/// Adds a number, modulo 2^64, to the one that a key's value of eight bytes spells; an absent key is given the number.
+#[unsafe(no_mangle)]
+pub extern "C" fn bwtree_raw_add(
+    tree: &TreeHandle,
+    seat: u32,
+    key: &[u8],
+    number: u64,
+    old: &mut Bytes,
+) -> u32
+    ensures long { MAX_LENGTH < length key.now → (result ≡ TOO_LONG) × (old.new ≡ old.old) }
+    ensures called { length key.now ≤ MAX_LENGTH → ComesToValue tree.now.kept.value seat (command.Add key.now number) result old.old old.new }
+{
+    let Ok(key) = Key::from_slice(key) else {
+        return TOO_LONG;
+    };
+    tree.run(seat, Command::Add(key, number), old)
 }
 
 /// Does what upkeep is due at the leaf that has the key.

@@ -39,18 +39,12 @@ impl Place {
         }
     }
 
-    /// Asks for a page, if the seat is idle.
-    pub(crate) fn page(&mut self, from: Key, page: &mut Page) -> u32
+    /// Runs a command whose reply is a page, if the seat is idle.
+    pub(crate) fn page(&mut self, paging: Command, page: &mut Page) -> u32
         ensures later { IsLater self.old.seat self.new.seat }
-        ensures run { IsRunToPage self.old.seat (command.Page from) result page.old page.new self.new.seat }
+        ensures run { IsRunToPage self.old.seat paging result page.old page.new self.new.seat }
     {
-        match called_in(
-            &self.tree,
-            &mut self.seat,
-            Command::Page(from),
-            BUDGET,
-            &mut self.reply,
-        ) {
+        match called_in(&self.tree, &mut self.seat, paging, BUDGET, &mut self.reply) {
             Some(done) => tell_page(done, &self.reply, page),
             None => UNFINISHED,
         }

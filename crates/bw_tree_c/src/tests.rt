@@ -8,8 +8,8 @@ use crate::answers::{
 use crate::asking::{bwtree_raw_is_idle, bwtree_raw_room};
 use crate::bytes::{Bytes, FreeRoom, Page, Pair, TreeLimits};
 use crate::calls::{
-    bwtree_raw_delete, bwtree_raw_get, bwtree_raw_insert, bwtree_raw_swap, bwtree_raw_tidy,
-    bwtree_raw_upsert,
+    bwtree_raw_add, bwtree_raw_delete, bwtree_raw_delete_if, bwtree_raw_get, bwtree_raw_insert,
+    bwtree_raw_swap, bwtree_raw_tidy, bwtree_raw_upsert,
 };
 use crate::closing::bwtree_raw_close;
 use crate::handing::bwtree_raw_close_pairs;
@@ -18,7 +18,7 @@ use crate::loading::bwtree_raw_open_from;
 use crate::opening::{
     bwtree_raw_limits_for_keys, bwtree_raw_limits_for_many_keys, bwtree_raw_open, bwtree_raw_vacate,
 };
-use crate::pages::{bwtree_raw_page, bwtree_raw_resume};
+use crate::pages::{bwtree_raw_back, bwtree_raw_page, bwtree_raw_resume};
 use crate::place::Place;
 use crate::slot::give;
 use bw_model::{Command, Key};
@@ -176,6 +176,101 @@ fn calls_are_told(rt: HostRuntime) {
     assert!(rt; told_of_calls(&two_seats(rt.alloc())) == wanted);
 }
 
+/// What deletions by value answer.
+fn told_of_deletions(tree: &TreeHandle) -> [u32; 7] {
+    let mut old = no_bytes();
+    [
+        bwtree_raw_delete_if(tree, 0, b"a", b"x", &mut old),
+        bwtree_raw_insert(tree, 0, b"a", b"x", &mut old),
+        bwtree_raw_delete_if(tree, 1, b"a", b"y", &mut old),
+        bwtree_raw_delete_if(tree, 1, b"a", b"x", &mut old),
+        bwtree_raw_get(tree, 0, b"a", &mut old),
+        bwtree_raw_delete_if(tree, 2, b"a", b"x", &mut old),
+        bwtree_raw_delete_if(tree, 0, b"a", &[0; 65], &mut old),
+    ]
+}
+
+#[test]
+fn values_are_deleted(rt: HostRuntime) {
+    let wanted = [ABSENT, OK, DIFFERS, OK, ABSENT, NO_SEAT, TOO_LONG];
+    assert!(rt; told_of_deletions(&two_seats(rt.alloc())) == wanted);
+}
+
+/// What additions answer, and the sum.
+fn told_of_additions(tree: &TreeHandle) -> ([u32; 7], Bytes) {
+    let mut old = no_bytes();
+    let mut sum = no_bytes();
+    let told = [
+        bwtree_raw_add(tree, 0, b"a", 254, &mut old),
+        bwtree_raw_add(tree, 1, b"a", 3, &mut old),
+        bwtree_raw_insert(tree, 0, b"b", b"x", &mut old),
+        bwtree_raw_add(tree, 0, b"b", 1, &mut old),
+        bwtree_raw_get(tree, 0, b"a", &mut sum),
+        bwtree_raw_add(tree, 2, b"a", 1, &mut old),
+        bwtree_raw_add(tree, 0, &[0; 65], 1, &mut old),
+    ];
+    (told, sum)
+}
+
+#[test]
+fn numbers_are_added(rt: HostRuntime) {
+    let (told, sum) = told_of_additions(&two_seats(rt.alloc()));
+    assert!(rt; told == [OK, REPLACED, OK, DIFFERS, OK, NO_SEAT, TOO_LONG]);
+    assert!(rt; sum.length == 8 && sum.bytes.starts_with(&[0, 0, 0, 0, 0, 0, 1, 1]));
+}
+
+/// Whether a page backward shows the lower two of three pairs, and that it is the last one.
+fn shows_two_pairs(tree: &TreeHandle) -> bool {
+    let mut old = no_bytes();
+    let mut page = no_page();
+    let told = [
+        bwtree_raw_upsert(tree, 0, b"c", b"z", &mut old),
+        bwtree_raw_upsert(tree, 0, b"a", b"x", &mut old),
+        bwtree_raw_upsert(tree, 0, b"b", b"y", &mut old),
+        bwtree_raw_back(tree, 1, b"b", &mut page),
+        bwtree_raw_back(tree, 2, b"b", &mut page),
+        bwtree_raw_back(tree, 1, &[0; 65], &mut page),
+    ];
+    told == [OK, OK, OK, OK, NO_SEAT, TOO_LONG]
+        && page.count == 2
+        && page.more == 0
+        && page.pairs[0].key.bytes[0] == b'a'
+        && page.pairs[1].key.bytes[0] == b'b'
+        && page.pairs[1].value.bytes[0] == b'y'
+}
+
+#[test]
+fn pages_backward_are_shown(rt: HostRuntime) {
+    assert!(rt; shows_two_pairs(&two_seats(rt.alloc())));
+}
+
+/// Whether a page backward that is begun with one step is shown where it is resumed.
+fn resumes_a_page(tree: &TreeHandle) -> Option<bool> {
+    let mut old = no_bytes();
+    let mut page = no_page();
+    let set = bwtree_raw_upsert(tree, 1, b"", b"x", &mut old);
+    let (slot, mut place) = tree.take(0).ok()?;
+    let is_begun = begins(&mut place, Command::Back(Key::default()));
+    give(slot, place);
+    let told = bwtree_raw_resume(tree, 0, 65536, &mut old, &mut page);
+    Some(
+        is_begun
+            && set == OK
+            && told == OK
+            && old.length == 0
+            && page.count == 1
+            && page.more == 0
+            && page.pairs[0].value.bytes[0] == b'x',
+    )
+}
+
+#[test]
+fn pages_backward_are_resumed(rt: HostRuntime) -> Result<(), Fail> {
+    let tree = two_seats(rt.alloc());
+    assert!(rt; resumes_a_page(&tree).ok_or("no seat")?);
+    Ok(())
+}
+
 /// Whether a page shows the one pair of a tree, and some room is free.
 fn shows_one_pair(tree: &TreeHandle) -> bool {
     let mut old = no_bytes();
@@ -289,17 +384,11 @@ fn pairs_that_wait_are_dropped(rt: HostRuntime) {
     assert!(rt; told == [OK, NO_ROOM, OK, CLOSED, OK]);
 }
 
-/// Begins a lookup on an idle seat, with a budget of one step.
-fn begins(place: &mut Place) -> bool
+/// Begins a command on an idle seat, with a budget of one step.
+fn begins(place: &mut Place, command: Command) -> bool
     ensures { IsLater place.old.seat place.new.seat }
 {
-    called(
-        &place.tree,
-        &mut place.seat,
-        Command::Get(Key::default()),
-        1,
-    )
-    .is_some()
+    called(&place.tree, &mut place.seat, command, 1).is_some()
 }
 
 /// What calls answer while another call is inside seat 0, and after that.
@@ -315,7 +404,7 @@ fn told_of_seats(alloc: Global, tree: &TreeHandle) -> Option<[u32; 13]> {
         bwtree_raw_close_pairs(alloc, tree, &mut [], &mut count),
         bwtree_raw_is_idle(tree, 1),
     ];
-    let is_begun = begins(&mut place);
+    let is_begun = begins(&mut place, Command::Get(Key::default()));
     give(slot, place);
     if !is_begun {
         return None;

@@ -1,0 +1,4 @@
+package bwtree
+
+// #cgo pkg-config: bwtree
+import "C"

@@ -1,0 +1,166 @@
+package bwtree
+
+// #include "bwtree.h"
+import "C"
+
+import (
+	"bytes"
+	"runtime"
+	"unsafe"
+)
+
+// turned is a page that a call has begun to fill.
+func (seat *Seat) turned(status C.uint32_t, page *C.bwtree_page_pairs) (pairs []Pair, next []byte, more bool, err error) {
+	var old C.bwtree_bytes
+	for status == C.BWTREE_SPENT {
+		status = C.bwtree_resume(seat.tree.handle, C.uint32_t(seat.number), steps, &old, page)
+	}
+	runtime.KeepAlive(seat)
+	if err := settled(status); err != nil {
+		return nil, nil, false, err
+	}
+	for i := range page.pairs[:page.count] {
+		pairs = append(pairs, Pair{taken(&page.pairs[i].key), taken(&page.pairs[i].value)})
+	}
+	if page.more != 0 {
+		next = taken(&page.next)
+	}
+	return pairs, next, page.more != 0, nil
+}
+
+// Page is the pairs of one leaf from a key on, keys ascending, and where the next page begins, if there is more. A page may be empty and have more after it.
+func (seat *Seat) Page(from []byte) (pairs []Pair, next []byte, more bool, err error) {
+	var page C.bwtree_page_pairs
+	k := some(from)
+	return seat.turned(C.bwtree_page(seat.tree.handle, C.uint32_t(seat.number), unsafe.Pointer(&k[0]), C.size_t(len(from)), &page), &page)
+}
+
+// Back is the pairs of the leaf that has a key, up to that key, keys ascending, and the key at which the next page backward goes on, if there is more.
+func (seat *Seat) Back(upto []byte) (pairs []Pair, next []byte, more bool, err error) {
+	var page C.bwtree_page_pairs
+	k := some(upto)
+	return seat.turned(C.bwtree_back(seat.tree.handle, C.uint32_t(seat.number), unsafe.Pointer(&k[0]), C.size_t(len(upto)), &page), &page)
+}
+
+// A Range is the keys of a walk: from one on, and below another one. Below is nil where there is no bound.
+type Range struct {
+	From, Below []byte
+}
+
+// Prefix is the range of the keys that begin with these bytes.
+func Prefix(prefix []byte) Range {
+	return Range{prefix, KeyBehind(prefix)}
+}
+
+// greatest is the greatest key.
+var greatest = bytes.Repeat([]byte{255}, MaxLength)
+
+// Walk calls each for the pairs from a key on, keys ascending, until it answers false. What is there throughout is shown, and what never is there isn't.
+func (seat *Seat) Walk(from []byte, each func(key, value []byte) bool) error {
+	return seat.WalkRange(Range{From: from}, each)
+}
+
+// WalkRange is Walk for the keys of a range. Where a bound has more than 64 bytes it answers TooLong.
+func (seat *Seat) WalkRange(keys Range, each func(key, value []byte) bool) error {
+	if len(keys.Below) > MaxLength {
+		return TooLong
+	}
+	from := keys.From
+	for more := true; more; {
+		var pairs []Pair
+		var err error
+		if pairs, from, more, err = seat.Page(from); err != nil {
+			return err
+		}
+		for _, pair := range pairs {
+			if keys.Below != nil && bytes.Compare(pair.Key, keys.Below) >= 0 || !each(pair.Key, pair.Value) {
+				return nil
+			}
+		}
+	}
+	return nil
+}
+
+// WalkBack is WalkRange from the greatest key of a range down.
+func (seat *Seat) WalkBack(keys Range, each func(key, value []byte) bool) error {
+	if len(keys.From) > MaxLength || len(keys.Below) > MaxLength {
+		return TooLong
+	}
+	upto, more := greatest, true
+	if keys.Below != nil {
+		upto, more = KeyBefore(keys.Below)
+	}
+	for more {
+		var pairs []Pair
+		var err error
+		if pairs, upto, more, err = seat.Back(upto); err != nil {
+			return err
+		}
+		for i := len(pairs) - 1; i >= 0; i-- {
+			if bytes.Compare(pairs[i].Key, keys.From) < 0 || !each(pairs[i].Key, pairs[i].Value) {
+				return nil
+			}
+		}
+	}
+	return nil
+}
+
+// nearest is the first pair of pages from a key on, or of pages backward up to it.
+func nearest(page func([]byte) ([]Pair, []byte, bool, error), at []byte, isBack bool) (pair Pair, found bool, err error) {
+	for more := true; more; {
+		var pairs []Pair
+		if pairs, at, more, err = page(at); err != nil {
+			return Pair{}, false, err
+		}
+		if len(pairs) > 0 && isBack {
+			return pairs[len(pairs)-1], true, nil
+		}
+		if len(pairs) > 0 {
+			return pairs[0], true, nil
+		}
+	}
+	return Pair{}, false, nil
+}
+
+// First is the pair of the least key, and whether there is one. As with the functions below, the answer is atomic if the first page that is read has a pair;
+// otherwise it is a walk's.
+func (seat *Seat) First() (Pair, bool, error) {
+	return nearest(seat.Page, nil, false)
+}
+
+// Last is the pair of the greatest key.
+func (seat *Seat) Last() (Pair, bool, error) {
+	return nearest(seat.Back, greatest, true)
+}
+
+// Ceiling is the pair of the least key that isn't below this one.
+func (seat *Seat) Ceiling(key []byte) (Pair, bool, error) {
+	return nearest(seat.Page, key, false)
+}
+
+// Floor is the pair of the greatest key that isn't above this one.
+func (seat *Seat) Floor(key []byte) (Pair, bool, error) {
+	return nearest(seat.Back, key, true)
+}
+
+// Higher is the pair of the least key above this one.
+func (seat *Seat) Higher(key []byte) (Pair, bool, error) {
+	if len(key) > MaxLength {
+		return Pair{}, false, TooLong
+	}
+	if after := KeyAfter(key); after != nil {
+		return seat.Ceiling(after)
+	}
+	return Pair{}, false, nil
+}
+
+// Lower is the pair of the greatest key below this one.
+func (seat *Seat) Lower(key []byte) (Pair, bool, error) {
+	if len(key) > MaxLength {
+		return Pair{}, false, TooLong
+	}
+	if before, there := KeyBefore(key); there {
+		return seat.Floor(before)
+	}
+	return Pair{}, false, nil
+}
