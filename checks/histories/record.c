@@ -4,14 +4,14 @@
  *     cc -O2 -o record -I FOLDER_OF_BWTREE_H record.c libbwtree.a -lpthread && ./record threads=6 mix=writes seed=3 >history
  *
  * Each word sets one of `settings` or the mix; README.md says what they mean. The times come from one counter that all threads advance: where a call's end
- * is below another one's start, it had ended before that one began. No two values are equal, so that a reply names the call that wrote the value. */
+ * is below another one's start, it had ended before that one began. No two values are equal, so that a reply names the call that wrote the value;
+ * of sums, which are of drawn numbers, hardly any two. */
 #define _GNU_SOURCE
-#include "bwtree.h"
+#include "lines.h"
 #include <errno.h>
 #include <pthread.h>
 #include <sched.h>
 #include <signal.h>
-#include <stdarg.h>
 #include <stdatomic.h>
 #include <stdio.h>
 #include <stdlib.h>
@@ -19,12 +19,11 @@
 #include <time.h>
 #include <unistd.h>
 
-#define CHECK(x) do { if (!(x)) { fprintf(stderr, "%s:%d: %s\n", __FILE__, __LINE__, #x); exit(2); } } while (0)
 #define STACK (512 * 1024)
 #define MOST_THREADS 32
 
-enum operation { GET, INSERT, UPSERT, DELETE, PAGE, SWAP, TIDY, OPERATIONS };
-static const char *const NAMES[OPERATIONS] = {"get", "insert", "upsert", "delete", "page", "swap", "tidy"};
+enum operation { GET, INSERT, UPSERT, DELETE, DELETE_IF, PAGE, BACK, SWAP, ADD, TIDY, OPERATIONS };
+static const char *const NAMES[OPERATIONS] = {"get", "insert", "upsert", "delete", "delete_if", "page", "back", "swap", "add", "tidy"};
 
 /* How many of a hundred calls are of each operation, and what else is special about a mix. */
 enum special { PLAIN, HOT, WAVES, WALKS, WINDOW };
@@ -34,10 +33,11 @@ struct mix {
     enum special special;
 };
 static const struct mix MIXES[] = {
-    {"even", {20, 12, 21, 23, 8, 12, 4}, PLAIN},    {"writes", {5, 18, 35, 26, 4, 9, 3}, PLAIN},    {"inserts", {10, 55, 13, 8, 6, 5, 3}, PLAIN},
-    {"reads", {45, 5, 10, 10, 22, 6, 2}, PLAIN},    {"pages", {10, 14, 18, 18, 30, 8, 2}, PLAIN},   {"swaps", {25, 10, 7, 8, 8, 40, 2}, PLAIN},
-    {"hot", {5, 18, 35, 26, 4, 9, 3}, HOT},         {"waves", {25, 10, 7, 8, 8, 40, 2}, WAVES},     {"walks", {25, 10, 7, 8, 8, 40, 2}, WALKS},
-    {"window", {0, 0, 0, 0, 0, 0, 0}, WINDOW},
+    {"even", {18, 12, 19, 16, 6, 5, 4, 9, 7, 4}, PLAIN},    {"writes", {5, 16, 28, 20, 7, 2, 2, 8, 9, 3}, PLAIN},
+    {"inserts", {9, 52, 12, 6, 3, 4, 3, 4, 4, 3}, PLAIN},   {"reads", {43, 5, 9, 7, 3, 12, 11, 4, 4, 2}, PLAIN},
+    {"pages", {8, 14, 16, 13, 4, 16, 16, 6, 5, 2}, PLAIN},  {"swaps", {18, 10, 7, 5, 12, 4, 4, 26, 12, 2}, PLAIN},
+    {"hot", {5, 16, 28, 20, 7, 2, 2, 8, 9, 3}, HOT},        {"waves", {18, 10, 7, 5, 12, 4, 4, 26, 12, 2}, WAVES},
+    {"walks", {18, 10, 7, 5, 12, 4, 4, 26, 12, 2}, WALKS},  {"window", {0}, WINDOW},
 };
 static const struct mix *mix = &MIXES[0];
 
@@ -53,25 +53,6 @@ static _Atomic uint64_t busy_calls, spent_calls;
 static _Atomic int running;
 static _Atomic int released;
 
-/* A line of the history: its text is found by its place, since the text moves when it grows. */
-struct line {
-    uint64_t start;
-    const char *text;
-    size_t at;
-};
-
-struct thread {
-    pthread_t id;
-    uint64_t number, draws, values;
-    char *text;
-    size_t length, room;
-    struct line *lines;
-    size_t count, most;
-    /* a pair that a call of this thread saw, for a compare-and-set that wins */
-    int has_seen;
-    bwtree_bytes seen_key, seen_value;
-    bwtree_page_pairs page;
-};
 /* The last one of them is the main thread, which loads the tree and walks it at the end. */
 static struct thread threads[MOST_THREADS + 1];
 
@@ -103,6 +84,13 @@ static bwtree_bytes ordered_key(uint64_t number) {
     return key;
 }
 
+/* The number that eight bytes are, the highest first. */
+static uint64_t number_of(const bwtree_bytes *bytes) {
+    uint64_t number = 0;
+    for (int i = 0; i < 8; i++) number = number << 8 | bytes->bytes[i];
+    return number;
+}
+
 /* A value of 5 to 64 bytes that no other call writes. */
 static bwtree_bytes new_value(struct thread *t) {
     uint64_t number = t->values++;
@@ -113,66 +101,11 @@ static bwtree_bytes new_value(struct thread *t) {
     return value;
 }
 
-/* ---- Lines ---- */
+/* Whether the operation has an expected value, and a new one: of an addition, the number. */
+static int expects(enum operation operation) { return operation == SWAP || operation == DELETE_IF; }
+static int sets(enum operation operation) { return operation == INSERT || operation == UPSERT || operation == SWAP || operation == ADD; }
 
-static void make_room(struct thread *t, size_t more) {
-    if (t->length + more <= t->room) return;
-    t->room = 2 * t->room + more;
-    CHECK((t->text = realloc(t->text, t->room)));
-}
-
-static void write_word(struct thread *t, const char *word) {
-    size_t length = strlen(word);
-    make_room(t, length + 1);
-    if (t->length && t->text[t->length - 1] != '\n') t->text[t->length++] = ' ';
-    memcpy(t->text + t->length, word, length);
-    t->length += length;
-}
-
-static void write_number(struct thread *t, uint64_t number) {
-    char digits[24];
-    snprintf(digits, sizeof digits, "%llu", (unsigned long long)number);
-    write_word(t, digits);
-}
-
-static void write_bytes(struct thread *t, const bwtree_bytes *bytes) {
-    char word[2 + 2 * BWTREE_MAX_LENGTH] = "x";
-    CHECK(bytes->length <= BWTREE_MAX_LENGTH);
-    for (uint64_t i = 0; i < bytes->length; i++) snprintf(word + 1 + 2 * i, 3, "%02x", bytes->bytes[i]);
-    write_word(t, word);
-}
-
-static void begin_line(struct thread *t, uint64_t start) {
-    if (t->count == t->most) {
-        t->most = 2 * t->most + 64;
-        CHECK((t->lines = realloc(t->lines, t->most * sizeof *t->lines)));
-    }
-    t->lines[t->count++] = (struct line){start, NULL, t->length};
-}
-
-static void end_line(struct thread *t) {
-    make_room(t, 1);
-    t->text[t->length++] = '\n';
-}
-
-static void begin_call(struct thread *t, uint64_t seat, uint64_t start, uint64_t end) {
-    begin_line(t, start);
-    write_word(t, "call");
-    write_number(t, seat), write_number(t, start), write_number(t, end);
-}
-
-static void write_with(struct thread *t, const char *word, const bwtree_bytes *value) {
-    write_word(t, word);
-    write_bytes(t, value);
-}
-
-static void write_page(struct thread *t) {
-    CHECK(t->page.count <= BWTREE_PAGE_PAIRS && t->page.more <= 1);
-    write_word(t, "pairs");
-    for (uint64_t i = 0; i < t->page.count; i++) write_bytes(t, &t->page.pairs[i].key), write_bytes(t, &t->page.pairs[i].value);
-    if (t->page.more) write_with(t, "next", &t->page.next);
-    else write_word(t, "end");
-}
+/* ---- Replies ---- */
 
 /* The reply of an operation that took place; any other status ends the program. */
 static void write_reply(struct thread *t, enum operation operation, uint32_t status, const bwtree_bytes *old) {
@@ -185,9 +118,9 @@ static void write_reply(struct thread *t, enum operation operation, uint32_t sta
         fprintf(stderr, "%s returns %u: %s\n", NAMES[operation], status, bwtree_text(status));
         exit(2);
     } else if (operation == GET) write_with(t, "value", old);
-    else if (operation == DELETE) write_with(t, "deleted", old);
-    else if (operation == PAGE) write_page(t);
-    else write_word(t, operation == INSERT ? "inserted" : operation == UPSERT ? "set" : operation == SWAP ? "swapped" : "tidied");
+    else if (operation == DELETE || operation == DELETE_IF) write_with(t, "deleted", old);
+    else if (operation == PAGE || operation == BACK) write_page(t);
+    else write_word(t, operation == INSERT ? "inserted" : operation == UPSERT || operation == ADD ? "set" : operation == SWAP ? "swapped" : "tidied");
 }
 
 /* ---- Calls ---- */
@@ -201,7 +134,10 @@ static uint32_t call(struct thread *t, enum operation operation, uint32_t seat, 
     case INSERT: return bwtree_insert(&tree, seat, key->bytes, key->length, value->bytes, value->length, old);
     case UPSERT: return bwtree_upsert(&tree, seat, key->bytes, key->length, value->bytes, value->length, old);
     case DELETE: return bwtree_delete(&tree, seat, key->bytes, key->length, old);
+    case DELETE_IF: return bwtree_delete_if(&tree, seat, key->bytes, key->length, expected->bytes, expected->length, old);
     case SWAP: return bwtree_swap(&tree, seat, key->bytes, key->length, expected->bytes, expected->length, value->bytes, value->length, old);
+    case ADD: return bwtree_add(&tree, seat, key->bytes, key->length, number_of(value), old);
+    case BACK: return bwtree_back(&tree, seat, key->bytes, key->length, &t->page);
     case TIDY: return bwtree_tidy(&tree, seat, key->bytes, key->length);
     default: return bwtree_page(&tree, seat, key->bytes, key->length, &t->page);
     }
@@ -242,8 +178,8 @@ static void perform(struct thread *t, enum operation operation, struct arguments
     }
     begin_call(t, seat, start, end);
     write_with(t, NAMES[operation], &given.key);
-    if (operation == SWAP) write_bytes(t, &given.expected);
-    if (operation == INSERT || operation == UPSERT || operation == SWAP) write_bytes(t, &given.value);
+    if (expects(operation)) write_bytes(t, &given.expected);
+    if (sets(operation)) write_bytes(t, &given.value);
     write_reply(t, operation, status, &old);
     end_line(t);
     see(t, operation, status, &given, &old);
@@ -251,17 +187,18 @@ static void perform(struct thread *t, enum operation operation, struct arguments
 
 static void perform_on(struct thread *t, enum operation operation, bwtree_bytes key) {
     struct arguments given = {key, {0, {0}}, {0, {0}}};
-    if (operation == INSERT || operation == UPSERT || operation == SWAP) given.value = new_value(t);
-    if (operation == SWAP && t->has_seen) given.key = t->seen_key, given.expected = t->seen_value, t->has_seen = 0;
+    if (sets(operation)) given.value = operation == ADD ? ordered_key(next_draw(&t->draws)) : new_value(t);
+    if (expects(operation) && t->has_seen) given.key = t->seen_key, given.expected = t->seen_value, t->has_seen = 0;
     perform(t, operation, given);
 }
 
-static void walk(struct thread *t) {
-    bwtree_bytes from = {0, {0}};
+static void walk(struct thread *t, enum operation turn) {
+    bwtree_bytes at = {turn == BACK ? BWTREE_MAX_LENGTH : 0, {0}};
+    if (turn == BACK) memset(at.bytes, 255, sizeof at.bytes);
     for (int pages = 0; pages < 2000; pages++) {
-        perform_on(t, PAGE, from);
+        perform_on(t, turn, at);
         if (!t->page.more) return;
-        from = t->page.next;
+        at = t->page.next;
     }
 }
 
@@ -285,14 +222,14 @@ static void move_window(struct thread *t, uint64_t turn) {
     if (turn % 2 == 0) perform_on(t, INSERT, ordered_key(place));
     else if (place >= set.keys) perform_on(t, DELETE, ordered_key(place - set.keys));
     else perform_on(t, GET, ordered_key(place));
-    if (below(t, 16) == 0) perform_on(t, PAGE, ordered_key(place > set.keys ? place - below(t, set.keys) : 0));
+    if (below(t, 16) == 0) perform_on(t, below(t, 2) ? PAGE : BACK, ordered_key(place > set.keys ? place - below(t, set.keys) : 0));
     if (below(t, 10) == 0) perform_on(t, TIDY, ordered_key(place > 2 * set.keys ? place - set.keys - below(t, set.keys) : 0));
 }
 
 static void take_turn(struct thread *t, uint64_t turn) {
     bwtree_bytes key = key_of(below(t, mix->special == HOT ? 4 : set.keys));
     if (mix->special == WINDOW) move_window(t, turn);
-    else if (mix->special == WALKS && t->number % 3 == 0) walk(t);
+    else if (mix->special == WALKS && t->number % 3 == 0) walk(t, turn % 2 ? BACK : PAGE);
     else if ((mix->special == WAVES || mix->special == WALKS) && below(t, 4)) wave(t, turn);
     else perform_on(t, drawn_operation(t), key);
 }
@@ -434,7 +371,8 @@ int main(int count, char **words) {
     open_tree(main_thread);
     begin_threads();
     run_threads();
-    walk(main_thread);
+    walk(main_thread, PAGE);
+    walk(main_thread, BACK);
     /* a text that ends nowhere has no last line */
     for (uint64_t i = 0; i <= MOST_THREADS; i++) make_room(&threads[i], 1);
     print_lines();

@@ -79,6 +79,21 @@ fn fault_of_page(from: &Bytes, pairs: &[Pair], next: Option<&Bytes>) -> Option<&
     next.filter(|next| *next <= last).map(|_| "a page that continues before its end")
 }
 
+/// What is wrong with a page backward by itself.
+fn fault_of_back(upto: &Bytes, pairs: &[Pair], next: Option<&Bytes>) -> Option<&'static str> {
+    if pairs.len() > PAGE_PAIRS {
+        return Some("a page backward with too many pairs");
+    }
+    if !ascends(pairs) {
+        return Some("keys of a page backward that do not ascend");
+    }
+    if pairs.last().is_some_and(|pair| pair.0 > *upto) {
+        return Some("a key behind the start of its page backward");
+    }
+    let first = pairs.first().map_or(upto, |pair| &pair.0);
+    next.filter(|next| *next >= first).map(|_| "a page backward that continues before its end")
+}
+
 /// What is wrong with a call whatever the others say: a reply that its operation does not have, or a malformed one.
 fn fault_of_call(call: &Call) -> Option<&'static str> {
     use {Operation as O, Reply as R};
@@ -92,8 +107,14 @@ fn fault_of_call(call: &Call) -> Option<&'static str> {
         (O::Delete, R::Deleted(_) | R::Absent | R::Full) => None,
         (O::Swap(expected, _), R::Differs(found)) if found == expected => Some("a value that differs from itself"),
         (O::Swap(..), R::Swapped | R::Differs(_) | R::Absent | R::Full) => None,
+        (O::DeleteIf(expected), R::Differs(found)) if found == expected => Some("a value that differs from itself"),
+        (O::DeleteIf(expected), R::Deleted(found)) if found != expected => Some("another value than the expected one was deleted"),
+        (O::DeleteIf(_), R::Deleted(_) | R::Differs(_) | R::Absent | R::Full) => None,
+        (O::Add(_), R::Differs(found)) if found.len() == 8 => Some("a number to which nothing is added"),
+        (O::Add(_), R::Set | R::Added(..) | R::Differs(_) | R::Full) => None,
         (O::Tidy, R::Tidied | R::Full) => None,
         (O::Page, R::Page(pairs, next)) => fault_of_page(&call.key, pairs, next.as_ref()),
+        (O::Back, R::Page(pairs, next)) => fault_of_back(&call.key, pairs, next.as_ref()),
         _ => Some("a reply of another operation"),
     }
 }
@@ -126,6 +147,11 @@ impl Numbers {
         self.keys.partition_point(|other| other < key) as u32
     }
 
+    /// How many keys are not above this one.
+    fn rank_behind(&self, key: &Bytes) -> u32 {
+        self.keys.partition_point(|other| other <= key) as u32
+    }
+
     fn state(&mut self, value: &Bytes) -> State {
         if let Some(number) = self.value_numbers.get(value) {
             return *number;
@@ -144,12 +170,18 @@ impl Numbers {
     fn claim(&mut self, call: &Call) -> Option<Claim> {
         let (before, after) = match (&call.operation, &call.reply) {
             (_, Reply::Full | Reply::Tidied) => return None,
+            (Operation::Back, Reply::Page(pairs, next)) => {
+                let first = next.as_ref().map_or(0, |next| self.rank_behind(next));
+                return Some(Claim::Page { first, past: self.rank_behind(&call.key), listed: self.listed(pairs) });
+            }
             (_, Reply::Page(pairs, next)) => {
                 let past = next.as_ref().map_or(self.keys.len() as u32, |next| self.rank(next));
                 return Some(Claim::Page { first: self.rank(&call.key), past, listed: self.listed(pairs) });
             }
             (_, Reply::Value(value) | Reply::Exists(value) | Reply::Differs(value)) => (self.state(value), self.state(value)),
             (_, Reply::Deleted(value)) => (self.state(value), ABSENT),
+            (_, Reply::Added(old, sum)) => (self.state(old), self.state(sum)),
+            (Operation::Add(number), Reply::Set) => (ABSENT, self.state(number)),
             (Operation::Insert(value) | Operation::Upsert(value), Reply::Inserted | Reply::Set) => (ABSENT, self.state(value)),
             (Operation::Upsert(value), Reply::Replaced(old)) => (self.state(old), self.state(value)),
             (Operation::Swap(expected, value), Reply::Swapped) => (self.state(expected), self.state(value)),
@@ -223,6 +255,8 @@ mod tests {
     fn malformed_replies_are_refused() {
         assert!(is_well_formed("call 0 1 2 get x61 absent"));
         assert!(is_well_formed("call 0 1 2 page x61 pairs x61 x01 x62 x01 next x63"));
+        assert!(is_well_formed("call 0 1 2 back x62 pairs x61 x01 x62 x01 next x60"));
+        assert!(is_well_formed("call 0 1 2 add x61 x0000000000000001 differs x01"));
         for call in [
             "call 0 2 2 get x61 absent",
             "call 0 1 2 get x61 full",
@@ -233,6 +267,14 @@ mod tests {
             "call 0 1 2 page x61 pairs x62 x01 x62 x01 end",
             "call 0 1 2 page x61 pairs x62 x01 next x62",
             "call 0 1 2 page x61 pairs next x61",
+            "call 0 1 2 back x61 pairs x62 x01 end",
+            "call 0 1 2 back x62 pairs x61 x01 x61 x01 end",
+            "call 0 1 2 back x62 pairs x61 x01 next x61",
+            "call 0 1 2 back x61 pairs next x61",
+            "call 0 1 2 delete_if x61 x01 deleted x02",
+            "call 0 1 2 delete_if x61 x01 differs x01",
+            "call 0 1 2 add x61 x0000000000000001 differs x0000000000000001",
+            "call 0 1 2 add x61 x0000000000000001 absent",
         ] {
             assert!(!is_well_formed(call), "{call}");
         }

@@ -44,7 +44,12 @@ fn other_reply(operation: &Operation, reply: &Reply, draws: &mut Draws) -> Reply
         (Operation::Delete, _) => Reply::Deleted(value),
         (Operation::Swap(..), _) if is_other => Reply::Swapped,
         (Operation::Swap(expected, _), _) if value != *expected => Reply::Differs(value),
-        (Operation::Page, Reply::Page(pairs, next)) => {
+        (Operation::DeleteIf(expected), _) if is_other => Reply::Deleted(expected.clone()),
+        (Operation::DeleteIf(expected), _) if value != *expected => Reply::Differs(value),
+        (Operation::DeleteIf(_), _) => Reply::Absent,
+        (Operation::Add(_), _) if is_other => Reply::Set,
+        (Operation::Add(_), _) => Reply::Differs(value),
+        (Operation::Page | Operation::Back, Reply::Page(pairs, next)) => {
             let mut pairs = pairs.clone();
             if let Some(pair) = pairs.pop().filter(|_| is_other) {
                 pairs.push((pair.0, value));

@@ -1,7 +1,7 @@
 //! Plants faults: each makes a linearizable history into one that no ordered map has, by a change that is a fault in real time for certain. It relies on
 //! values that are written once, as `record.c` writes them.
 use crate::draws::Draws;
-use crate::history::{Bytes, Call, History, Operation, Pair, Reply};
+use crate::history::{sum, Bytes, Call, History, Operation, Pair, Reply};
 use std::collections::HashMap;
 
 /// Who gave a key a value, and who took it away; by their places among the calls.
@@ -21,8 +21,10 @@ pub struct Lives<'a> {
 /// The value that a call gave its key.
 fn written(call: &Call) -> Option<&Bytes> {
     match (&call.operation, &call.reply) {
+        (_, Reply::Added(_, sum)) => Some(sum),
         (Operation::Insert(value), Reply::Inserted)
-        | (Operation::Upsert(value), Reply::Set | Reply::Replaced(_))
+        | (Operation::Upsert(value) | Operation::Add(value), Reply::Set)
+        | (Operation::Upsert(value), Reply::Replaced(_))
         | (Operation::Swap(_, value), Reply::Swapped) => Some(value),
         _ => None,
     }
@@ -32,7 +34,7 @@ fn written(call: &Call) -> Option<&Bytes> {
 fn taken(call: &Call) -> Option<&Bytes> {
     match (&call.operation, &call.reply) {
         (Operation::Swap(expected, _), Reply::Swapped) => Some(expected),
-        (_, Reply::Replaced(old) | Reply::Deleted(old)) => Some(old),
+        (_, Reply::Replaced(old) | Reply::Added(old, _) | Reply::Deleted(old)) => Some(old),
         _ => None,
     }
 }
@@ -40,7 +42,8 @@ fn taken(call: &Call) -> Option<&Bytes> {
 /// The value that a call read.
 fn read(call: &Call) -> Option<&Bytes> {
     match &call.reply {
-        Reply::Value(value) | Reply::Exists(value) | Reply::Replaced(value) | Reply::Deleted(value) | Reply::Differs(value) => Some(value),
+        Reply::Value(value) | Reply::Exists(value) | Reply::Deleted(value) | Reply::Differs(value) => Some(value),
+        Reply::Replaced(value) | Reply::Added(value, _) => Some(value),
         _ => None,
     }
 }
@@ -111,7 +114,7 @@ impl<'a> Lives<'a> {
 type Plant = fn(&Lives, usize, &mut Draws) -> Option<History>;
 
 /// Each fault, with what it is.
-pub const FAULTS: [(&str, Plant); 21] = [
+pub const FAULTS: [(&str, Plant); 25] = [
     ("a get returns a value that was gone before", stale_get),
     ("a get returns a value that comes later", early_get),
     ("a get does not find a key that is there", lost_get),
@@ -125,6 +128,10 @@ pub const FAULTS: [(&str, Plant); 21] = [
     ("a compare-and-set won against another value", swap_wins_wrongly),
     ("a compare-and-set won against a value that was gone", swap_of_gone),
     ("a compare-and-set found a value that was gone", swap_finds_gone),
+    ("a deletion by value deleted another value", delete_if_wins_wrongly),
+    ("an addition added to a value that was gone", add_to_gone),
+    ("an addition does not find a number that is there", add_finds_nothing),
+    ("an addition changes its number", add_of_another),
     ("a page leaves a pair out", page_without_pair),
     ("a page shows a value that was gone", page_with_gone_value),
     ("a page shows a key that was deleted", page_with_deleted_key),
@@ -235,12 +242,49 @@ fn swap_finds_gone(lives: &Lives, place: usize, draws: &mut Draws) -> Option<His
     (gone != *expected).then(|| lives.with(place, Reply::Differs(gone)))?
 }
 
+fn delete_if_wins_wrongly(lives: &Lives, place: usize, _: &mut Draws) -> Option<History> {
+    let call = &lives.history.calls[place];
+    let (Operation::DeleteIf(expected), Reply::Differs(value)) = (&call.operation, &call.reply) else { return None };
+    lives.stays(&call.key, value, call).then(|| lives.with(place, Reply::Deleted(expected.clone())))?
+}
+
+fn add_to_gone(lives: &Lives, place: usize, draws: &mut Draws) -> Option<History> {
+    let call = &lives.history.calls[place];
+    let (Operation::Add(number), Reply::Added(..)) = (&call.operation, &call.reply) else { return None };
+    let gone = lives.gone(&call.key, call.start, draws)?;
+    lives.with(place, Reply::Added(gone.clone(), sum(&gone, number)?))
+}
+
+fn add_finds_nothing(lives: &Lives, place: usize, _: &mut Draws) -> Option<History> {
+    let call = &lives.history.calls[place];
+    let Reply::Added(old, _) = &call.reply else { return None };
+    (lives.writer(&call.key, old)?.end < call.start).then(|| lives.with(place, Reply::Set))?
+}
+
+/// The sum that others read is of another number.
+fn add_of_another(lives: &Lives, place: usize, draws: &mut Draws) -> Option<History> {
+    let call = &lives.history.calls[place];
+    let Reply::Added(old, _) = &call.reply else { return None };
+    let number: Bytes = (0..8).map(|_| draws.below(256) as u8).collect();
+    let mut history = lives.with(place, Reply::Added(old.clone(), sum(old, &number)?))?;
+    history.calls[place].operation = Operation::Add(number);
+    lives.is_seen(call).then_some(history)
+}
+
 /// The pairs of a page and where the next one continues.
 fn page(call: &Call) -> Option<(Vec<Pair>, Option<Bytes>)> {
     match &call.reply {
         Reply::Page(pairs, next) => Some((pairs.clone(), next.clone())),
         _ => None,
     }
+}
+
+/// Whether a page of a call, of either direction, has a key, if the key has a value.
+fn is_within(call: &Call, next: Option<&Bytes>, key: &Bytes) -> bool {
+    if call.operation == Operation::Back {
+        return *key <= call.key && next.is_none_or(|next| key > next);
+    }
+    *key >= call.key && next.is_none_or(|next| key < next)
 }
 
 fn page_without_pair(lives: &Lives, place: usize, draws: &mut Draws) -> Option<History> {
@@ -263,7 +307,7 @@ fn page_with_gone_value(lives: &Lives, place: usize, draws: &mut Draws) -> Optio
 fn page_with_deleted_key(lives: &Lives, place: usize, draws: &mut Draws) -> Option<History> {
     let call = &lives.history.calls[place];
     let (mut pairs, next) = page(call)?;
-    let is_left_out = |key: &Bytes| *key >= call.key && next.as_ref().is_none_or(|next| key < next) && pairs.iter().all(|pair| pair.0 != *key);
+    let is_left_out = |key: &Bytes| is_within(call, next.as_ref(), key) && pairs.iter().all(|pair| pair.0 != *key);
     let mut keys: Vec<&Bytes> = lives.values.keys().copied().filter(|key| is_left_out(key)).collect();
     keys.sort();
     let key = (*draws.one(&keys)?).clone();
@@ -277,7 +321,7 @@ fn page_ends_early(lives: &Lives, place: usize, _: &mut Draws) -> Option<History
     let call = &lives.history.calls[place];
     let (pairs, next) = page(call)?;
     let next = next?;
-    let follows = |(key, value): &(&Bytes, &Bytes)| **key >= next && lives.stays(key, value, call);
+    let follows = |(key, value): &(&Bytes, &Bytes)| is_within(call, None, key) && !is_within(call, Some(&next), key) && lives.stays(key, value, call);
     lives.lives.keys().any(follows).then(|| lives.with(place, Reply::Page(pairs, None)))?
 }
 
@@ -360,5 +404,6 @@ mod tests {
 
     refused!(stale_get early_get lost_get stale_exists delete_finds_nothing delete_of_gone full_though_seen lost_update replies_exchanged);
     refused!(times_exchanged swap_wins_wrongly swap_of_gone swap_finds_gone page_without_pair page_with_gone_value page_with_deleted_key);
+    refused!(delete_if_wins_wrongly add_to_gone add_finds_nothing add_of_another);
     refused!(page_ends_early page_of_two_moments listing_without_pair listing_with_gone_value listing_with_deleted_key);
 }

@@ -9,10 +9,16 @@ pub enum Operation {
     Insert(Bytes),
     Upsert(Bytes),
     Delete,
+    /// A deletion if the value is this one.
+    DeleteIf(Bytes),
     /// Compare-and-set: the expected value, and the new one.
     Swap(Bytes, Bytes),
+    /// An addition of a number of eight bytes, the highest first.
+    Add(Bytes),
     Tidy,
     Page,
+    /// A page backward.
+    Back,
 }
 
 #[derive(Clone, Debug, PartialEq, Eq)]
@@ -23,13 +29,15 @@ pub enum Reply {
     Exists(Bytes),
     Set,
     Replaced(Bytes),
+    /// An addition replaced this value by the sum.
+    Added(Bytes, Bytes),
     Deleted(Bytes),
     Swapped,
     Differs(Bytes),
     Tidied,
     /// Nothing was free for a change: no key was changed.
     Full,
-    /// The pairs of a page, and the key from which the next page continues.
+    /// The pairs of a page of either direction, and the key at which the next page continues.
     Page(Vec<Pair>, Option<Bytes>),
 }
 
@@ -51,6 +59,12 @@ pub struct History {
     pub calls: Vec<Call>,
     /// The pairs that the tree handed over when it was closed, after all calls.
     pub listing: Vec<Pair>,
+}
+
+/// The sum of two numbers of eight bytes, modulo 2^64; none where one has not eight bytes.
+pub fn sum(value: &[u8], number: &[u8]) -> Option<Bytes> {
+    let (value, number) = (u64::from_be_bytes(value.try_into().ok()?), u64::from_be_bytes(number.try_into().ok()?));
+    Some(value.wrapping_add(number).to_be_bytes().to_vec())
 }
 
 /// Bytes as they stand in a file: `x` and two hexadecimal digits for each.
@@ -99,9 +113,12 @@ impl<'a> Words<'a> {
             "insert" => Operation::Insert(self.bytes()?),
             "upsert" => Operation::Upsert(self.bytes()?),
             "delete" => Operation::Delete,
+            "delete_if" => Operation::DeleteIf(self.bytes()?),
+            "add" => Operation::Add(self.bytes()?),
             "swap" => Operation::Swap(self.bytes()?, self.bytes()?),
             "tidy" => Operation::Tidy,
             "page" => Operation::Page,
+            "back" => Operation::Back,
             _ => return Err(format!("no operation: {name}")),
         };
         Ok((operation, key))
@@ -139,7 +156,14 @@ impl<'a> Words<'a> {
     fn call(&mut self, line: usize) -> Result<Call, String> {
         let (seat, start, end) = (self.number()? as usize, self.number()?, self.number()?);
         let (operation, key) = self.operation()?;
-        Ok(Call { seat, start, end, operation, key, reply: self.reply()?, line })
+        let reply = match (&operation, self.reply()?) {
+            (Operation::Add(number), Reply::Replaced(old)) => {
+                let sum = sum(&old, number).ok_or("an addition without numbers of eight bytes")?;
+                Reply::Added(old, sum)
+            }
+            (_, reply) => reply,
+        };
+        Ok(Call { seat, start, end, operation, key, reply, line })
     }
 
     fn over(mut self) -> Result<(), String> {
@@ -198,7 +222,7 @@ impl std::fmt::Display for Reply {
         match self {
             Reply::Value(value) => write!(f, "value {}", hex(value)),
             Reply::Exists(value) => write!(f, "exists {}", hex(value)),
-            Reply::Replaced(value) => write!(f, "replaced {}", hex(value)),
+            Reply::Replaced(value) | Reply::Added(value, _) => write!(f, "replaced {}", hex(value)),
             Reply::Deleted(value) => write!(f, "deleted {}", hex(value)),
             Reply::Differs(value) => write!(f, "differs {}", hex(value)),
             Reply::Page(pairs, None) => write!(f, "pairs{} end", show_pairs(pairs)),
@@ -215,10 +239,13 @@ impl std::fmt::Display for Call {
             Operation::Insert(value) => ("insert", format!(" {}", hex(value))),
             Operation::Upsert(value) => ("upsert", format!(" {}", hex(value))),
             Operation::Swap(expected, value) => ("swap", format!(" {} {}", hex(expected), hex(value))),
+            Operation::DeleteIf(expected) => ("delete_if", format!(" {}", hex(expected))),
+            Operation::Add(number) => ("add", format!(" {}", hex(number))),
             Operation::Get => ("get", String::new()),
             Operation::Delete => ("delete", String::new()),
             Operation::Tidy => ("tidy", String::new()),
             Operation::Page => ("page", String::new()),
+            Operation::Back => ("back", String::new()),
         };
         write!(f, "call {} {} {} {name} {}{values} {}", self.seat, self.start, self.end, hex(&self.key), self.reply)
     }
@@ -232,6 +259,10 @@ mod tests {
         call 0 1 2 insert x61 x01 inserted\n\
         call 1 3 6 swap x61 x01 x02 swapped\n\
         call 0 4 5 page x pairs x61 x01 next x62\n\
+        call 1 7 8 add x62 xffffffffffffffff set\n\
+        call 1 9 10 add x62 x0000000000000003 replaced xffffffffffffffff\n\
+        call 0 11 12 delete_if x62 x0000000000000002 deleted x0000000000000002\n\
+        call 0 13 14 back x63 pairs x61 x02 next x60\n\
         closed\n\
         pair x61 x02\n\
         end\n";
@@ -240,16 +271,23 @@ mod tests {
     fn reads_what_it_shows() {
         let history = parse(TEXT).unwrap();
         let shown: String = history.calls.iter().map(|call| format!("{call}\n")).collect();
-        assert!(TEXT.contains(&shown) && history.calls.len() == 3);
+        assert!(TEXT.contains(&shown) && history.calls.len() == 7);
+        assert_eq!(history.calls[4].reply, Reply::Added(vec![255; 8], vec![0, 0, 0, 0, 0, 0, 0, 2]));
         assert_eq!(history.listing, [(b"a".to_vec(), vec![2])]);
         assert_eq!(history.calls[2].reply, Reply::Page(vec![(b"a".to_vec(), vec![1])], Some(b"b".to_vec())));
     }
 
     #[test]
     fn refuses_what_is_not_whole() {
-        for (from, to) in
-            [("end\n", ""), ("closed\n", ""), ("x01 inserted", "x1 inserted"), ("insert ", "inserts "), (" next x62", ""), ("pair x61", "pair")]
-        {
+        for (from, to) in [
+            ("end\n", ""),
+            ("closed\n", ""),
+            ("x01 inserted", "x1 inserted"),
+            ("insert ", "inserts "),
+            (" next x62", ""),
+            ("x0000000000000003", "x03"),
+            ("pair x61", "pair"),
+        ] {
             assert!(TEXT.contains(from) && parse(&TEXT.replace(from, to)).is_err(), "{from}");
         }
         assert!(parse(&format!("{TEXT}end\n")).is_err());

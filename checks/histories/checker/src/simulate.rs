@@ -1,7 +1,7 @@
 //! Histories of a map with known linearization points, for tests of the checker: seats take turns at random; a call begins, takes effect at one of its
 //! seat's later turns, and ends at another one.
 use crate::draws::Draws;
-use crate::history::{Bytes, Call, History, Operation, Reply};
+use crate::history::{sum, Bytes, Call, History, Operation, Reply};
 use std::collections::BTreeMap;
 
 pub struct Plan {
@@ -39,17 +39,32 @@ impl Simulation<'_> {
     fn operation(&mut self, key: &Bytes) -> Operation {
         let value = self.value();
         if self.draws.below(8) < self.plan.pages {
-            return Operation::Page;
+            return if self.draws.one_in(2) { Operation::Page } else { Operation::Back };
         }
-        match self.draws.below(7) {
+        match self.draws.below(10) {
             0 | 1 => Operation::Get,
             2 => Operation::Insert(value),
             3 | 4 => Operation::Upsert(value),
             5 => Operation::Delete,
-            _ => {
-                let now = self.map.get(key).filter(|_| !self.draws.one_in(3)).cloned();
-                Operation::Swap(now.unwrap_or_else(|| vec![0, self.draws.below(200) as u8]), value)
-            }
+            6 | 7 => Operation::Add(self.number()),
+            8 => Operation::DeleteIf(self.expected(key)),
+            _ => Operation::Swap(self.expected(key), value),
+        }
+    }
+
+    /// The value that a key has at the moment, or another one.
+    fn expected(&mut self, key: &Bytes) -> Bytes {
+        let now = self.map.get(key).filter(|_| !self.draws.one_in(3)).cloned();
+        now.unwrap_or_else(|| vec![0, self.draws.below(200) as u8])
+    }
+
+    /// A number to add: where values are written once, of so many that no sum comes twice.
+    fn number(&mut self) -> Bytes {
+        let parts = (0..4).map(|_| self.draws.below(1 << 16) as u16).flat_map(u16::to_be_bytes);
+        if self.plan.span == 1 {
+            parts.collect()
+        } else {
+            vec![0, 0, 0, 0, 0, 0, 0, self.draws.below(self.plan.span) as u8]
         }
     }
 
@@ -65,8 +80,14 @@ impl Simulation<'_> {
     fn reply(&mut self, operation: &Operation, key: &Bytes) -> Reply {
         match (operation, self.map.get(key).cloned()) {
             (Operation::Page, _) => self.page(key),
+            (Operation::Back, _) => self.back(key),
+            (Operation::Add(_), None) => Reply::Set,
+            (Operation::Add(number), Some(value)) => match sum(&value, number) {
+                Some(sum) => Reply::Added(value, sum),
+                None => Reply::Differs(value),
+            },
             (Operation::Tidy, _) => Reply::Tidied,
-            (Operation::Get, None) | (Operation::Delete | Operation::Swap(..), None) => Reply::Absent,
+            (Operation::Get, None) | (Operation::Delete | Operation::DeleteIf(_) | Operation::Swap(..), None) => Reply::Absent,
             (Operation::Get, Some(value)) => Reply::Value(value),
             (Operation::Insert(_), Some(value)) => Reply::Exists(value),
             (Operation::Insert(_), None) => Reply::Inserted,
@@ -74,7 +95,8 @@ impl Simulation<'_> {
             (Operation::Upsert(_), Some(value)) => Reply::Replaced(value),
             (Operation::Delete, Some(value)) => Reply::Deleted(value),
             (Operation::Swap(expected, _), Some(value)) if value == *expected => Reply::Swapped,
-            (Operation::Swap(..), Some(value)) => Reply::Differs(value),
+            (Operation::DeleteIf(expected), Some(value)) if value == *expected => Reply::Deleted(value),
+            (Operation::DeleteIf(_) | Operation::Swap(..), Some(value)) => Reply::Differs(value),
         }
     }
 
@@ -86,10 +108,18 @@ impl Simulation<'_> {
         Reply::Page(pairs, next)
     }
 
+    fn back(&mut self, key: &Bytes) -> Reply {
+        let next = self.key();
+        let next = Some(next).filter(|next| next < key);
+        let is_shown = |found: &Bytes| found <= key && next.as_ref().is_none_or(|next| found > next);
+        let pairs = self.map.iter().filter(|pair| is_shown(pair.0)).map(|(key, value)| (key.clone(), value.clone())).collect();
+        Reply::Page(pairs, next)
+    }
+
     /// A call takes effect, or, seldom, none: it is refused as full.
     fn take_effect(&mut self, place: usize) {
         let Call { operation, key, .. } = self.history.calls[place].clone();
-        let updates = !matches!(operation, Operation::Get | Operation::Page);
+        let updates = !matches!(operation, Operation::Get | Operation::Page | Operation::Back);
         if updates && self.draws.one_in(30) {
             return;
         }
@@ -98,7 +128,13 @@ impl Simulation<'_> {
             (Operation::Insert(value), Reply::Inserted) | (Operation::Upsert(value), _) | (Operation::Swap(_, value), Reply::Swapped) => {
                 self.map.insert(key, value);
             }
-            (Operation::Delete, _) => {
+            (Operation::Add(number), Reply::Set) => {
+                self.map.insert(key, number);
+            }
+            (_, Reply::Added(_, sum)) => {
+                self.map.insert(key, sum.clone());
+            }
+            (_, Reply::Deleted(_)) => {
                 self.map.remove(&key);
             }
             _ => {}
@@ -106,13 +142,18 @@ impl Simulation<'_> {
         self.history.calls[place].reply = reply;
     }
 
-    /// Reads all keys of a page but the first once more.
+    /// Reads all keys of a page but the one that it begins at once more.
     fn tear(&mut self, place: usize) {
         let call = &mut self.history.calls[place];
         let Reply::Page(pairs, next) = &mut call.reply else { return };
-        let is_shown = |key: &Bytes| *key > call.key && next.as_ref().is_none_or(|next| key < next);
+        let is_back = call.operation == Operation::Back;
+        let is_shown = |key: &Bytes| match (is_back, &next) {
+            (false, next) => *key > call.key && next.as_ref().is_none_or(|next| key < next),
+            (true, next) => *key < call.key && next.as_ref().is_none_or(|next| key > next),
+        };
         pairs.retain(|pair| pair.0 == call.key);
         pairs.extend(self.map.iter().filter(|pair| is_shown(pair.0)).map(|(key, value)| (key.clone(), value.clone())));
+        pairs.sort();
     }
 
     fn turn(&mut self, seat: usize) {
