@@ -1,7 +1,8 @@
 #!/bin/sh
 # Packs what programs in other languages need, into c/out, from the proved archive, which c/archive makes where it isn't there.
-#   c/build.sh              libbwtree.a, libbwtree.so, bwtree.h, bwtree.hpp, bwtree.pc
-#   c/build.sh install DIR  copies them into DIR/lib, DIR/include, DIR/lib/pkgconfig, too; where DESTDIR is set, below that folder
+#   c/build.sh              libbwtree.a, libbwtree.so, bwtree.pc, and the headers
+#   c/build.sh install DIR  copies them into DIR/lib (or LIBDIR, where that is set), DIR/include, and below these the files for pkg-config and CMake, and
+#                           the page for man into DIR/share/man; where DESTDIR is set, below that folder
 # Where BWTREE_ARCHIVE names another archive with the same functions, that one is packed.
 set -eu
 case "$#,${1-}" in
@@ -24,8 +25,10 @@ archive=$(readlink -f -- "$archive")
 (cd "$folder" && ar x "$kit/c/liblibc_c.a" && ar x "$archive")
 rm -f "$out/libbwtree.a"
 ar rcs "$out/libbwtree.a" "$folder"/*.o
-printf '{ global: bwtree_*; local: *; };\n' >"$folder/names"
-$compiler -shared -o "$out/libbwtree.so.$version" -Wl,-soname,libbwtree.so.0 -Wl,--version-script="$folder/names" -Wl,-z,defs \
+# The names have a version, so that a later library may have two of one name. The mark of the processor's level, x86-64-v2, is what glibc from 2.33 on
+# tests at load: without it, a processor below that level would stop in the midst of a call.
+printf 'BWTREE_0 { global: bwtree_*; local: *; };\n' >"$folder/names"
+$compiler -shared -o "$out/libbwtree.so.$version" -Wl,-soname,libbwtree.so.0 -Wl,--version-script="$folder/names" -Wl,-z,defs,-z,x86-64-v2 \
     -Wl,--whole-archive "$out/libbwtree.a" -Wl,--no-whole-archive
 
 # The file for pkg-config: describe PREFIX LIBRARIES HEADERS
@@ -47,18 +50,29 @@ PC
 # Copies, since the gate takes no links in the repository. What a program has open isn't written over: `install` takes the old file out of its folder first.
 install "$out/libbwtree.so.$version" "$out/libbwtree.so.0"
 install "$out/libbwtree.so.$version" "$out/libbwtree.so"
-install -m 644 "$top/c/bwtree.h" "$top/c/bwtree.hpp" "$out/"
+install -m 644 "$top"/c/*.h "$top"/c/*.hpp "$out/"
 describe "$out" "\${prefix}" "\${prefix}" >"$out/bwtree.pc"
 [ "$#" -eq 2 ] || exit 0
 case $2 in
 /*) prefix=$2 ;;
 *) prefix=$PWD/$2 ;;
 esac
+libraries=${LIBDIR:-$prefix/lib}
+case $libraries in
+"$prefix"/*) ;;
+*) echo "c/build.sh: LIBDIR is not below $prefix" >&2; exit 2 ;;
+esac
 to=${DESTDIR-}$prefix
-mkdir -p "$to/lib/pkgconfig" "$to/include"
-install -m 644 "$out/libbwtree.a" "$to/lib/"
-install "$out/libbwtree.so.$version" "$to/lib/"
-ln -sf "libbwtree.so.$version" "$to/lib/libbwtree.so.0"
-ln -sf libbwtree.so.0 "$to/lib/libbwtree.so"
-install -m 644 "$out/bwtree.h" "$out/bwtree.hpp" "$to/include/"
-describe "$prefix" "\${prefix}/lib" "\${prefix}/include" >"$to/lib/pkgconfig/bwtree.pc"
+lib=${DESTDIR-}$libraries
+mkdir -p "$lib/pkgconfig" "$lib/cmake/bwtree" "$to/include" "$to/share/man/man3"
+install -m 644 "$out/libbwtree.a" "$lib/"
+install "$out/libbwtree.so.$version" "$lib/"
+ln -sf "libbwtree.so.$version" "$lib/libbwtree.so.0"
+ln -sf libbwtree.so.0 "$lib/libbwtree.so"
+install -m 644 "$out"/*.h "$out"/*.hpp "$to/include/"
+describe "$prefix" "\${prefix}${libraries#"$prefix"}" "\${prefix}/include" >"$lib/pkgconfig/bwtree.pc"
+install -m 644 "$top/c/man/bwtree.3" "$to/share/man/man3/"
+# From the folder of CMake's file, the headers are where the library's folder is below the prefix.
+up=$(printf '%s' "${libraries#"$prefix"}" | sed 's|/[^/]*|/..|g')
+sed "s|@HEADERS@|../..$up/include|" "$top/c/cmake/bwtreeConfig.cmake" >"$lib/cmake/bwtree/bwtreeConfig.cmake"
+sed "s|@VERSION@|$version|" "$top/c/cmake/bwtreeConfigVersion.cmake" >"$lib/cmake/bwtree/bwtreeConfigVersion.cmake"

@@ -1,0 +1,4 @@
+package bwtree
+
+// #cgo LDFLAGS: ${SRCDIR}/libbwtree.a -lpthread
+import "C"
