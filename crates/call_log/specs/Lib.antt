@@ -1,0 +1,5 @@
+pub mod Hands
+pub mod Laws
+pub mod Logs
+pub mod Rule
+pub mod Steps

@@ -1,0 +1,43 @@
+-- What a table of no words but one has to do with a log, and what its seats know of that.
+use Rattle.std.specs.Prelude.{◌≡◌, ◌+◌, ◌∷◌, [], ℕ, List, Some, slice_get, ⊤}
+use mathlib.Core.Option.{some}
+use lib.ListN.{get_elem?}
+use Rattle.atomic_table.specs.Table.{State}
+use Rattle.call_log.specs.declared.log.Event.{Event}
+use Rattle.call_log.specs.declared.log.Known.{Known}
+use Rattle.call_log.specs.declared.log.Knows.{Knows}
+use Rattle.call_log.specs.Logs.{BeganAs, IsLog, seats_after, stage_of}
+
+-- holds of each
+abbrev pub Each : {A : Type 0} → (A → Type 0) → List A → Type 0
+Each P [] = ⊤
+Each P (x ∷ xs) = P x × Each P xs
+
+module _ {X : Type 0} where
+  abbrev pub known : List X → List (Event X) → Known X
+  known opened log = record { opened = opened; log = log }
+
+  -- a receipt: it has seen this log, and has no seat
+  abbrev pub receipt : List (Known X) → Knows X
+  receipt logs = record { first = 0; here = []; stage = 0; logs = logs }
+
+  -- the view with which a table opens: it has all seats
+  abbrev pub all_of : List X → Knows X
+  all_of opened = record { first = 0; here = opened; stage = 0; logs = known opened [] ∷ [] }
+
+  -- The seat of this number is this one, and it is that view's.
+  abbrev pub Owns : List X → List (Event X) → (ℕ → ℕ) → ℕ → ℕ → ℕ → X → Type 0
+  Owns opened log owner i stage number seat = (owner number ≡ i) × (slice_get (seats_after opened log) number ≡ Some seat) × (stage_of log ≡ stage)
+
+  -- What a view knows is so: the seats that it has are as it knows, and nobody else has them; and the log began as it has seen.
+  pub record Fits (opened : List X) (log : List (Event X)) (owner : ℕ → ℕ) (i : ℕ) (view : Knows X) : Type 0 where
+    pub own : (n : ℕ) (seat : X) → slice_get view.here n ≡ Some seat → Owns opened log owner i view.stage (view.first + n) seat
+    pub seen : Each (λ (it : Known X). (it.opened ≡ opened) × BeganAs log it.log) view.logs
+
+  -- The rule: there is a log, whose stage the word is, and each view knows what is so.
+  pub record Holds (goes_on : X → X → Type 0) (opened : List X) (s : State (Unit {0}) (Knows X)) : Type 0 where
+    pub log : List (Event X)
+    pub owner : ℕ → ℕ
+    pub legal : IsLog goes_on opened log
+    pub word : s.words ≡ stage_of log ∷ []
+    pub each : (i : ℕ) (view : Knows X) → get_elem? s.views i ≡ some view → Fits opened log owner i view

@@ -1,0 +1,20 @@
+//! Laws of logs. Each function does nothing, and its contract is proved of all logs, and of all moments of a log's table.
+ghost use Rattle.call_log.specs.Laws.{CallsComeLast, CallsFollow, EndsFollow, IsOrder, LogsAgree};
+
+use crate::rule::Course;
+
+/// Each call on a seat goes on from the last one on it, and what a closing finds goes on from all of them.
+pub fn calls_follow<X, P: Course<X>>()
+    ensures calls { IsOrder P.goes_on → CallsFollow P.goes_on }
+    ensures ends { IsOrder P.goes_on → EndsFollow P.goes_on }
+{}
+
+/// All who have seen the log have seen one log: one a longer part of it than the other.
+pub fn logs_agree<X, P: Course<X>>()
+    ensures { LogsAgree P.goes_on }
+{}
+
+/// A call comes behind all that anybody has seen when it is written: so a call that begins once another one has returned comes behind it.
+pub fn calls_come_last<X, P: Course<X>>()
+    ensures { CallsComeLast P.goes_on }
+{}
