@@ -158,7 +158,7 @@ impl Command {
         }
     }
 
-    /// The same command again, without memory.
+    /// A copy of the command; it allocates nothing.
     pub fn copied(&self) -> Command
         ensures { result ≡ self.now }
     {
@@ -190,7 +190,7 @@ impl Clone for Command {
 }
 
 impl Reply {
-    /// The same reply again, without memory.
+    /// A copy of the reply; it allocates nothing.
     pub fn copied(&self) -> Reply
         ensures { result ≡ self.now }
     {

@@ -80,7 +80,7 @@ impl Key {
         self.bytes.as_slice()
     }
 
-    /// The same key again, without memory.
+    /// A copy of the key; it allocates nothing.
     pub fn copied(&self) -> Key
         ensures { result ≡ self.now }
     {

@@ -1,11 +1,11 @@
-//! The map that a tree is: keys and values, commands and replies, updates and logs; and the steps that an operation takes over the shared
-//! memory, with their answers.
+//! The map that a tree implements: keys and values, commands and replies, updates and logs; and the atomic steps that an operation takes
+//! over the shared memory, with their answers.
 //!
-//! Look first at `Command`: its reply and its update by the value of its key (specs/Replies), which is all that the theorem says of a
-//! map. `Step` has each kind of atomic step, `Answer` and `Told` what one answers. `Schedule` draws actors from a seed.
+//! Look first at `Command`: its reply and its update are functions of the value of its key (specs/Replies), which is all of a map that the
+//! theorem uses. `Step` has each kind of atomic step, `Answer` and `Told` the answers. `Schedule` draws actors from a seed.
 //!
-//! Called by nearly every crate. It passes the limits of `tree_limits` on. It knows no page, no record and no memory: a step is generic
-//! over what a row has.
+//! Called by nearly every crate. It re-exports the limits of `tree_limits`. It knows no page, no record and no memory: a step is generic
+//! over the content of a row.
 #![tactic(auto)]
 
 mod command;

@@ -73,7 +73,7 @@ impl Pairs {
         self.pairs.truncate(place);
     }
 
-    /// The same pairs again, without memory.
+    /// A copy of the pairs; it allocates nothing.
     pub fn copied(&self) -> Pairs
         ensures { result ≡ self.now }
     {

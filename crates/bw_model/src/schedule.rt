@@ -1,5 +1,6 @@
 //! Whose turn it is, drawn at random from a seed.
 ghost use Rattle.std.specs.Prelude.{◌≡◌, ◌<◌, ◌≤◌, ◌∷◌, []};
+ghost use Rattle.tree_limits.specs.Limits.{most_large_actors};
 ghost use Rattle.bw_model.specs.Schedules.{drawn, moved_on, next_actor, schedule_of};
 
 use rand_core::SeedableRng;
@@ -17,20 +18,21 @@ pub struct Schedule {
 
 impl Model for Schedule {
     ghost use Rattle.std.specs.Prelude.{◌≤◌};
+    ghost use Rattle.tree_limits.specs.Limits.{most_large_actors};
     ghost use Rattle.bw_model.specs.Schedules.{Schedule};
 
     ghost Value = { Schedule };
 
     ghost view = { λ s. record { generator = s.generator; actors = s.actors } };
 
-    ghost invariant = { λ s. (1 ≤ s.actors) × (s.actors ≤ 16) };
+    ghost invariant = { λ s. (1 ≤ s.actors) × (s.actors ≤ most_large_actors) };
 }
 
 impl Schedule {
-    /// The schedule of this seed, over 1 to 16 actors.
+    /// The schedule of this seed, over 1 to 63 actors.
     pub fn new(seed: u64, actors: u8) -> Schedule
         requires some { 1 ≤ actors }
-        requires few { actors ≤ 16 }
+        requires few { actors ≤ most_large_actors }
         ensures { result ≡ schedule_of seed actors }
     {
         Schedule {

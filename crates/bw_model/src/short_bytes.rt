@@ -74,7 +74,7 @@ impl<const LENGTH: usize> ShortBytes<LENGTH> {
         &self.bytes[..usize::from(self.count)]
     }
 
-    /// The same bytes again, without memory.
+    /// A copy of the bytes; it allocates nothing.
     #[inline]
     pub(crate) fn copied(&self) -> ShortBytes<LENGTH>
         ensures { result ≡ self.now }

@@ -132,7 +132,7 @@ impl<R: Drop> Answer<R> {
 }
 
 impl Told {
-    /// The same among the answers that have room for a record.
+    /// The answer as one of a type that has room for a record.
     #[inline(never)]
     pub fn answer<R>(self) -> Answer<R>
         ensures { result ≡ answer_of self }

@@ -95,7 +95,7 @@ impl Value {
         self.bytes.as_slice()
     }
 
-    /// The same value again, without memory.
+    /// A copy of the value; it allocates nothing.
     pub fn copied(&self) -> Value
         ensures { result ≡ self.now }
     {

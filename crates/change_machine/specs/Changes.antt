@@ -156,7 +156,7 @@ IsMadeAt plan made spares state = ⊤
 abbrev pub IsMade : Change → Spares → Type 0
 IsMade change spares = IsMadeAt change.plan change.made spares change.state
 
--- The same is known but of own rows, own pages and words of free bits; this is known of the command's update.
+-- What is known is as it was, but for own rows, own pages and words of free bits; of the command's update this is known.
 pub record IsLike (linked : Option (Option ℕ)) (was now : Knowledge) : Type 0 where
   pub inside : now.inside ≡ was.inside
   pub read : now.read ≡ was.read

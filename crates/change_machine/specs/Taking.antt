@@ -34,8 +34,8 @@ abbrev pub recalled_words : Recalled → Kind → ℕ → Option ℕ
 recalled_words r Pid = r.pids
 recalled_words r Row = r.rows
 
--- Where a taking begins: at word 0, and in a large tree at one that the newest row of the page scatters. One that hasn't begun at word 0
--- goes on there once it has come to the last word.
+-- Where a taking begins: at word 0, and in a large tree at a word scattered by `head`, the number that the change's exchange expects: the newest
+-- row of the page or, for a new root, the PID in slot 0. One that began at another word than 0 continues at word 0 after the last one.
 abbrev pub first_word : Limits → Kind → ℕ → ℕ
 first_word limits kind head = if limits.is_large then head * 2654435761 % (count_of limits kind / 64) else 0
 

@@ -56,8 +56,8 @@ pub(crate) enum State {
     Clear,
 }
 
-/// A change that is under way. What it takes and places is among the spares of its actor until it is linked. A record that is to be
-/// placed, and that the plan hasn't as such, is made once, and lies here.
+/// A change that is under way. What it takes and places is among the spares of its actor until it is linked. `made` is the record to be
+/// placed, if the plan doesn't contain it as it is: it is made once, when the new page's PID is known.
 #[derive(Drop)]
 pub struct Change {
     limits: Limits,

@@ -60,7 +60,7 @@ impl Kind {
 }
 
 impl Taking {
-    /// Where the taking of a number begins, for a page with this newest row.
+    /// Where the taking of a number begins, for a change whose exchange expects `head` in its slot.
     pub(crate) fn begin(limits: &Limits, kind: Kind, head: u32) -> Taking
         ensures { result ≡ begun_at limits.now kind head }
     {

@@ -83,7 +83,7 @@ impl<A: Allocator> Limbo<A> {
         self.pids.compare(announces);
     }
 
-    /// The same of the first items of each list alone, so many at most: it takes time over these, however many there are.
+    /// As `may_free`, but for the first items of each list alone, so many at most: it takes time over these, however many there are.
     pub fn may_free_first(&mut self, most: usize, announces: &[u64])
         ensures { self.new ≡ firsts_restaged most (compared_with announces.now) self.old }
     {

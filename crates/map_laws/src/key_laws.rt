@@ -18,8 +18,8 @@ ghost use Rattle.op_machine.specs.theorem.Points.{log_at};
 ghost use Rattle.map_laws.specs.Fits.{fits};
 ghost use Rattle.map_laws.specs.OwnKeys.{AreOwnReplies, ChangesAlone, ChangesAloneSince, is_about, value_through};
 
-/// Where nobody else changes a key, an actor's replies about it are those of a map with this one key: it reads what it wrote. So from the
-/// run's begin on, where the key has no value; and from a place on at which the actor had nothing under way, with the value of then.
+/// If nobody else changes a key, an actor's replies about it are those of a map with this one key: it reads what it wrote. This holds from
+/// the run's begin on, where the key has no value; and from a place on at which the actor had nothing under way, with the value of then.
 pub fn own_keys()
     ensures whole { (limits : Limits) (turns : List Turn) (run : List Entry) (actor : ℕ) (key : List ℕ)
         → IsLinearized limits turns run → ChangesAlone run actor key → AreOwnReplies key None (calls_of actor run) }
@@ -28,7 +28,7 @@ pub fn own_keys()
         → AreOwnReplies key (logged_value (log_at (front ++ back) linear.points (length front)) key) (calls_of actor back) }
 {}
 
-/// Where there is one seat, so it is of every key.
+/// In a tree with one seat this holds for every key.
 pub fn one_seat()
     ensures { (limits : Limits) (turns : List Turn) (run : List Entry) (actor : ℕ) (key : List ℕ)
         → limits.actors ≡ 1 → IsLinearized limits turns run → AreOwnReplies key None (calls_of actor run) }

@@ -19,8 +19,8 @@ pub fn later_calls_take_effect_later()
         → AreApart new.seen (call_operation old command first.seen is.begins) (call_operation later asked new.seen comes.begins) given }
 {}
 
-/// Where nobody else changes the key meanwhile, the replies of two such calls are those of a map with this one key, one after the other. So a lookup
-/// on another seat shows what an upsert has set that has returned.
+/// If nobody else changes the key meanwhile, the replies of two such calls are those of a map with this one key, one after the other. So a
+/// lookup on another seat returns what a completed upsert has set.
 pub fn later_calls_see_the_key()
     ensures replies { (old first : Seat) (command : Command) (budget : ℕ) (given : Reply) (is : IsDone old command budget given first)
         → (later new : Seat) (asked : Command) (comes : ComesBefore first given later asked new) → IsSame old first → IsSame later new → IsOneHistory new.limits new.seen

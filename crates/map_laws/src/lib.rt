@@ -1,12 +1,12 @@
-//! Laws of calls: what follows from the calls of a seat and from the history that it has seen, for who wants to conclude more.
+//! Laws of calls: what follows from the calls of a seat and from the history that it has seen.
 //!
-//! Look first at `calls_are_operations`; docs/GUIDE.md says which law serves which wish.
+//! Look first at `calls_are_operations`; docs/GUIDE.md, *What can be concluded*, lists the laws by their use.
 //!
-//! No function here does anything: each one's contract is proved of all runs, and a body that calls it has that at hand. A run is what a
-//! seat of `running_tree` has seen, and its calls are `calls_of` (running_tree, specs/Calls).
+//! No function here does anything: its contract is a theorem about all runs, and a body that calls it may use that. A run is what a seat of
+//! `running_tree` has seen, and its calls are `calls_of` (running_tree, specs/Calls).
 //!
-//! Called by `seats`, `seat_threads` and `bw_tree_c`, and by who embeds a tree; `walks` cites its lemmas. It knows what the theorem says of a
-//! run (`op_machine`, specs/theorem), and nothing of how a tree comes to that.
+//! Called by `seats`, `seat_threads` and `bw_tree_c`, and by programs that embed a tree; `walks` cites its lemmas. It knows the theorem about a
+//! run (`op_machine`, specs/theorem), and nothing of how a tree meets it.
 #![tactic(auto)]
 
 mod budgets;

@@ -23,13 +23,13 @@ use Rattle.sweep.specs.declared.sweep.State.TheVariants as sweeping
 use Rattle.op_machine.specs.machine.Bounded as op
 use Rattle.op_machine.specs.machine.States.{State, Begun, Epoch, Enter, Read, Write, Change, Leave}
 
-pub enough : (limits : Limits) → 42 * limits.pids + 2 * few_changes limits + 20 ≤ cause_worth limits
+pub enough : (limits : Limits) → 42 * limits.pids + 2 * few_changes limits + limits.actors + 20 ≤ cause_worth limits
 unfolding cause_worth most_reads
 enough limits = by_test limits.is_large refl
   where
-    by_test : (large : Bool) → limits.is_large ≡ large → 42 * limits.pids + 2 * few_changes limits + 20 ≤ (if large then 2 ^ 18 + (48 * limits.pids + limits.rows) else 2 ^ 18)
-    by_test true e = let some = limits.allowed.some_pids in omega (arith, some)
-    by_test false e = let small = limits.small e in let p = small.few_pids in let r = small.few_rows in omega (arith, p, r)
+    by_test : (large : Bool) → limits.is_large ≡ large → 42 * limits.pids + 2 * few_changes limits + limits.actors + 20 ≤ (if large then 2 ^ 18 + (48 * limits.pids + limits.rows) else 2 ^ 18)
+    by_test true e = let some = limits.allowed.some_pids in let few = limits.allowed.few_actors in omega (arith, some, few)
+    by_test false e = let small = limits.small e in let p = small.few_pids in let r = small.few_rows in let few = small.few_actors in omega (arith, p, r, few)
 
 -- a whole operation without errands takes fewer steps than a cause is worth
 pub begin_few : (limits : Limits) → with_errands limits [] (most_steps limits + 1 + (one_round limits + 3)) < cause_worth limits
@@ -149,5 +149,5 @@ due_few k r now hand shows short =
     let state : op.left_at now.task.limits r hand.spares now.state ≤ 70 * now.task.limits.pids + 3 * few_changes now.task.limits + 20 = state_few now.task hand.spares k r now.state shows.stands in
     let swept : sweep_left now.task.limits now.sweep now.state ≤ most_steps now.task.limits + 1 = sweeps_few now.task.limits now.sweep now.state in
     let errands : one_round now.task.limits * length now.task.errands ≤ one_round now.task.limits * 16 = mul-le-mul_left (one_round now.task.limits) short in
-    let worth : 42 * now.task.limits.pids + 2 * few_changes now.task.limits + 20 ≤ cause_worth now.task.limits = enough now.task.limits in
+    let worth : 42 * now.task.limits.pids + 2 * few_changes now.task.limits + now.task.limits.actors + 20 ≤ cause_worth now.task.limits = enough now.task.limits in
     omega (arith, state, swept, errands, worth)

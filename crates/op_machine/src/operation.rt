@@ -215,7 +215,7 @@ impl<R: Rows, A: Allocator> Operation<R, A> {
         self.move_on(&hand.spares, told);
     }
 
-    /// The same where a change is under way. What the change has taken out of the tree comes into limbo.
+    /// Takes the answer where a change is under way. What the change has taken out of the tree comes into limbo.
     #[inline(never)]
     fn change_on(&mut self, hand: &mut Hand<A>, told: Told)
         requires told { IsToldWith self.old hand.old (answer_of told) }
@@ -228,7 +228,7 @@ impl<R: Rows, A: Allocator> Operation<R, A> {
         }
     }
 
-    /// The same where no change is under way.
+    /// Takes the answer where no change is under way.
     fn move_on(&mut self, spares: &Spares, told: Told)
         requires told { IsToldOn self.old spares.now (answer_of told) }
         requires still { is_changing self.old.state ≡ false }

@@ -111,7 +111,7 @@ impl ShortReply {
         }
     }
 
-    /// The same reply again.
+    /// A copy of the reply; it allocates nothing.
     pub(crate) fn copied(&self) -> ShortReply
         ensures { result ≡ self.now }
     {
@@ -132,7 +132,7 @@ impl ShortReply {
         self.tell_anew(reply);
     }
 
-    /// The same, whatever lies there. Not inlined: a reply in the room of any is made first.
+    /// Writes the reply over whatever is in its place. Not inlined: a reply with room for any is made first.
     #[inline(never)]
     fn tell_anew(&self, reply: &mut Reply)
         ensures { reply.new ≡ self.now }
@@ -259,7 +259,7 @@ fn show_over(
     *next = leaf.next(direction);
 }
 
-/// The same, whatever lies there. Not inlined: no other reply needs room for its pairs.
+/// Writes the pairs over whatever is in the reply's place. Not inlined: no other reply needs room for its pairs.
 #[inline(never)]
 fn tell_page_anew(leaf: &Page, direction: Direction, bound: &Key, reply: &mut Reply)
     ensures { reply.new ≡ page_shown direction bound.now leaf.now }

@@ -1,19 +1,18 @@
-//! Laws of progress: what follows, for how many steps an operation takes, from what the law of the tree says of a trace.
+//! Laws of progress: bounds on the steps of operations, which follow from the law of the tree. No function here does anything: its contract is proved of all
+//! traces, and a body that calls it may use that.
 //!
-//! Look first at `runs_progress_until_removal`: until the first removal a lookup or a cursor page takes few steps whatever others do, and of all
-//! operations it says what hinders them, that each ends where it runs alone, and that all together take few steps. No function here does anything:
-//! each one's contract is proved of all traces, and a body that calls it has that at hand.
+//! Look first at `runs_progress_until_removal`: until the first removal a lookup or cursor page takes few steps, whatever others do. It also bounds what
+//! hinders an operation, and shows that each ends if it runs alone, and that all together take few steps.
 //!
-//! Then look at `readers_go_on`: beside removals, too, a reader takes few steps for each change of the tree. It carries along a run, entry by entry,
-//! what `readers_end_among_changes` says of the entries to come: in one memory a reader's rounds come to an end, wherever they stand
-//! (`readers_end_alone`, `rounds_end`).
+//! Then look at `readers_go_on`: beside removals, too, a reader takes few steps for each change of the tree. It carries along a run, entry by entry, the bound
+//! of `readers_end_among_changes`: in one memory a reader's rounds end, wherever they are (`readers_end_alone`, `rounds_end`).
 //!
-//! At last look at `writers_go_on` and `runs_make_progress`: a writer meets what is gone seldom, by the changes of the tree (`writers_meet_few`), so that in
-//! every run changes, and the numbers that others take, pay for all steps.
+//! Last look at `writers_go_on` and `runs_make_progress`: a writer seldom meets what is gone, by the changes of the tree (`writers_meet_few`). So in every run
+//! changes, and the numbers that others take, pay for all steps.
 //!
-//! Called by `step_core` and `running_tree`, which say of their runs what comes of it; the others are there for who concludes them. It knows what
-//! the theorem says of a trace (`op_machine`, specs/theorem), and, for readers beside removals, the invariant of the law, what an actor keeps, and
-//! what a reader's rounds make of an answer.
+//! Called by `step_core` and `running_tree`, whose contracts have the bounds of their runs; the other laws are for whoever needs them. It knows the theorem
+//! about a trace (`op_machine`, specs/theorem), and, for readers beside removals, the invariant of the law, what an actor keeps, and what a reader's rounds
+//! make of an answer.
 #![tactic(auto)]
 
 mod examples;

@@ -13,7 +13,7 @@ use seats::BUDGET;
 use std::alloc::Allocator;
 use std::sync::Wait;
 
-/// Runs a command to its end, whatever that takes. Nothing promises that others leave it to end.
+/// Runs a command to completion, however many steps that takes. It may never return while others hinder it.
 pub fn run_to_end<R: Wait, A: Allocator>(
     rt: &R,
     tree: &Tree<A>,

@@ -1,9 +1,10 @@
-//! Threads over one tree: works of the caller's own, each in a thread with a seat, and commands that run to their end, whatever that takes.
+//! Threads over one tree: works of the caller's own, each in a thread with a seat, and commands that run to completion, however many steps they
+//! take.
 //!
-//! Look first at `work_in_threads`, a caller's own work (`Work`) on each thread.
+//! Look first at `work_in_threads`, which does a caller's own work (`Work`) on each thread.
 //!
-//! Called by `workers`, which passes all of it on, and by `bench`, which needs no jobs. It knows no job; of a work it knows what that says
-//! of itself (`does`).
+//! Called by `workers`, which re-exports all of it, and by `bench`, which needs no jobs. It knows no job, and of a work only its ghost member
+//! `does`.
 #![tactic(auto)]
 
 mod endings;

@@ -10,7 +10,8 @@ use std::thread::{Threads, for_each_mut};
 use thiserror::Error;
 use tree_law::own_lasts;
 
-/// What a thread does over a tree with its seat. It may say by `does` what it comes to, and `work_in_threads` says the same of each work.
+/// What a thread does over a tree with its seat. Its ghost member `does` may state the outcome, and `work_in_threads` ensures that for each
+/// work.
 pub trait Work: Drop + Send {
     ghost use Rattle.std.specs.Prelude.{⊤};
     ghost use Rattle.running_tree.specs.Seats.{Seat};
@@ -35,7 +36,7 @@ pub enum WorksRefusal {
     Memory,
 }
 
-/// A refusal to do works, which hands them back.
+/// A refusal to do works, which returns them.
 #[derive(Drop)]
 pub struct WorksError<W: Work> {
     /// Why.
@@ -44,8 +45,9 @@ pub struct WorksError<W: Work> {
     pub works: Vec<W>,
 }
 
-/// Does all works at once, each in a thread of its own and with a seat of its own, one after another where threads can't be had. The
-/// seats are the list's last ones. Works and seats come back in their order, from a refusal as they were. To have seats meet: `gather`.
+/// Does all works at once, each in a thread of its own and with a seat of its own; one after another if threads can't be had. It takes the
+/// last seats of the list. Works and seats are returned in their order, from a refusal as they were. For order between the seats call
+/// `gather`.
 pub fn work_in_threads<R: Threads + Sync, W: Work>(
     rt: &R,
     tree: &Tree,

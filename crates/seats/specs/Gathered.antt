@@ -7,7 +7,7 @@ use Rattle.running_tree.specs.Notes.{HasHeeded, Note}
 use Rattle.running_tree.specs.Runs.{IsOneHistory, StartsWith}
 use Rattle.running_tree.specs.Seats.{IsSame, Seat, unfinished_command}
 
--- The same seat with the same calls, which may have seen more of others.
+-- One seat, before and after: it has the same calls, and may have seen more of others.
 pub record SeesOn (old new : Seat) : Type 0 where
   pub same : IsSame old new
   pub extends : Extends old.actor old.seen new.seen

@@ -8,7 +8,7 @@ use running_tree::{BwSeat, Tree};
 use std::alloc::Allocator;
 use tree_law::own_lasts;
 
-/// Makes all seats of a list see what any of them has seen, as after a join: whatever one does comes after all that. No step is taken.
+/// Lets all seats of a list see what any of them has seen, as after a join: whatever one does later comes after all that. It takes no step.
 pub fn gather<A: Allocator>(tree: &Tree<A>, seats: &mut Vec<BwSeat<A>, A>)
     requires own { AreSeatsOf tree.now seats.old.items }
     requires some { 1 ≤ vec_len seats.old }

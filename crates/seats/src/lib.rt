@@ -1,8 +1,8 @@
-//! What is simple over a running tree, and needs no threads: lists of its seats, and commands that run to their end.
+//! What is simple over a running tree, and needs no threads: lists of its seats (sessions), and commands that run to completion.
 //!
-//! Look first at `opened` and `reply`: a tree with seats at hand, and one command to its end.
+//! Look first at `opened` and `reply`: a tree with its seats, and one command run to completion.
 //!
-//! Called by `seat_threads` and `workers`, which passes all of it on; by `bench`; and by `bw_tree_c`, which may link no thread and nothing
+//! Called by `seat_threads` and `workers`, which re-exports all of it; by `bench`; and by `bw_tree_c`, which may link no thread and nothing
 //! that waits. It knows no job and no thread.
 #![tactic(auto)]
 

@@ -10,7 +10,7 @@ use bw_model::{Key, Limits, OpenError, Value};
 use running_tree::{BwSeat, Called, LOAD_BUDGET, LoadError, Tree};
 use std::alloc::Allocator;
 
-/// A tree with a seat for each actor, of which the last one is taken first; refused for want of memory alone.
+/// Opens an empty tree, with a list of its seats, one for each actor; `take_seat` takes the last one. It fails only if allocation does.
 pub fn opened<A: Allocator + Copy>(
     alloc: A,
     limits: Limits,
@@ -24,8 +24,8 @@ pub fn opened<A: Allocator + Copy>(
     Tree::<A>::open(alloc, limits)
 }
 
-/// A tree with these pairs, as those of a closed tree, with a seat for each actor, of which the last one is taken first; refused as
-/// `Tree::open_from` is.
+/// Opens a tree with exactly these pairs, whose keys ascend, and a list of its seats, one for each actor. It fails as `Tree::open_from`
+/// does.
 pub fn opened_from<A: Allocator + Copy>(
     alloc: A,
     limits: Limits,
@@ -55,7 +55,7 @@ pub fn take_seat(tree: &Tree, seats: &mut Vec<BwSeat>) -> Option<BwSeat>
     seats.pop()
 }
 
-/// Adds a seat to a list, as its last; hands it back where there is no memory for that.
+/// Adds a seat to a list, as its last; returns it as the error if allocation fails.
 pub fn give_seat(tree: &Tree, seats: &mut Vec<BwSeat>, seat: BwSeat) -> Result<(), BwSeat>
     requires own { AreSeatsOf tree.now seats.old.items }
     requires given { IsSeatOf tree.now seat }

@@ -18,15 +18,15 @@ pub const BUDGET: u32 = 1 << 16;
 /// Why there is no reply.
 #[derive(Clone, Copy, Debug, PartialEq, Eq, Error)]
 pub enum NoReply {
-    /// The seat has another operation, and stays as it is: end that first, by `resumed`.
+    /// The seat has another operation, and is as it was: complete that first, by `resumed`.
     #[error("the seat has another operation")]
     Busy,
-    /// The steps are spent, and the command stays in the seat: `resumed` goes on with it.
+    /// The steps are spent, and the command stays in the seat: `resumed` continues it.
     #[error("the steps are spent")]
     Spent,
 }
 
-/// Runs a command to its end, if the seat is idle and 65,536 steps are enough.
+/// Runs a command to completion, if the seat is idle and 65,536 steps are enough.
 pub fn reply(tree: &Tree, seat: &mut BwSeat, command: Command) -> Result<Reply, NoReply>
     requires own { IsSeatOf tree.now seat.old }
     ensures own { IsSeatOf tree.now seat.new }
@@ -47,7 +47,7 @@ pub fn reply(tree: &Tree, seat: &mut BwSeat, command: Command) -> Result<Reply, 
     }
 }
 
-/// Goes on with the operation of a seat for so many steps; none where it has none, which changes nothing.
+/// Continues the operation of a seat for at most so many steps; none if the seat has none, which changes nothing.
 pub fn resumed(tree: &Tree, seat: &mut BwSeat, budget: u32) -> Option<Called>
     requires own { IsSeatOf tree.now seat.old }
     ensures own { IsSeatOf tree.now seat.new }
@@ -65,7 +65,8 @@ pub fn resumed(tree: &Tree, seat: &mut BwSeat, budget: u32) -> Option<Called>
     Some(tree.resume(seat, budget))
 }
 
-/// Begins a command, if the seat is idle, and runs it for so many steps; none where it isn't, or there are no steps, which changes nothing.
+/// Begins a command, if the seat is idle, and runs it for at most so many steps; none if it isn't idle, or the budget is 0, which changes
+/// nothing.
 pub fn called(tree: &Tree, seat: &mut BwSeat, command: Command, budget: u32) -> Option<Called>
     requires own { IsSeatOf tree.now seat.old }
     ensures own { IsSeatOf tree.now seat.new }
@@ -83,8 +84,8 @@ pub fn called(tree: &Tree, seat: &mut BwSeat, command: Command, budget: u32) -> 
     Some(tree.call(seat, command, budget))
 }
 
-/// Begins a command as `called` does, where the reply comes into a place that the caller has, and the answer is whether the operation is done. A
-/// lookup then moves no reply's room.
+/// As `called`, but writes the reply into the caller's place, and returns whether the operation is done. A lookup then moves no reply's
+/// room.
 pub fn called_in(
     tree: &Tree,
     seat: &mut BwSeat,
@@ -108,7 +109,7 @@ pub fn called_in(
     Some(tree.call_in(seat, command, budget, reply))
 }
 
-/// Goes on as `resumed` does, where the reply comes into a place that the caller has, and the answer is whether the operation is done.
+/// As `resumed`, but writes the reply into the caller's place, and returns whether the operation is done.
 pub fn resumed_in(tree: &Tree, seat: &mut BwSeat, budget: u32, reply: &mut Reply) -> Option<bool>
     requires own { IsSeatOf tree.now seat.old }
     ensures own { IsSeatOf tree.now seat.new }

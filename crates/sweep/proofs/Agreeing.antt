@@ -1,10 +1,7 @@
 -- What each step of a sweep leaves of the agreement between a limbo and what is known.
-use Rattle.std.proofs.Common.{◌≡◌, ◌≢◌, ◌<◌, ◌≤◌, ◌++◌, ◌==◌, inl, inr, ℕ, zero, suc, List, [], ◌∷◌, length, Option, Some, None, Bool, true, false, refl, arith, IsTrue, length-append}
+use Rattle.std.proofs.Common.{◌≡◌, ◌≢◌, ◌<◌, ◌≤◌, ◌==◌, inl, inr, ℕ, zero, suc, [], ◌∷◌, Option, Some, None, Bool, true, false, refl, arith, IsTrue}
 use Rattle.std.specs.Prelude.{◌||◌, ltb, if◌then◌else◌, IfSome}
-use Rattle.std.proofs.lemmas.Bool.{cases_Bool, cases_lt, eq-eqb, lt-ltb, ltb-true, or_right, or_cases}
-use Rattle.std.proofs.lemmas.List.{get_or_append_left}
-use Rattle.std.proofs.lemmas.List.Sums.{AllPass-from_list_all}
-use Rattle.std.proofs.Math.Seq.{get_or-append_seam}
+use Rattle.std.proofs.lemmas.Bool.{and_parts, cases_Bool, cases_lt, eq-eqb, lt-ltb, ltb-false, ltb-true, or_right, or_cases}
 use Rattle.tree_limits.specs.declared.limits.Limits.{Limits}
 use Rattle.deltas.specs.Memory.{replaced_at}
 use Rattle.traces.specs.discipline.Discipline.{IsPassed}
@@ -14,6 +11,7 @@ use Rattle.epochs.specs.declared.entry.Stage.{Stage}
 use Rattle.epochs.specs.declared.entry.Stage.TheVariants.{Unstamped, Stamped, Passed}
 use Rattle.epochs.specs.Limbo.{compared_with, stamped_by}
 use Rattle.epochs.specs.Reclamation.{has_passed, may_be_freed}
+use Rattle.sweep.specs.Announced.{Announced, least_of, none_yet, with_next}
 use Rattle.sweep.specs.Kept.{Agrees, HavePassed, IsReadStamp}
 use Rattle.sweep.specs.Sweeps.{HaveTold, Told, other_at}
 use Rattle.sweep.proofs.Stages.{after}
@@ -55,17 +53,17 @@ read_agrees limits actor t last (Some (Passed stamp)) known.Unstamped later h = 
 read_agrees limits actor t last (Some (Passed stamp)) (known.Stamped epoch passed) later h = (read_before last t epoch later h.0, h.1, h.2)
 
 -- nobody is known to have announced anything, and all is stamped
-pub stamped_told : (actor t : ℕ) (stage : Option Stage) (limbo : known.LimboMark) → Told actor [] (after (stamped_by t) stage) limbo
+pub stamped_told : (actor t : ℕ) (stage : Option Stage) (limbo : known.LimboMark) → Told actor none_yet (after (stamped_by t) stage) limbo
 stamped_told actor t None limbo = tt
 stamped_told actor t (Some Unstamped) known.Absent = tt
 stamped_told actor t (Some Unstamped) known.Unstamped = tt
-stamped_told actor t (Some Unstamped) (known.Stamped epoch passed) = λ place lt. absurd (omega (arith, lt))
+stamped_told actor t (Some Unstamped) (known.Stamped epoch passed) = λ has place lt. absurd (omega (arith, lt))
 stamped_told actor t (Some (Stamped stamp)) known.Absent = tt
 stamped_told actor t (Some (Stamped stamp)) known.Unstamped = tt
-stamped_told actor t (Some (Stamped stamp)) (known.Stamped epoch passed) = λ place lt. absurd (omega (arith, lt))
+stamped_told actor t (Some (Stamped stamp)) (known.Stamped epoch passed) = λ has place lt. absurd (omega (arith, lt))
 stamped_told actor t (Some (Passed stamp)) known.Absent = tt
 stamped_told actor t (Some (Passed stamp)) known.Unstamped = tt
-stamped_told actor t (Some (Passed stamp)) (known.Stamped epoch passed) = λ place lt. absurd (omega (arith, lt))
+stamped_told actor t (Some (Passed stamp)) (known.Stamped epoch passed) = λ has place lt. absurd (omega (arith, lt))
 
 -- ---- an announced epoch was read
 -- those that are known to have passed, then
@@ -105,27 +103,50 @@ announced_agrees limits actor other n last (Some (Passed stamp)) known.Absent h 
 announced_agrees limits actor other n last (Some (Passed stamp)) known.Unstamped h = absurd h
 announced_agrees limits actor other n last (Some (Passed stamp)) (known.Stamped epoch passed) h = (h.0, h.1, λ a below apart. still_passed other n epoch passed a (h.2 a below apart))
 
-more_told : (actor n : ℕ) (announces : List ℕ) (stamp epoch : ℕ) (passed : ℕ → Bool) → epoch ≤ stamp → HaveTold actor announces stamp passed
-    → HaveTold actor (announces ++ n ∷ []) stamp (passed_then (other_at actor (length announces)) n epoch passed)
-more_told actor n announces stamp epoch passed low h place lt has = elim (cases_lt place (length announces)) [
-  | inl before ↦ still_passed (other_at actor (length announces)) n epoch passed (other_at actor place) (h place before (rw (get_or_append_left announces (n ∷ []) 0 place before) at has))
-  | inr after ↦
-      let last : place ≡ length announces = omega (arith, after, lt, length-append announces (n ∷ [])) in
-      let heard : IsTrue (has_passed stamp n) = rw (last, get_or-append_seam announces n [] 0) at has in
-      rw last (now_passed (other_at actor (length announces)) n epoch passed (passes_below epoch stamp n low heard))
+-- what is above an epoch that lets the stamp pass lets it pass
+above_passed : (stamp one other : ℕ) → (other == 0) ≡ false → other ≤ one → IsTrue (has_passed stamp other) → IsTrue (has_passed stamp one)
+above_passed stamp one other some above has = elim (or_cases (other == 0) (ltb stamp other) has) [
+  | inl none ↦ absurd (let h : true ≡ false = rw none at some in cc)
+  | inr far ↦ or_right (one == 0) (ltb stamp one) (lt-ltb stamp one (let below = ltb-true stamp other far in omega (arith, below, above)))
 ]
 
-pub announced_told : (limits : Limits) (actor n : ℕ) (announces : List ℕ) (last : Option ℕ) (stage : Option Stage) (limbo : known.LimboMark)
-    → Agrees limits actor last stage limbo → Told actor announces stage limbo
-    → Told actor (announces ++ n ∷ []) stage (passed_by (other_at actor (length announces)) n limbo)
-announced_told limits actor n announces last None limbo h told = tt
-announced_told limits actor n announces last (Some Unstamped) limbo h told = absurd told
-announced_told limits actor n announces last (Some (Stamped stamp)) known.Absent h told = tt
-announced_told limits actor n announces last (Some (Stamped stamp)) known.Unstamped h told = tt
-announced_told limits actor n announces last (Some (Stamped stamp)) (known.Stamped epoch passed) h told = more_told actor n announces stamp epoch passed h.1 told
-announced_told limits actor n announces last (Some (Passed stamp)) known.Absent h told = tt
-announced_told limits actor n announces last (Some (Passed stamp)) known.Unstamped h told = tt
-announced_told limits actor n announces last (Some (Passed stamp)) (known.Stamped epoch passed) h told = more_told actor n announces stamp epoch passed h.1 told
+-- what the least epoch lets pass both do
+both_passed : (stamp one other : ℕ) → IsTrue (has_passed stamp (least_of one other)) → IsTrue (has_passed stamp one) × IsTrue (has_passed stamp other)
+both_passed stamp one other has = elim (cases_Bool (one == 0)) [
+  | inl none ↦ (rw none refl, rw none at has)
+  | inr some ↦ elim (cases_Bool (other == 0)) [
+    | inl none ↦ (rw (some, none) at has, rw none refl)
+    | inr there ↦ elim (cases_Bool (ltb other one)) [
+      | inl below ↦
+          let least : IsTrue (has_passed stamp other) = rw (some, there, below) at has in
+          (above_passed stamp one other there (let lt = ltb-true other one below in omega (arith, lt)) least, least)
+      | inr above ↦ (let least : IsTrue (has_passed stamp one) = rw (some, there, above) at has in (least, above_passed stamp other one some (ltb-false other one above) least))
+    ]
+  ]
+]
+
+more_told : (actor n : ℕ) (announced : Announced) (stamp epoch : ℕ) (passed : ℕ → Bool) → epoch ≤ stamp → HaveTold actor announced stamp passed
+    → HaveTold actor (with_next n announced) stamp (passed_then (other_at actor announced.count) n epoch passed)
+more_told actor n announced stamp epoch passed low h has place lt =
+    let both = both_passed stamp announced.least n has in
+    elim (cases_lt place announced.count) [
+      | inl before ↦ still_passed (other_at actor announced.count) n epoch passed (other_at actor place) (h both.0 place before)
+      | inr after ↦
+          let last : place ≡ announced.count = omega (arith, after, lt) in
+          rw last (now_passed (other_at actor announced.count) n epoch passed (passes_below epoch stamp n low both.1))
+    ]
+
+pub announced_told : (limits : Limits) (actor n : ℕ) (announced : Announced) (last : Option ℕ) (stage : Option Stage) (limbo : known.LimboMark)
+    → Agrees limits actor last stage limbo → Told actor announced stage limbo
+    → Told actor (with_next n announced) stage (passed_by (other_at actor announced.count) n limbo)
+announced_told limits actor n announced last None limbo h told = tt
+announced_told limits actor n announced last (Some Unstamped) limbo h told = absurd told
+announced_told limits actor n announced last (Some (Stamped stamp)) known.Absent h told = tt
+announced_told limits actor n announced last (Some (Stamped stamp)) known.Unstamped h told = tt
+announced_told limits actor n announced last (Some (Stamped stamp)) (known.Stamped epoch passed) h told = more_told actor n announced stamp epoch passed h.1 told
+announced_told limits actor n announced last (Some (Passed stamp)) known.Absent h told = tt
+announced_told limits actor n announced last (Some (Passed stamp)) known.Unstamped h told = tt
+announced_told limits actor n announced last (Some (Passed stamp)) (known.Stamped epoch passed) h told = more_told actor n announced stamp epoch passed h.1 told
 
 -- ---- all other actors have been read
 -- each other actor has a place
@@ -146,33 +167,33 @@ place_of limits actor other inside below apart = elim (cases_lt other actor) [
       ]),
     )
 
-all_passed : (limits : Limits) (actor stamp : ℕ) (announces : List ℕ) (passed : ℕ → Bool) → actor < limits.actors → limits.actors ≤ suc (length announces)
-    → may_be_freed stamp announces ≡ true → HaveTold actor announces stamp passed → HavePassed limits actor passed
-all_passed limits actor stamp announces passed inside all free told other below apart =
+all_passed : (limits : Limits) (actor stamp : ℕ) (announced : Announced) (passed : ℕ → Bool) → actor < limits.actors → limits.actors ≤ suc announced.count
+    → may_be_freed stamp (announced.least ∷ []) ≡ true → HaveTold actor announced stamp passed → HavePassed limits actor passed
+all_passed limits actor stamp announced passed inside all free told other below apart =
     let at = place_of limits actor other inside below apart in
-    let lt : at.0 < length announces = (let small = at.1 in omega (arith, small, all)) in
-    rw at.2 at (told at.0 lt (AllPass-from_list_all (has_passed stamp) announces free at.0 0 lt))
+    let lt : at.0 < announced.count = (let small = at.1 in omega (arith, small, all)) in
+    rw at.2 at (told (and_parts (has_passed stamp announced.least) true free).0 at.0 lt)
 
-freed_agrees : (limits : Limits) (actor : ℕ) (last : Option ℕ) (announces : List ℕ) (stamp epoch : ℕ) (passed : ℕ → Bool) → actor < limits.actors
-    → limits.actors ≤ suc (length announces) → IsReadStamp last epoch → epoch ≤ stamp → HaveTold actor announces stamp passed
-    → Agrees limits actor last (Some (if may_be_freed stamp announces then Passed stamp else Stamped stamp)) (known.Stamped epoch passed)
-freed_agrees limits actor last announces stamp epoch passed inside all was low told = elim (may_be_freed stamp announces) as
-    (λ b. may_be_freed stamp announces ≡ b → Agrees limits actor last (Some (if b then Passed stamp else Stamped stamp)) (known.Stamped epoch passed)) [
-      | true ↦ λ e. (was, low, all_passed limits actor stamp announces passed inside all e told)
+freed_agrees : (limits : Limits) (actor : ℕ) (last : Option ℕ) (announced : Announced) (stamp epoch : ℕ) (passed : ℕ → Bool) → actor < limits.actors
+    → limits.actors ≤ suc announced.count → IsReadStamp last epoch → epoch ≤ stamp → HaveTold actor announced stamp passed
+    → Agrees limits actor last (Some (if may_be_freed stamp (announced.least ∷ []) then Passed stamp else Stamped stamp)) (known.Stamped epoch passed)
+freed_agrees limits actor last announced stamp epoch passed inside all was low told = elim (may_be_freed stamp (announced.least ∷ [])) as
+    (λ b. may_be_freed stamp (announced.least ∷ []) ≡ b → Agrees limits actor last (Some (if b then Passed stamp else Stamped stamp)) (known.Stamped epoch passed)) [
+      | true ↦ λ e. (was, low, all_passed limits actor stamp announced passed inside all e told)
       | false ↦ λ e. (was, low)
     ] refl
 
-pub compared_agrees : (limits : Limits) (actor : ℕ) (last : Option ℕ) (announces : List ℕ) (stage : Option Stage) (limbo : known.LimboMark)
-    → actor < limits.actors → limits.actors ≤ suc (length announces) → Agrees limits actor last stage limbo → Told actor announces stage limbo
-    → Agrees limits actor last (after (compared_with announces) stage) limbo
-compared_agrees limits actor last announces None limbo inside all h told = h
-compared_agrees limits actor last announces (Some Unstamped) limbo inside all h told = h
-compared_agrees limits actor last announces (Some (Stamped stamp)) known.Absent inside all h told = absurd h
-compared_agrees limits actor last announces (Some (Stamped stamp)) known.Unstamped inside all h told = absurd h
-compared_agrees limits actor last announces (Some (Stamped stamp)) (known.Stamped epoch passed) inside all h told = freed_agrees limits actor last announces stamp epoch passed inside all h.0 h.1 told
-compared_agrees limits actor last announces (Some (Passed stamp)) known.Absent inside all h told = absurd h
-compared_agrees limits actor last announces (Some (Passed stamp)) known.Unstamped inside all h told = absurd h
-compared_agrees limits actor last announces (Some (Passed stamp)) (known.Stamped epoch passed) inside all h told = freed_agrees limits actor last announces stamp epoch passed inside all h.0 h.1 told
+pub compared_agrees : (limits : Limits) (actor : ℕ) (last : Option ℕ) (announced : Announced) (stage : Option Stage) (limbo : known.LimboMark)
+    → actor < limits.actors → limits.actors ≤ suc announced.count → Agrees limits actor last stage limbo → Told actor announced stage limbo
+    → Agrees limits actor last (after (compared_with (announced.least ∷ [])) stage) limbo
+compared_agrees limits actor last announced None limbo inside all h told = h
+compared_agrees limits actor last announced (Some Unstamped) limbo inside all h told = h
+compared_agrees limits actor last announced (Some (Stamped stamp)) known.Absent inside all h told = absurd h
+compared_agrees limits actor last announced (Some (Stamped stamp)) known.Unstamped inside all h told = absurd h
+compared_agrees limits actor last announced (Some (Stamped stamp)) (known.Stamped epoch passed) inside all h told = freed_agrees limits actor last announced stamp epoch passed inside all h.0 h.1 told
+compared_agrees limits actor last announced (Some (Passed stamp)) known.Absent inside all h told = absurd h
+compared_agrees limits actor last announced (Some (Passed stamp)) known.Unstamped inside all h told = absurd h
+compared_agrees limits actor last announced (Some (Passed stamp)) (known.Stamped epoch passed) inside all h told = freed_agrees limits actor last announced stamp epoch passed inside all h.0 h.1 told
 
 -- what may be freed each other actor has passed
 pub may_free : (limits : Limits) (actor stamp : ℕ) (last : Option ℕ) (limbo : known.LimboMark) → Agrees limits actor last (Some (Passed stamp)) limbo → IsPassed limits actor limbo

@@ -1,5 +1,5 @@
 -- What an answer leaves a sweep in: what is known then.
-use Rattle.std.proofs.Common.{◌≡◌, ◌<◌, ◌≤◌, ◌/◌, ◌^◌, ◌++◌, inl, inr, ℕ, suc, List, [], ◌∷◌, length, eqb, Option, Some, None, Bool, true, false, refl, sym, ap, ◌∙◌, arith, IsFalse}
+use Rattle.std.proofs.Common.{◌≡◌, ◌<◌, ◌≤◌, ◌/◌, ◌^◌, inl, inr, ℕ, suc, List, [], ◌∷◌, eqb, Option, Some, None, Bool, true, false, refl, sym, ap, ◌∙◌, arith, IsFalse}
 use Rattle.std.specs.Prelude.{if◌then◌else◌, IfSome}
 use Rattle.std.specs.List.{list_any}
 use Rattle.std.proofs.lemmas.Bool.{cases_Bool, cases_lt, and_parts, or_parts}
@@ -21,6 +21,7 @@ use Rattle.epochs.specs.Limbo.{Limbo, LimboList, all_restaged, compared_with, fi
 use Rattle.epochs.specs.Words.{HandsOn, may_go, without}
 use Rattle.sweep.specs.declared.sweep.State.{State}
 use Rattle.sweep.specs.declared.sweep.State.TheVariants as state
+use Rattle.sweep.specs.Announced.{Announced, none_yet, with_next}
 use Rattle.sweep.specs.Kept.{Agrees, AreKept, IsLimboOf}
 use Rattle.sweep.specs.declared.sweep.TheConstants.{MOST_COMPARED}
 use Rattle.sweep.specs.Moves.{BeginsSweep, Compares, Frees, Moves, Stamps, after_comparing, has_unstamped, state_if}
@@ -83,48 +84,48 @@ module _ (limits : Limits) (actor : ℕ) where
   )
   frees_shows k limbo after (Some state.Epoch) kept frees = absurd frees
   frees_shows k limbo after (Some (state.Retire epoch)) kept frees = absurd frees
-  frees_shows k limbo after (Some (state.Announce announces)) kept frees = absurd frees
+  frees_shows k limbo after (Some (state.Announce announced)) kept frees = absurd frees
 
-  all_kept : (announces : List ℕ) (limbo : Limbo) (now : Limbos) → actor < limits.actors → limits.actors ≤ suc (length announces)
-      → AreKept limits actor limbo now → AreTold actor announces limbo now → AreKept limits actor (all_restaged (compared_with announces) limbo) now
-  all_kept announces limbo now inside all kept told = record {
+  all_kept : (announced : Announced) (limbo : Limbo) (now : Limbos) → actor < limits.actors → limits.actors ≤ suc announced.count
+      → AreKept limits actor limbo now → AreTold actor announced limbo now → AreKept limits actor (all_restaged (compared_with (announced.least ∷ [])) limbo) now
+  all_kept announced limbo now inside all kept told = record {
     lists = record { rows = kept.lists.rows; pids = kept.lists.pids };
     rows =
-        λ row. rw (restaged_stage (compared_with announces) limbo.rows.entries row)
-        (compared_agrees limits actor now.epoch announces (stage_of limbo.rows row) (now.rows row) inside all (kept.rows row) (told.rows row));
+        λ row. rw (restaged_stage (compared_with (announced.least ∷ [])) limbo.rows.entries row)
+        (compared_agrees limits actor now.epoch announced (stage_of limbo.rows row) (now.rows row) inside all (kept.rows row) (told.rows row));
     pids =
-        λ pid. rw (restaged_stage (compared_with announces) limbo.pids.entries pid)
-        (compared_agrees limits actor now.epoch announces (stage_of limbo.pids pid) (now.pids pid) inside all (kept.pids pid) (told.pids pid));
+        λ pid. rw (restaged_stage (compared_with (announced.least ∷ [])) limbo.pids.entries pid)
+        (compared_agrees limits actor now.epoch announced (stage_of limbo.pids pid) (now.pids pid) inside all (kept.pids pid) (told.pids pid));
   }
 
-  first_kept : (most : ℕ) (announces : List ℕ) (limbo : Limbo) (now : Limbos) → actor < limits.actors → limits.actors ≤ suc (length announces)
-      → AreKept limits actor limbo now → AreTold actor announces limbo now → AreKept limits actor (firsts_restaged most (compared_with announces) limbo) now
-  first_kept most announces limbo now inside all kept told = record {
+  first_kept : (most : ℕ) (announced : Announced) (limbo : Limbo) (now : Limbos) → actor < limits.actors → limits.actors ≤ suc announced.count
+      → AreKept limits actor limbo now → AreTold actor announced limbo now → AreKept limits actor (firsts_restaged most (compared_with (announced.least ∷ [])) limbo) now
+  first_kept most announced limbo now inside all kept told = record {
     lists = record { rows = kept.lists.rows; pids = kept.lists.pids };
-    rows = λ row. elim (first_stage (compared_with announces) most limbo.rows.entries row) [
-      | inl changed ↦ rw changed (compared_agrees limits actor now.epoch announces (stage_of limbo.rows row) (now.rows row) inside all (kept.rows row) (told.rows row))
+    rows = λ row. elim (first_stage (compared_with (announced.least ∷ [])) most limbo.rows.entries row) [
+      | inl changed ↦ rw changed (compared_agrees limits actor now.epoch announced (stage_of limbo.rows row) (now.rows row) inside all (kept.rows row) (told.rows row))
       | inr same ↦ rw same (kept.rows row)
     ];
-    pids = λ pid. elim (first_stage (compared_with announces) most limbo.pids.entries pid) [
-      | inl changed ↦ rw changed (compared_agrees limits actor now.epoch announces (stage_of limbo.pids pid) (now.pids pid) inside all (kept.pids pid) (told.pids pid))
+    pids = λ pid. elim (first_stage (compared_with (announced.least ∷ [])) most limbo.pids.entries pid) [
+      | inl changed ↦ rw changed (compared_agrees limits actor now.epoch announced (stage_of limbo.pids pid) (now.pids pid) inside all (kept.pids pid) (told.pids pid))
       | inr same ↦ rw same (kept.pids pid)
     ];
   }
 
-  compared_kept : (announces : List ℕ) (limbo : Limbo) (now : Limbos) → actor < limits.actors → limits.actors ≤ suc (length announces)
-      → AreKept limits actor limbo now → AreTold actor announces limbo now → AreKept limits actor (after_comparing limits announces limbo) now
-  compared_kept announces limbo now inside all kept told = elim limits.is_large as
-      (λ b. AreKept limits actor (if b then firsts_restaged MOST_COMPARED (compared_with announces) limbo else all_restaged (compared_with announces) limbo) now) [
-        | true ↦ first_kept MOST_COMPARED announces limbo now inside all kept told
-        | false ↦ all_kept announces limbo now inside all kept told
+  compared_kept : (announced : Announced) (limbo : Limbo) (now : Limbos) → actor < limits.actors → limits.actors ≤ suc announced.count
+      → AreKept limits actor limbo now → AreTold actor announced limbo now → AreKept limits actor (after_comparing limits announced.least limbo) now
+  compared_kept announced limbo now inside all kept told = elim limits.is_large as
+      (λ b. AreKept limits actor (if b then firsts_restaged MOST_COMPARED (compared_with (announced.least ∷ [])) limbo else all_restaged (compared_with (announced.least ∷ [])) limbo) now) [
+        | true ↦ first_kept MOST_COMPARED announced limbo now inside all kept told
+        | false ↦ all_kept announced limbo now inside all kept told
       ]
 
-  pub compares_shows : (k : Knowledge) (announces : List ℕ) (limbo after : Limbo) (next : Option State) → actor < limits.actors
-      → AreKept limits actor limbo k.limbo → AreTold actor announces limbo k.limbo → Compares limits announces limbo next after
+  pub compares_shows : (k : Knowledge) (announced : Announced) (limbo after : Limbo) (next : Option State) → actor < limits.actors
+      → AreKept limits actor limbo k.limbo → AreTold actor announced limbo k.limbo → Compares limits announced limbo next after
       → ShowsNext limits actor next after k
-  compares_shows k announces limbo after next inside kept told compares = elim (cases_lt (suc (length announces)) limits.actors) [
+  compares_shows k announced limbo after next inside kept told compares = elim (cases_lt (suc announced.count) limits.actors) [
     | inl more ↦ let is = compares.reads more in rw (is.0, is.1) (kept, told)
-    | inr all ↦ frees_shows k (after_comparing limits announces limbo) after next (compared_kept announces limbo k.limbo inside all kept told) (compares.frees all)
+    | inr all ↦ frees_shows k (after_comparing limits announced.least limbo) after next (compared_kept announced limbo k.limbo inside all kept told) (compares.frees all)
   ]
 
   -- ---- the epoch was read
@@ -136,7 +137,7 @@ module _ (limits : Limits) (actor : ℕ) where
     pids = λ pid. rw (restaged_stage (stamped_by epoch) limbo.pids.entries pid) (stamped_agrees limits actor epoch k.limbo.epoch (stage_of limbo.pids pid) (k.limbo.pids pid) later (kept.pids pid));
   }
 
-  all_stamped : (now : Limbos) (epoch : ℕ) (limbo : Limbo) → AreTold actor [] (all_restaged (stamped_by epoch) limbo) now
+  all_stamped : (now : Limbos) (epoch : ℕ) (limbo : Limbo) → AreTold actor none_yet (all_restaged (stamped_by epoch) limbo) now
   all_stamped now epoch limbo = record {
     rows = λ row. rw (restaged_stage (stamped_by epoch) limbo.rows.entries row) (stamped_told actor epoch (stage_of limbo.rows row) (now.rows row));
     pids = λ pid. rw (restaged_stage (stamped_by epoch) limbo.pids.entries pid) (stamped_told actor epoch (stage_of limbo.pids pid) (now.pids pid));
@@ -151,22 +152,22 @@ module _ (limits : Limits) (actor : ℕ) where
       let told_now = all_stamped now.limbo epoch limbo in
       elim (cases_lt epoch (2 ^ 62)) [
         | inl below ↦ let is = stamps.retires below in rw (is.0, is.1) (kept_now, told_now)
-        | inr last ↦ compares_shows now [] (all_restaged (stamped_by epoch) limbo) after next inside kept_now told_now (stamps.last last)
+        | inr last ↦ compares_shows now none_yet (all_restaged (stamped_by epoch) limbo) after next inside kept_now told_now (stamps.last last)
       ]
 
   -- ---- an announced epoch was read
-  announced_kept : (k : Knowledge) (announces : List ℕ) (n : ℕ) (limbo : Limbo) → AreKept limits actor limbo k.limbo → AreTold actor announces limbo k.limbo
-      → AreKept limits actor limbo (learn k (step.Announce (other_at actor (length announces))) (answer.Number n)).limbo × AreTold actor (announces ++ n ∷ [])
-      limbo (learn k (step.Announce (other_at actor (length announces))) (answer.Number n)).limbo
-  announced_kept k announces n limbo kept told = (
+  announced_kept : (k : Knowledge) (announced : Announced) (n : ℕ) (limbo : Limbo) → AreKept limits actor limbo k.limbo → AreTold actor announced limbo k.limbo
+      → AreKept limits actor limbo (learn k (step.Announce (other_at actor announced.count)) (answer.Number n)).limbo × AreTold actor (with_next n announced)
+      limbo (learn k (step.Announce (other_at actor announced.count)) (answer.Number n)).limbo
+  announced_kept k announced n limbo kept told = (
     record {
       lists = kept.lists;
-      rows = λ row. announced_agrees limits actor (other_at actor (length announces)) n k.limbo.epoch (stage_of limbo.rows row) (k.limbo.rows row) (kept.rows row);
-      pids = λ pid. announced_agrees limits actor (other_at actor (length announces)) n k.limbo.epoch (stage_of limbo.pids pid) (k.limbo.pids pid) (kept.pids pid);
+      rows = λ row. announced_agrees limits actor (other_at actor announced.count) n k.limbo.epoch (stage_of limbo.rows row) (k.limbo.rows row) (kept.rows row);
+      pids = λ pid. announced_agrees limits actor (other_at actor announced.count) n k.limbo.epoch (stage_of limbo.pids pid) (k.limbo.pids pid) (kept.pids pid);
     },
     record {
-      rows = λ row. announced_told limits actor n announces k.limbo.epoch (stage_of limbo.rows row) (k.limbo.rows row) (kept.rows row) (told.rows row);
-      pids = λ pid. announced_told limits actor n announces k.limbo.epoch (stage_of limbo.pids pid) (k.limbo.pids pid) (kept.pids pid) (told.pids pid);
+      rows = λ row. announced_told limits actor n announced k.limbo.epoch (stage_of limbo.rows row) (k.limbo.rows row) (kept.rows row) (told.rows row);
+      pids = λ pid. announced_told limits actor n announced k.limbo.epoch (stage_of limbo.pids pid) (k.limbo.pids pid) (kept.pids pid) (told.pids pid);
     },
   )
 
@@ -179,14 +180,14 @@ module _ (limits : Limits) (actor : ℕ) where
   moves_show k state.Epoch (answer.Content content) limbo after next inside fits shows moves = absurd fits
   moves_show k state.Epoch (answer.Whether b) limbo after next inside fits shows moves = absurd fits
   moves_show k state.Epoch answer.Done limbo after next inside fits shows moves = absurd fits
-  moves_show k (state.Retire epoch) told limbo after next inside fits shows moves = compares_shows k [] limbo after next inside shows.0 shows.1 moves
-  moves_show k (state.Announce announces) (answer.Number n) limbo after next inside fits shows moves =
-      let now = announced_kept k announces n limbo shows.0 shows.1 in
-      compares_shows (learn k (step.Announce (other_at actor (length announces))) (answer.Number n)) (announces ++ n ∷ []) limbo after next inside now.0 now.1 moves
-  moves_show k (state.Announce announces) answer.Start limbo after next inside fits shows moves = absurd fits
-  moves_show k (state.Announce announces) (answer.Content content) limbo after next inside fits shows moves = absurd fits
-  moves_show k (state.Announce announces) (answer.Whether b) limbo after next inside fits shows moves = absurd fits
-  moves_show k (state.Announce announces) answer.Done limbo after next inside fits shows moves = absurd fits
+  moves_show k (state.Retire epoch) told limbo after next inside fits shows moves = compares_shows k none_yet limbo after next inside shows.0 shows.1 moves
+  moves_show k (state.Announce announced) (answer.Number n) limbo after next inside fits shows moves =
+      let now = announced_kept k announced n limbo shows.0 shows.1 in
+      compares_shows (learn k (step.Announce (other_at actor announced.count)) (answer.Number n)) (with_next n announced) limbo after next inside now.0 now.1 moves
+  moves_show k (state.Announce announced) answer.Start limbo after next inside fits shows moves = absurd fits
+  moves_show k (state.Announce announced) (answer.Content content) limbo after next inside fits shows moves = absurd fits
+  moves_show k (state.Announce announced) (answer.Whether b) limbo after next inside fits shows moves = absurd fits
+  moves_show k (state.Announce announced) answer.Done limbo after next inside fits shows moves = absurd fits
   moves_show k (state.Reuse (Rows word bits)) told limbo after next inside fits shows moves = frees_shows (learn k (step.ReuseRows word bits) told) limbo after next shows.1 moves
   moves_show k (state.Reuse (Pids word bits)) told limbo after next inside fits shows moves = frees_shows (learn k (step.ReusePids word bits) told) limbo after next shows.1 moves
 
@@ -199,11 +200,11 @@ module _ (limits : Limits) (actor : ℕ) where
   only_limbo k state.Epoch (answer.Whether b) fits = absurd fits
   only_limbo k state.Epoch answer.Done fits = absurd fits
   only_limbo k (state.Retire epoch) told fits = refl
-  only_limbo k (state.Announce announces) (answer.Number n) fits = refl
-  only_limbo k (state.Announce announces) answer.Start fits = absurd fits
-  only_limbo k (state.Announce announces) (answer.Content content) fits = absurd fits
-  only_limbo k (state.Announce announces) (answer.Whether b) fits = absurd fits
-  only_limbo k (state.Announce announces) answer.Done fits = absurd fits
+  only_limbo k (state.Announce announced) (answer.Number n) fits = refl
+  only_limbo k (state.Announce announced) answer.Start fits = absurd fits
+  only_limbo k (state.Announce announced) (answer.Content content) fits = absurd fits
+  only_limbo k (state.Announce announced) (answer.Whether b) fits = absurd fits
+  only_limbo k (state.Announce announced) answer.Done fits = absurd fits
   only_limbo k (state.Reuse (Rows word bits)) told fits = refl
   only_limbo k (state.Reuse (Pids word bits)) told fits = refl
 
@@ -234,15 +235,15 @@ has_stamp (e ∷ es) stamped n is =
       | false ↦ has_stamp es both.1 n
     ] is
 
-told_first : (actor : ℕ) (stage : Option Stage) (limbo : known.LimboMark) → (stage ≡ Some Unstamped → ⊥) → Told actor [] stage limbo
+told_first : (actor : ℕ) (stage : Option Stage) (limbo : known.LimboMark) → (stage ≡ Some Unstamped → ⊥) → Told actor none_yet stage limbo
 told_first actor None limbo stamped = tt
 told_first actor (Some Unstamped) limbo stamped = absurd (stamped refl)
 told_first actor (Some (Stamped stamp)) known.Absent stamped = tt
 told_first actor (Some (Stamped stamp)) known.Unstamped stamped = tt
-told_first actor (Some (Stamped stamp)) (known.Stamped epoch passed) stamped = λ place lt. absurd (omega (arith, lt))
+told_first actor (Some (Stamped stamp)) (known.Stamped epoch passed) stamped = λ has place lt. absurd (omega (arith, lt))
 told_first actor (Some (Passed stamp)) known.Absent stamped = tt
 told_first actor (Some (Passed stamp)) known.Unstamped stamped = tt
-told_first actor (Some (Passed stamp)) (known.Stamped epoch passed) stamped = λ place lt. absurd (omega (arith, lt))
+told_first actor (Some (Passed stamp)) (known.Stamped epoch passed) stamped = λ has place lt. absurd (omega (arith, lt))
 
 pub begins_show : (limits : Limits) (actor : ℕ) (limbo after : Limbo) (first : Option State) → actor < limits.actors → BeginsSweep limits limbo first after
     → (k : Knowledge) → AreKept limits actor limbo k.limbo → ShowsNext limits actor first after k
@@ -252,7 +253,7 @@ begins_show limits actor limbo after first inside begins k kept = elim (no_item 
     | inl unstamped ↦ let is = begins.epoch unstamped in rw (is.0, is.1) kept
     | inr stamped ↦
         let both = or_parts (list_any (λ (entry : Entry). is_unstamped entry.stage) limbo.rows.entries) (list_any (λ (entry : Entry). is_unstamped entry.stage) limbo.pids.entries) stamped in
-        compares_shows limits actor k [] limbo after first inside kept (record {
+        compares_shows limits actor k none_yet limbo after first inside kept (record {
           rows = λ row. told_first actor (stage_of limbo.rows row) (k.limbo.rows row) (has_stamp limbo.rows.entries both.0 row);
           pids = λ pid. told_first actor (stage_of limbo.pids pid) (k.limbo.pids pid) (has_stamp limbo.pids.entries both.1 pid);
         }) (begins.stamped some stamped)

@@ -1,6 +1,6 @@
 -- A sweep of a large tree is short.
 use Rattle.std.proofs.Common.{◌+◌, ◌≡◌, ◌<◌, ◌≤◌, ◌*◌, ◌-◌, ◌/◌, ◌^◌, ◌++◌, ◌∙◌, inl, inr, refl, ap, arith}
-use Rattle.std.proofs.Common.{ℕ, zero, suc, List, [], ◌∷◌, drop, length, length-append, take, eqb, Option, Some, None, Bool, true, false}
+use Rattle.std.proofs.Common.{ℕ, zero, suc, List, [], ◌∷◌, drop, take, eqb, Option, Some, None, Bool, true, false}
 use Rattle.std.specs.Prelude.{◌&&◌, not, if◌then◌else◌}
 use Rattle.std.specs.List.{filter}
 use Rattle.std.proofs.lemmas.Bool.{and_parts, cases_Bool, cases_lt, eq-eqb, eqb-true, or_cases, or_parts}
@@ -13,10 +13,10 @@ use Rattle.epochs.specs.declared.entry.Stage.{Stage}
 use Rattle.epochs.specs.declared.entry.Stage.TheVariants.{Unstamped, Stamped, Passed}
 use Rattle.epochs.specs.declared.item.Item.{Item}
 use Rattle.epochs.specs.declared.item.Item.TheVariants.{Row, Pid}
-use Rattle.epochs.specs.declared.item.Reuse.{Reuse}
 use Rattle.epochs.specs.declared.item.Reuse.TheVariants.{Rows, Pids}
 use Rattle.epochs.specs.Limbo.{Limbo, LimboList, all_restaged, compared_with, first_restaged, is_passed, with_stages, stamped_by, with_item}
 use Rattle.epochs.specs.Words.{HandsNothingOn, HandsOn, HasNone, may_go, without}
+use Rattle.sweep.specs.Announced.{Announced, none_yet, with_next}
 use Rattle.sweep.specs.declared.sweep.State.{State}
 use Rattle.sweep.specs.declared.sweep.State.TheVariants as state
 use Rattle.sweep.specs.declared.sweep.TheConstants.{MOST_COMPARED}
@@ -144,95 +144,89 @@ hands_none : (list now : LimboList) → HandsNothingOn list now → count_free n
 hands_none list now hands = rw hands.rest (none_free list.entries hands.none)
 
 -- what a sweep frees next
-frees_short : (limbo after : Limbo) (next : Option State) (bound : ℕ) → free_now limbo < bound → Frees limbo next after → GoesShort bound next after
-frees_short limbo after None bound few frees = let rows = hands_none limbo.rows after.rows frees.0 in let pids = hands_none limbo.pids after.pids frees.1 in omega (arith, rows, pids)
-frees_short limbo after (Some (state.Reuse (Rows word bits))) bound few frees =
+frees_short : (limits : Limits) (limbo after : Limbo) (next : Option State) (bound : ℕ) → free_now limbo < bound → Frees limbo next after → GoesShort limits bound next after
+frees_short limits limbo after None bound few frees = let rows = hands_none limbo.rows after.rows frees.0 in let pids = hands_none limbo.pids after.pids frees.1 in omega (arith, rows, pids)
+frees_short limits limbo after (Some (state.Reuse (Rows word bits))) bound few frees =
     let rows = hands_fewer limbo.rows after.rows word bits frees.0 in
     let pids : count_free after.pids.entries ≡ count_free limbo.pids.entries = ap (λ (list : LimboList). count_free list.entries) frees.1 in
     (tt, omega (arith, rows, pids, few))
-frees_short limbo after (Some (state.Reuse (Pids word bits))) bound few frees =
+frees_short limits limbo after (Some (state.Reuse (Pids word bits))) bound few frees =
     let rows : count_free after.rows.entries ≡ count_free limbo.rows.entries = ap (λ (list : LimboList). count_free list.entries) frees.0.rest in
     let pids = hands_fewer limbo.pids after.pids word bits frees.1 in
     (tt, omega (arith, rows, pids, few))
-frees_short limbo after (Some state.Epoch) bound few frees = absurd frees
-frees_short limbo after (Some (state.Retire epoch)) bound few frees = absurd frees
-frees_short limbo after (Some (state.Announce announces)) bound few frees = absurd frees
+frees_short limits limbo after (Some state.Epoch) bound few frees = absurd frees
+frees_short limits limbo after (Some (state.Retire epoch)) bound few frees = absurd frees
+frees_short limits limbo after (Some (state.Announce announced)) bound few frees = absurd frees
 
 module _ (limits : Limits) (large : limits.is_large ≡ true) where
   -- of what is compared few may be freed
-  compared_few : (announces : List ℕ) (limbo : Limbo) → free_now limbo ≡ 0 → free_now (after_comparing limits announces limbo) ≤ 2 * MOST_COMPARED
-  compared_few announces limbo none =
-      let rows = first_few (compared_with announces) MOST_COMPARED limbo.rows.entries (omega (arith, none)) in
-      let pids = first_few (compared_with announces) MOST_COMPARED limbo.pids.entries (omega (arith, none)) in
+  compared_few : (least : ℕ) (limbo : Limbo) → free_now limbo ≡ 0 → free_now (after_comparing limits least limbo) ≤ 2 * MOST_COMPARED
+  compared_few least limbo none =
+      let rows = first_few (compared_with (least ∷ [])) MOST_COMPARED limbo.rows.entries (omega (arith, none)) in
+      let pids = first_few (compared_with (least ∷ [])) MOST_COMPARED limbo.pids.entries (omega (arith, none)) in
       rw large (omega (arith, rows, pids))
 
-  pub compares_short : (announces : List ℕ) (limbo after : Limbo) (next : Option State) → free_now limbo ≡ 0 → length announces ≤ 15 → Compares limits announces limbo next after
-      → GoesShort (suc (15 + 2 * MOST_COMPARED - length announces)) next after
-  compares_short announces limbo after next none short compares = elim (cases_lt (suc (length announces)) limits.actors) [
+  pub compares_short : (announced : Announced) (limbo after : Limbo) (next : Option State) → free_now limbo ≡ 0 → announced.count < limits.actors → Compares limits announced limbo next after
+      → GoesShort limits (suc (limits.actors + 2 * MOST_COMPARED - suc announced.count)) next after
+  compares_short announced limbo after next none short compares = elim (cases_lt (suc announced.count) limits.actors) [
     | inl more ↦ reads next (compares.reads more)
     | inr all ↦
-        let few = compared_few announces limbo none in
-        frees_short (after_comparing limits announces limbo) after next (suc (15 + 2 * MOST_COMPARED - length announces)) (omega (arith, few, short)) (compares.frees all)
+        let few = compared_few announced.least limbo none in
+        frees_short limits (after_comparing limits announced.least limbo) after next (suc (limits.actors + 2 * MOST_COMPARED - suc announced.count)) (omega (arith, few, short)) (compares.frees all)
   ]
     where
-      reads : (next : Option State) → (next ≡ Some (state.Announce announces)) × (after ≡ limbo) → GoesShort (suc (15 + 2 * MOST_COMPARED - length announces)) next after
+      reads : (next : Option State) → (next ≡ Some (state.Announce announced)) × (after ≡ limbo) → GoesShort limits (suc (limits.actors + 2 * MOST_COMPARED - suc announced.count)) next after
       reads next is = rw (is.0, is.1) (none, omega arith)
 
-  stamps_short : (epoch : ℕ) (limbo after : Limbo) (next : Option State) → free_now limbo ≡ 0 → Stamps limits epoch limbo next after → GoesShort most_short next after
+  stamps_short : (epoch : ℕ) (limbo after : Limbo) (next : Option State) → free_now limbo ≡ 0 → Stamps limits epoch limbo next after → GoesShort limits (most_short limits) next after
   stamps_short epoch limbo after next none stamps = elim (cases_lt epoch (2 ^ 62)) [
     | inl below ↦ (let is = stamps.retires below in rw (is.0, is.1) (still, omega arith))
-    | inr last ↦ further next (compares_short [] (all_restaged (stamped_by epoch) limbo) after next still (omega arith) (stamps.last last))
+    | inr last ↦ further next (compares_short none_yet (all_restaged (stamped_by epoch) limbo) after next still limits.allowed.some_actor (stamps.last last))
   ]
     where
       still : free_now (all_restaged (stamped_by epoch) limbo) ≡ 0
       still = let rows = stamped_same epoch limbo.rows.entries in let pids = stamped_same epoch limbo.pids.entries in omega (arith, rows, pids, none)
 
-      further : (next : Option State) → GoesShort (suc (15 + 2 * MOST_COMPARED - 0)) next after → GoesShort most_short next after
+      further : (next : Option State) → GoesShort limits (suc (limits.actors + 2 * MOST_COMPARED - 1)) next after → GoesShort limits (most_short limits) next after
       further None h = h
       further (Some next) h = (h.0, (let few = h.1 in omega (arith, few)))
 
   -- an answer leads on to fewer steps, or to the end
   pub moves_short : (old : State) (next : Option State) (told : Answer Record) (limbo after : Limbo) → IsSoundState limits old → IsClear old limbo → Moves limits old limbo told next after
-      → GoesShort (short_left old limbo) next after
+      → GoesShort limits (short_left limits old limbo) next after
   moves_short state.Epoch next (answer.Number n) limbo after sound clear moves = stamps_short n limbo after next clear moves
   moves_short state.Epoch next answer.Start limbo after sound clear moves = absurd moves
   moves_short state.Epoch next (answer.Content content) limbo after sound clear moves = absurd moves
   moves_short state.Epoch next (answer.Whether b) limbo after sound clear moves = absurd moves
   moves_short state.Epoch next answer.Done limbo after sound clear moves = absurd moves
-  moves_short (state.Retire epoch) next told limbo after sound clear moves = further next (compares_short [] limbo after next clear (omega arith) moves)
+  moves_short (state.Retire epoch) next told limbo after sound clear moves = further next (compares_short none_yet limbo after next clear limits.allowed.some_actor moves)
     where
-      further : (next : Option State) → GoesShort (suc (15 + 2 * MOST_COMPARED - 0)) next after → GoesShort (16 + 2 * MOST_COMPARED) next after
+      further : (next : Option State) → GoesShort limits (suc (limits.actors + 2 * MOST_COMPARED - 1)) next after → GoesShort limits (limits.actors + 2 * MOST_COMPARED) next after
       further None h = h
       further (Some next) h = (h.0, (let few = h.1 in omega (arith, few)))
-  moves_short (state.Announce announces) next (answer.Number n) limbo after sound clear moves =
-      further next (compares_short (announces ++ n ∷ []) limbo after next clear (omega (arith, more, sound, few)) moves)
+  moves_short (state.Announce announced) next (answer.Number n) limbo after sound clear moves =
+      further next (compares_short (with_next n announced) limbo after next clear (omega (arith, sound)) moves)
     where
-      more : length (announces ++ n ∷ []) ≡ suc (length announces)
-      more = let long = length-append announces (n ∷ []) in omega (arith, long)
-
-      few : limits.actors ≤ 16
-      few = limits.allowed.few_actors
-
-      further : (next : Option State) → GoesShort (suc (15 + 2 * MOST_COMPARED - length (announces ++ n ∷ []))) next after → GoesShort (15 + 2 * MOST_COMPARED - length announces) next after
+      further : (next : Option State) → GoesShort limits (suc (limits.actors + 2 * MOST_COMPARED - suc (suc announced.count))) next after → GoesShort limits (limits.actors + 2 * MOST_COMPARED - suc announced.count) next after
       further None h = h
-      further (Some next) h = (h.0, (let less = h.1 in omega (arith, less, more, sound, few)))
-  moves_short (state.Announce announces) next answer.Start limbo after sound clear moves = absurd moves
-  moves_short (state.Announce announces) next (answer.Content content) limbo after sound clear moves = absurd moves
-  moves_short (state.Announce announces) next (answer.Whether b) limbo after sound clear moves = absurd moves
-  moves_short (state.Announce announces) next answer.Done limbo after sound clear moves = absurd moves
-  moves_short (state.Reuse reuse) next told limbo after sound clear moves = frees_short limbo after next (suc (free_now limbo)) (omega arith) moves
+      further (Some next) h = (h.0, (let less = h.1 in omega (arith, less, sound)))
+  moves_short (state.Announce announced) next answer.Start limbo after sound clear moves = absurd moves
+  moves_short (state.Announce announced) next (answer.Content content) limbo after sound clear moves = absurd moves
+  moves_short (state.Announce announced) next (answer.Whether b) limbo after sound clear moves = absurd moves
+  moves_short (state.Announce announced) next answer.Done limbo after sound clear moves = absurd moves
+  moves_short (state.Reuse reuse) next told limbo after sound clear moves = frees_short limits limbo after next (suc (free_now limbo)) (omega arith) moves
 
   -- and so does the begin
-  pub begins_short : (limbo after : Limbo) (first : State) → free_now limbo ≡ 0 → BeginsSweep limits limbo (Some first) after → GoesShort (suc most_short) (Some first) after
+  pub begins_short : (limbo after : Limbo) (first : State) → free_now limbo ≡ 0 → BeginsSweep limits limbo (Some first) after → GoesShort limits (suc (most_short limits)) (Some first) after
   begins_short limbo after first none begins = elim (no_item limbo) [
     | inl empty ↦ absurd (cc ((begins.empty empty).0))
     | inr some ↦ elim (cases_Bool (has_unstamped limbo)) [
       | inl unstamped ↦ reads (Some first) (begins.epoch unstamped)
-      | inr stamped ↦ (let h = compares_short [] limbo after (Some first) none (omega arith) (begins.stamped some stamped) in (h.0, (let few = h.1 in omega (arith, few))))
+      | inr stamped ↦ (let h = compares_short none_yet limbo after (Some first) none limits.allowed.some_actor (begins.stamped some stamped) in (h.0, (let few = h.1 in omega (arith, few))))
     ]
   ]
     where
-      reads : (next : Option State) → (next ≡ Some state.Epoch) × (after ≡ limbo) → GoesShort (suc most_short) next after
+      reads : (next : Option State) → (next ≡ Some state.Epoch) × (after ≡ limbo) → GoesShort limits (suc (most_short limits)) next after
       reads next is = rw (is.0, is.1) (none, omega arith)
 
 -- what comes into limbo has no stamp
@@ -241,5 +235,5 @@ comes_free (Row row) limbo = let more = count_append limbo.rows.entries (record 
 comes_free (Pid pid) limbo = let more = count_append limbo.pids.entries (record { number = pid; stage = Unstamped } ∷ []) in omega (arith, more)
 
 pub begins_few : (limits : Limits) (limbo after : Limbo) (first : State) → limits.is_large ≡ true → free_now limbo ≡ 0 → BeginsSweep limits limbo (Some first) after
-    → IsClear first after × (short_left first after ≤ most_short)
+    → IsClear first after × (short_left limits first after ≤ most_short limits)
 begins_few limits limbo after first large none begins = let h = begins_short limits large limbo after first none begins in (h.0, (let few = h.1 in omega (arith, few)))

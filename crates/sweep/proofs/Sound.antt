@@ -1,5 +1,5 @@
 -- A sweep stays sound, and has fewer steps left after each answer.
-use Rattle.std.proofs.Common.{◌+◌, ◌≡◌, ◌<◌, ◌≤◌, ◌*◌, ◌-◌, ◌/◌, ◌^◌, ◌++◌, inl, inr, ℕ, suc, List, [], ◌∷◌, drop, length, length-append, take, eqb, Some, None}
+use Rattle.std.proofs.Common.{◌+◌, ◌≡◌, ◌<◌, ◌*◌, ◌-◌, ◌/◌, ◌^◌, inl, inr, ℕ, suc, List, [], ◌∷◌, drop, take, eqb, Some, None}
 use Rattle.std.proofs.Common.{Bool, true, false, refl, sym, ap, ◌∙◌, arith}
 use Rattle.std.specs.Prelude.{◌&&◌, if◌then◌else◌}
 use Rattle.std.specs.List.{All, list_any}
@@ -17,6 +17,7 @@ use Rattle.epochs.specs.declared.item.Reuse.{Reuse}
 use Rattle.epochs.specs.declared.item.Reuse.TheVariants.{Rows, Pids}
 use Rattle.epochs.specs.Limbo.{IsLimboList, Limbo, LimboList, all_restaged, compared_with, first_restaged, firsts_restaged, is_passed, is_unstamped, with_stages, stamped_by}
 use Rattle.epochs.specs.Words.{HandsNothingOn, HandsOn, HasNone, may_go}
+use Rattle.sweep.specs.Announced.{Announced, none_yet, with_next}
 use Rattle.sweep.specs.declared.sweep.State.{State}
 use Rattle.sweep.specs.declared.sweep.State.TheVariants as state
 use Rattle.sweep.specs.Bounded.{most_steps, reuses_left, steps_left}
@@ -92,15 +93,15 @@ module _ (limits : Limits) where
     lists = record { rows = whole.lists.rows; pids = whole.lists.pids };
   }
 
-  compared_whole : (announces : List ℕ) (limbo : Limbo) → IsWhole limits limbo → IsWhole limits (after_comparing limits announces limbo)
-  compared_whole announces limbo whole = elim limits.is_large as
-      (λ b. IsWhole limits (if b then firsts_restaged MOST_COMPARED (compared_with announces) limbo else all_restaged (compared_with announces) limbo)) [
+  compared_whole : (least : ℕ) (limbo : Limbo) → IsWhole limits limbo → IsWhole limits (after_comparing limits least limbo)
+  compared_whole least limbo whole = elim limits.is_large as
+      (λ b. IsWhole limits (if b then firsts_restaged MOST_COMPARED (compared_with (least ∷ [])) limbo else all_restaged (compared_with (least ∷ [])) limbo)) [
         | true ↦ record {
-          rows = first_below MOST_COMPARED (compared_with announces) limbo.rows whole.rows;
-          pids = first_below MOST_COMPARED (compared_with announces) limbo.pids whole.pids;
+          rows = first_below MOST_COMPARED (compared_with (least ∷ [])) limbo.rows whole.rows;
+          pids = first_below MOST_COMPARED (compared_with (least ∷ [])) limbo.pids whole.pids;
           lists = record { rows = whole.lists.rows; pids = whole.lists.pids };
         }
-        | false ↦ restaged_whole (compared_with announces) limbo whole
+        | false ↦ restaged_whole (compared_with (least ∷ [])) limbo whole
       ]
 
   -- the first reuse
@@ -123,7 +124,7 @@ module _ (limits : Limits) where
       }
   frees_follow limbo after state.Epoch whole frees = absurd frees
   frees_follow limbo after (state.Retire epoch) whole frees = absurd frees
-  frees_follow limbo after (state.Announce announces) whole frees = absurd frees
+  frees_follow limbo after (state.Announce announced) whole frees = absurd frees
 
   -- the next one has a later word
   later_follow : (limbo after : Limbo) (reuse : Reuse) (next : State) → IsWhole limits limbo → HasPlace limits reuse → ComesFirst reuse limbo
@@ -151,21 +152,21 @@ module _ (limits : Limits) where
       record { lists = h.lists; sound = h.sound; order = h.order; fewer = omega (arith, beyond, at, place, few) }
   later_follow limbo after reuse state.Epoch whole place first frees = absurd frees
   later_follow limbo after reuse (state.Retire epoch) whole place first frees = absurd frees
-  later_follow limbo after reuse (state.Announce announces) whole place first frees = absurd frees
+  later_follow limbo after reuse (state.Announce announced) whole place first frees = absurd frees
 
-  pub compares_follow : (announces : List ℕ) (limbo after : Limbo) (next : State) → IsWhole limits limbo → length announces ≤ 15
-      → Compares limits announces limbo (Some next) after → Follow limits after next (suc (limits.rows / 64 + limits.pids / 64 + 15 - length announces))
-  compares_follow announces limbo after next whole short compares = elim (cases_lt (suc (length announces)) limits.actors) [
+  pub compares_follow : (announced : Announced) (limbo after : Limbo) (next : State) → IsWhole limits limbo → announced.count < limits.actors
+      → Compares limits announced limbo (Some next) after → Follow limits after next (suc (limits.rows / 64 + limits.pids / 64 + limits.actors - suc announced.count))
+  compares_follow announced limbo after next whole short compares = elim (cases_lt (suc announced.count) limits.actors) [
     | inl more ↦ reads next (compares.reads more) more
     | inr all ↦
-        let h = frees_follow (after_comparing limits announces limbo) after next (compared_whole announces limbo whole) (compares.frees all) in
+        let h = frees_follow (after_comparing limits announced.least limbo) after next (compared_whole announced.least limbo whole) (compares.frees all) in
         record { lists = h.lists; sound = h.sound; order = h.order; fewer = (let few = h.fewer in omega (arith, few, short)) }
   ]
     where
-      reads : (next : State) → (Some next ≡ Some (state.Announce announces)) × (after ≡ limbo) → suc (length announces) < limits.actors
-          → Follow limits after next (suc (limits.rows / 64 + limits.pids / 64 + 15 - length announces))
+      reads : (next : State) → (Some next ≡ Some (state.Announce announced)) × (after ≡ limbo) → suc announced.count < limits.actors
+          → Follow limits after next (suc (limits.rows / 64 + limits.pids / 64 + limits.actors - suc announced.count))
       reads (state.Announce others) is more =
-          let same : others ≡ announces = cc (is.0) in
+          let same : others ≡ announced = cc (is.0) in
           rw (is.1, same) (record { lists = whole.lists; sound = more; order = tt; fewer = omega arith })
       reads state.Epoch is more = absurd (cc (is.0))
       reads (state.Retire epoch) is more = absurd (cc (is.0))
@@ -175,7 +176,7 @@ module _ (limits : Limits) where
   stamps_follow epoch limbo after next whole stamps = elim (cases_lt epoch (2 ^ 62)) [
     | inl below ↦ retires next (stamps.retires below) below
     | inr last ↦
-        let h = compares_follow [] (all_restaged (stamped_by epoch) limbo) after next (restaged_whole (stamped_by epoch) limbo whole) (omega arith) (stamps.last last) in
+        let h = compares_follow none_yet (all_restaged (stamped_by epoch) limbo) after next (restaged_whole (stamped_by epoch) limbo whole) limits.allowed.some_actor (stamps.last last) in
         record { lists = h.lists; sound = h.sound; order = h.order; fewer = (let few = h.fewer in omega (arith, few)) }
   ]
     where
@@ -184,7 +185,7 @@ module _ (limits : Limits) where
           let same : other ≡ epoch = cc (is.0) in
           rw (is.1, same) (record { lists = record { rows = whole.lists.rows; pids = whole.lists.pids }; sound = below; order = tt; fewer = omega arith })
       retires state.Epoch is below = absurd (cc (is.0))
-      retires (state.Announce announces) is below = absurd (cc (is.0))
+      retires (state.Announce announced) is below = absurd (cc (is.0))
       retires (state.Reuse reuse) is below = absurd (cc (is.0))
 
   moves_follow : (old next : State) (told : Answer Record) (limbo after : Limbo) → IsWhole limits limbo → IsSoundState limits old → IsInOrder old limbo
@@ -195,17 +196,15 @@ module _ (limits : Limits) where
   moves_follow state.Epoch next (answer.Whether b) limbo after whole sound order moves = absurd moves
   moves_follow state.Epoch next answer.Done limbo after whole sound order moves = absurd moves
   moves_follow (state.Retire epoch) next told limbo after whole sound order moves =
-      let h = compares_follow [] limbo after next whole (omega arith) moves in
+      let h = compares_follow none_yet limbo after next whole limits.allowed.some_actor moves in
       record { lists = h.lists; sound = h.sound; order = h.order; fewer = (let fewer = h.fewer in omega (arith, fewer)) }
-  moves_follow (state.Announce announces) next (answer.Number n) limbo after whole sound order moves =
-      let more : length (announces ++ n ∷ []) ≡ suc (length announces) = (let long = length-append announces (n ∷ []) in omega (arith, long)) in
-      let few = limits.allowed.few_actors in
-      let h = compares_follow (announces ++ n ∷ []) limbo after next whole (omega (arith, more, sound, few)) moves in
-      record { lists = h.lists; sound = h.sound; order = h.order; fewer = (let fewer = h.fewer in omega (arith, fewer, more, sound, few)) }
-  moves_follow (state.Announce announces) next answer.Start limbo after whole sound order moves = absurd moves
-  moves_follow (state.Announce announces) next (answer.Content content) limbo after whole sound order moves = absurd moves
-  moves_follow (state.Announce announces) next (answer.Whether b) limbo after whole sound order moves = absurd moves
-  moves_follow (state.Announce announces) next answer.Done limbo after whole sound order moves = absurd moves
+  moves_follow (state.Announce announced) next (answer.Number n) limbo after whole sound order moves =
+      let h = compares_follow (with_next n announced) limbo after next whole sound moves in
+      record { lists = h.lists; sound = h.sound; order = h.order; fewer = (let fewer = h.fewer in omega (arith, fewer, sound)) }
+  moves_follow (state.Announce announced) next answer.Start limbo after whole sound order moves = absurd moves
+  moves_follow (state.Announce announced) next (answer.Content content) limbo after whole sound order moves = absurd moves
+  moves_follow (state.Announce announced) next (answer.Whether b) limbo after whole sound order moves = absurd moves
+  moves_follow (state.Announce announced) next answer.Done limbo after whole sound order moves = absurd moves
   moves_follow (state.Reuse reuse) next told limbo after whole sound order moves = later_follow limbo after reuse next whole sound order moves
 
 -- a sweep that goes on
@@ -218,29 +217,29 @@ goes_on old new told limbo after rows pids sound swept same moves =
 
 -- ---- the begin
 -- what has a stamp may be freed where there is no other actor
-none_first : (e : Entry) (rest : List Entry) → is_unstamped e.stage ≡ false → HasNone (record e { stage = compared_with [] e.stage } ∷ rest) → ⊥
+none_first : (e : Entry) (rest : List Entry) → is_unstamped e.stage ≡ false → HasNone (record e { stage = compared_with (0 ∷ []) e.stage } ∷ rest) → ⊥
 none_first e rest stamped none = at_first e.stage refl
   where
-    may : is_passed (compared_with [] e.stage) ≡ true → may_go (record e { stage = compared_with [] e.stage } ∷ rest) e.number ≡ true
+    may : is_passed (compared_with (0 ∷ []) e.stage) ≡ true → may_go (record e { stage = compared_with (0 ∷ []) e.stage } ∷ rest) e.number ≡ true
     may passed = rw (eq-eqb e.number e.number refl, passed) refl
 
     at_first : (stage : Stage) → e.stage ≡ stage → ⊥
     at_first Unstamped is = (let h : true ≡ false = rw is at stamped in cc)
-    at_first (Stamped stamp) is = (let h : true ≡ false = sym (may (ap (λ s. is_passed (compared_with [] s)) is)) ∙ none e.number in cc)
-    at_first (Passed stamp) is = (let h : true ≡ false = sym (may (ap (λ s. is_passed (compared_with [] s)) is)) ∙ none e.number in cc)
+    at_first (Stamped stamp) is = (let h : true ≡ false = sym (may (ap (λ s. is_passed (compared_with (0 ∷ []) s)) is)) ∙ none e.number in cc)
+    at_first (Passed stamp) is = (let h : true ≡ false = sym (may (ap (λ s. is_passed (compared_with (0 ∷ []) s)) is)) ∙ none e.number in cc)
 
 none_left : (large : Bool) (entries : List Entry) → list_any (λ (entry : Entry). is_unstamped entry.stage) entries ≡ false
-    → HasNone (if large then first_restaged MOST_COMPARED (compared_with []) entries else with_stages (compared_with []) entries) → entries ≡ []
+    → HasNone (if large then first_restaged MOST_COMPARED (compared_with (0 ∷ [])) entries else with_stages (compared_with (0 ∷ [])) entries) → entries ≡ []
 none_left large [] stamped none = refl
 none_left true (e ∷ es) stamped none = absurd (none_first e _ (or_parts (is_unstamped e.stage) (list_any (λ (entry : Entry). is_unstamped entry.stage) es) stamped).0 none)
 none_left false (e ∷ es) stamped none = absurd (none_first e _ (or_parts (is_unstamped e.stage) (list_any (λ (entry : Entry). is_unstamped entry.stage) es) stamped).0 none)
 
 none_compared : (limits : Limits) (limbo : Limbo) → list_any (λ (entry : Entry). is_unstamped entry.stage) limbo.rows.entries ≡ false
-    → list_any (λ (entry : Entry). is_unstamped entry.stage) limbo.pids.entries ≡ false → HasNone (after_comparing limits [] limbo).rows.entries
-    → HasNone (after_comparing limits [] limbo).pids.entries → IsEmpty limbo
+    → list_any (λ (entry : Entry). is_unstamped entry.stage) limbo.pids.entries ≡ false → HasNone (after_comparing limits 0 limbo).rows.entries
+    → HasNone (after_comparing limits 0 limbo).pids.entries → IsEmpty limbo
 none_compared limits limbo rows pids = elim limits.is_large as (λ b. HasNone
-    (if b then firsts_restaged MOST_COMPARED (compared_with []) limbo else all_restaged (compared_with []) limbo).rows.entries → HasNone
-    (if b then firsts_restaged MOST_COMPARED (compared_with []) limbo else all_restaged (compared_with []) limbo).pids.entries → IsEmpty limbo) [
+    (if b then firsts_restaged MOST_COMPARED (compared_with (0 ∷ [])) limbo else all_restaged (compared_with (0 ∷ [])) limbo).rows.entries → HasNone
+    (if b then firsts_restaged MOST_COMPARED (compared_with (0 ∷ [])) limbo else all_restaged (compared_with (0 ∷ [])) limbo).pids.entries → IsEmpty limbo) [
       | true ↦ λ no_rows no_pids. (none_left true limbo.rows.entries rows no_rows, none_left true limbo.pids.entries pids no_pids)
       | false ↦ λ no_rows no_pids. (none_left false limbo.rows.entries rows no_rows, none_left false limbo.pids.entries pids no_pids)
     ]
@@ -270,7 +269,7 @@ begins_sound limits actor limbo after first rows pids lists begins = elim (no_it
   | inr some ↦ elim (cases_Bool (has_unstamped limbo)) [
     | inl unstamped ↦ reads first (begins.epoch unstamped)
     | inr stamped ↦
-        let h = compares_follow limits [] limbo after first (whole limits limbo rows pids lists) (omega arith) (begins.stamped some stamped) in
+        let h = compares_follow limits none_yet limbo after first (whole limits limbo rows pids lists) limits.allowed.some_actor (begins.stamped some stamped) in
         (h.sound, record { lists = h.lists; order = h.order })
   ]
 ]
@@ -278,5 +277,5 @@ begins_sound limits actor limbo after first rows pids lists begins = elim (no_it
     reads : (first : State) → (Some first ≡ Some state.Epoch) × (after ≡ limbo) → IsSoundState limits first × IsSoundSweep (record { limits = limits; actor = actor; state = first }) after
     reads state.Epoch is = (tt, record { lists = rw is.1 lists; order = tt })
     reads (state.Retire epoch) is = absurd (cc (is.0))
-    reads (state.Announce announces) is = absurd (cc (is.0))
+    reads (state.Announce announced) is = absurd (cc (is.0))
     reads (state.Reuse reuse) is = absurd (cc (is.0))

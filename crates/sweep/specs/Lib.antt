@@ -1,3 +1,4 @@
+pub mod Announced
 pub mod Kept
 pub mod Sweeps
 pub mod Moves

@@ -1,5 +1,5 @@
 -- The sweep of an actor's limbo: the steps by which it is freed.
-use Rattle.std.specs.Prelude.{◌≡◌, ◌<◌, ◌*◌, ◌/◌, ◌^◌, ℕ, suc, ltb, List, [], length, get_or, Bool, true, false, if◌then◌else◌, Option, None, Some, IsTrue, IsFalse, ⊤}
+use Rattle.std.specs.Prelude.{◌≡◌, ◌<◌, ◌*◌, ◌/◌, ◌^◌, ℕ, suc, ltb, Bool, true, false, if◌then◌else◌, Option, None, Some, IsTrue, IsFalse, ⊤}
 use Rattle.tree_limits.specs.declared.limits.Limits.{Limits}
 use Rattle.bw_model.specs.declared.step.Answer.{Answer}
 use Rattle.bw_model.specs.declared.step.Answer.TheVariants.{Done}
@@ -17,6 +17,7 @@ use Rattle.epochs.specs.declared.item.Reuse.TheVariants.{Rows, Pids}
 use Rattle.epochs.specs.Limbo.{Limbo, stage_of}
 use Rattle.epochs.specs.Reclamation.{has_passed}
 use Rattle.epochs.specs.Words.{HasNone, may_go}
+use Rattle.sweep.specs.Announced.{Announced, none_yet}
 use Rattle.sweep.specs.declared.sweep.State.{State}
 use Rattle.sweep.specs.declared.sweep.State.TheVariants as state
 use Rattle.sweep.specs.Kept.{AreKept, IsLimboOf}
@@ -38,7 +39,7 @@ step_of (Pids word bits) = step.ReusePids word bits
 abbrev pub wanted_at : ℕ → State → StepOf Record
 wanted_at actor state.Epoch = step.Epoch
 wanted_at actor (state.Retire epoch) = step.Retire epoch
-wanted_at actor (state.Announce announces) = step.Announce (other_at actor (length announces))
+wanted_at actor (state.Announce announced) = step.Announce (other_at actor announced.count)
 wanted_at actor (state.Reuse reuse) = step_of reuse
 
 abbrev pub wanted_step : Sweep → StepOf Record
@@ -67,7 +68,7 @@ ComesFirst (Pids word bits) limbo = HasNone limbo.rows.entries × ((pid : ℕ) �
 abbrev pub IsSoundState : Limits → State → Type 0
 IsSoundState limits state.Epoch = ⊤
 IsSoundState limits (state.Retire epoch) = epoch < 2 ^ 62
-IsSoundState limits (state.Announce announces) = suc (length announces) < limits.actors
+IsSoundState limits (state.Announce announced) = suc announced.count < limits.actors
 IsSoundState limits (state.Reuse reuse) = HasPlace limits reuse
 
 abbrev pub IsInOrder : State → Limbo → Type 0
@@ -79,32 +80,32 @@ pub record IsSoundSweep (sweep : Sweep) (limbo : Limbo) : Type 0 where
   pub lists : IsLimboOf sweep.limits limbo
   pub order : IsInOrder sweep.state limbo
 
--- The other actors whose announced epochs were read, and let the stamp pass, are known to have passed.
-abbrev pub HaveTold : ℕ → List ℕ → ℕ → (ℕ → Bool) → Type 0
-HaveTold actor announces stamp passed = (place : ℕ) → place < length announces → IsTrue (has_passed stamp (get_or announces place 0)) → IsTrue (passed (other_at actor place))
+-- Where the least epoch that was read lets the stamp pass, the other actors whose announced epochs were read are known to have passed.
+abbrev pub HaveTold : ℕ → Announced → ℕ → (ℕ → Bool) → Type 0
+HaveTold actor announced stamp passed = IsTrue (has_passed stamp announced.least) → (place : ℕ) → place < announced.count → IsTrue (passed (other_at actor place))
 
 -- the same of a number: in the list it has a stamp
-abbrev pub Told : ℕ → List ℕ → Option Stage → known.LimboMark → Type 0
-Told actor announces None limbo = ⊤
-Told actor announces (Some Unstamped) limbo = ⊥
-Told actor announces (Some (Stamped stamp)) known.Absent = ⊤
-Told actor announces (Some (Stamped stamp)) known.Unstamped = ⊤
-Told actor announces (Some (Stamped stamp)) (known.Stamped epoch passed) = HaveTold actor announces stamp passed
-Told actor announces (Some (Passed stamp)) known.Absent = ⊤
-Told actor announces (Some (Passed stamp)) known.Unstamped = ⊤
-Told actor announces (Some (Passed stamp)) (known.Stamped epoch passed) = HaveTold actor announces stamp passed
+abbrev pub Told : ℕ → Announced → Option Stage → known.LimboMark → Type 0
+Told actor announced None limbo = ⊤
+Told actor announced (Some Unstamped) limbo = ⊥
+Told actor announced (Some (Stamped stamp)) known.Absent = ⊤
+Told actor announced (Some (Stamped stamp)) known.Unstamped = ⊤
+Told actor announced (Some (Stamped stamp)) (known.Stamped epoch passed) = HaveTold actor announced stamp passed
+Told actor announced (Some (Passed stamp)) known.Absent = ⊤
+Told actor announced (Some (Passed stamp)) known.Unstamped = ⊤
+Told actor announced (Some (Passed stamp)) (known.Stamped epoch passed) = HaveTold actor announced stamp passed
 
--- All numbers in limbo have stamps, and these epochs were announced since.
-pub record AreTold (actor : ℕ) (announces : List ℕ) (limbo : Limbo) (now : known.Limbos) : Type 0 where
-  pub rows : (row : ℕ) → Told actor announces (stage_of limbo.rows row) (now.rows row)
-  pub pids : (pid : ℕ) → Told actor announces (stage_of limbo.pids pid) (now.pids pid)
+-- All numbers in limbo have stamps, and this was announced since.
+pub record AreTold (actor : ℕ) (announced : Announced) (limbo : Limbo) (now : known.Limbos) : Type 0 where
+  pub rows : (row : ℕ) → Told actor announced (stage_of limbo.rows row) (now.rows row)
+  pub pids : (pid : ℕ) → Told actor announced (stage_of limbo.pids pid) (now.pids pid)
 
 -- By the state of a sweep: the limbo agrees with what is known. A reuse that was asked for may be taken, and the limbo agrees with
 -- what will be known then.
 abbrev pub ShowsState : Limits → ℕ → State → Limbo → Knowledge → Type 0
 ShowsState limits actor state.Epoch limbo k = AreKept limits actor limbo k.limbo
-ShowsState limits actor (state.Retire epoch) limbo k = AreKept limits actor limbo k.limbo × AreTold actor [] limbo k.limbo
-ShowsState limits actor (state.Announce announces) limbo k = AreKept limits actor limbo k.limbo × AreTold actor announces limbo k.limbo
+ShowsState limits actor (state.Retire epoch) limbo k = AreKept limits actor limbo k.limbo × AreTold actor none_yet limbo k.limbo
+ShowsState limits actor (state.Announce announced) limbo k = AreKept limits actor limbo k.limbo × AreTold actor announced limbo k.limbo
 ShowsState limits actor (state.Reuse reuse) limbo k = MayFree limits actor k (step_of reuse) × AreKept limits actor limbo (learn k (step_of reuse) Done).limbo
 
 -- The actor is outside, and its limbo is being swept.

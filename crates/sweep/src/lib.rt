@@ -1,16 +1,14 @@
-//! The sweep of an actor's limbo: the steps by which what it took out of the tree is freed.
+//! The sweep of an actor's limbo list: the steps by which it frees what it took out of the tree.
 //!
-//! Look first at `Sweep`.
-//!
-//! A writer begins with a sweep, while it is outside of the epochs. It reads the epoch for what has no stamp yet, and retires it; it
-//! reads what each other actor has announced; and it frees, word by word, what all of them have passed: in a large tree, of the first
-//! 64 items of each list. What is in limbo is the business
-//! of `epochs`; here are the steps, and their place in the discipline of actors.
+//! Look first at `Sweep`. A writer begins with a sweep, while it is outside the epochs. It reads the epoch, for what has no stamp yet, and
+//! advances it (retires it); it reads what each other actor has announced; and it frees, word by word, what all of them have passed: in a large
+//! tree, of the first 64 items of each list. `epochs` explains the scheme and keeps the lists; here are the steps, and their place in the
+//! discipline of actors.
 //!
 //! Called by `op_machine`, at the begin of a writer and where a change has taken pages out (`take_out`). It knows no page and no key.
 #![tactic(auto)]
 
-mod announces;
+mod announced;
 mod examples;
 mod limbo_laws;
 mod sweep;

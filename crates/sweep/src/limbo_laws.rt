@@ -1,5 +1,5 @@
 //! Laws of limbos: each function does nothing, and its contract is proved of all of them.
-ghost use Rattle.std.specs.Prelude.{◌≡◌, ◌<◌, ◌≤◌, ◌↔◌, ℕ, List, Option, None, Some, IsTrue, length, true};
+ghost use Rattle.std.specs.Prelude.{◌≡◌, ◌<◌, ◌≤◌, ◌↔◌, ◌+◌, ℕ, List, Option, None, Some, IsTrue, length, true};
 ghost use Rattle.std.specs.List.{Contains};
 ghost use Rattle.tree_limits.specs.declared.limits.Limits.{Limits};
 ghost use Rattle.bw_model.specs.declared.step.Answer.{Answer};
@@ -56,8 +56,8 @@ pub fn chains_go_to_limbo()
     chain_is_one();
 }
 
-/// A sweep of a large tree takes 145 steps at most, however many items are in limbo, where nothing might be freed before it: so it is
-/// at the opening, where an item comes, and after a sweep that has ended.
+/// A sweep of a large tree takes 129 steps at most, and one for each actor, however many items are in limbo, where nothing might be freed
+/// before it: so it is at the opening, where an item comes, and after a sweep that has ended.
 pub fn large_sweeps_are_short()
     ensures new { (limits : Limits) → free_now (empty_limbo limits) ≡ 0 }
     ensures comes { (item : Item) (limbo : Limbo) → free_now (with_item item limbo) ≡ free_now limbo }
@@ -65,12 +65,12 @@ pub fn large_sweeps_are_short()
         → limits.is_large ≡ true
         → free_now limbo ≡ 0
         → BeginsSweep limits limbo (Some first) after
-        → IsClear first after × (short_left first after ≤ most_short) }
+        → IsClear first after × (short_left limits first after ≤ most_short limits) }
     ensures goes { (limits : Limits) (old : State) (next : Option State) (told : Answer Record) (limbo after : Limbo)
         → limits.is_large ≡ true
         → IsSoundState limits old
         → IsClear old limbo
         → Moves limits old limbo told next after
-        → GoesShort (short_left old limbo) next after }
-    ensures most { most_short ≡ 145 }
+        → GoesShort limits (short_left limits old limbo) next after }
+    ensures most { (limits : Limits) → most_short limits ≡ 129 + limits.actors }
 {}

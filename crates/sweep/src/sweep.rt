@@ -12,7 +12,7 @@ ghost use Rattle.sweep.specs.Kept.{IsLimboOf};
 ghost use Rattle.sweep.specs.Moves.{BeginsSweep, Compares, Frees, IsEmpty, Moves, Stamps, after_comparing, state_if};
 ghost use Rattle.sweep.specs.Sweeps.{LearnsOfLimbo, IsOfSweep, IsSameSweep, IsSoundSweep, FitsSweep, IsKeptOutside, Shows, other_at, wanted_step};
 
-use crate::announces::Announces;
+use crate::announced::Announced;
 use bw_model::{Limits, Step, Told};
 use deltas::Record;
 use epochs::{Limbo, Reuse};
@@ -29,11 +29,12 @@ pub(crate) enum State {
     Epoch,
     Retire { epoch: u64 },
     /// The next of the other actors is read, after these.
-    Announce { announces: Announces },
+    Announce { announced: Announced },
     Reuse { reuse: Reuse },
 }
 
-/// The sweep of an actor's limbo that is under way. It takes few steps: one for each word of free bits at most, and 17.
+/// The sweep of an actor's limbo that is under way. It takes few steps: at most one for each word of free bits and for each actor, and
+/// one more.
 #[derive(Drop)]
 pub struct Sweep {
     limits: Limits,
@@ -86,7 +87,7 @@ impl Sweep {
         match &self.state {
             State::Epoch => Step::Epoch,
             State::Retire { epoch } => Step::Retire(*epoch),
-            State::Announce { announces } => Step::Announce(self.other_at(announces.len())),
+            State::Announce { announced } => Step::Announce(self.other_at(announced.count())),
             State::Reuse { reuse } => match reuse {
                 Reuse::Rows(word, bits) => Step::ReuseRows(*word, *bits),
                 Reuse::Pids(word, bits) => Step::ReusePids(*word, *bits),
@@ -125,20 +126,19 @@ impl Sweep {
     {
         match mem::replace(&mut self.state, State::Epoch) {
             State::Epoch => stamp(&self.limits, limbo, told.number()),
-            State::Retire { .. } => compare(&self.limits, limbo, Announces::new()),
-            State::Announce { announces } => {
-                compare(&self.limits, limbo, announces.with(told.number()))
+            State::Retire { .. } => compare(&self.limits, limbo, Announced::none_yet()),
+            State::Announce { announced } => {
+                compare(&self.limits, limbo, announced.with(told.number()))
             }
             State::Reuse { .. } => free(limbo),
         }
     }
 
     /// The actor at this place among all others.
-    fn other_at(&self, place: usize) -> u8
-        requires { place < 15 }
+    fn other_at(&self, place: u8) -> u8
+        requires { place < 62 }
         ensures { result ≡ other_at self.now.actor place }
     {
-        let place = place as u8;
         if place < self.actor { place } else { place + 1 }
     }
 }
@@ -153,7 +153,7 @@ fn first<A: Allocator>(limits: &Limits, limbo: &mut Limbo<A>) -> Option<State>
     if limbo.has_unstamped() {
         return Some(State::Epoch);
     }
-    compare(limits, limbo, Announces::new())
+    compare(limits, limbo, Announced::none_yet())
 }
 
 /// The epoch was read.
@@ -164,32 +164,32 @@ fn stamp<A: Allocator>(limits: &Limits, limbo: &mut Limbo<A>, epoch: u64) -> Opt
     if epoch < 1 << 62 {
         return Some(State::Retire { epoch });
     }
-    compare(limits, limbo, Announces::new())
+    compare(limits, limbo, Announced::none_yet())
 }
 
 /// Reads the next actor, or finds out what may be freed once all are read.
 fn compare<A: Allocator>(
     limits: &Limits,
     limbo: &mut Limbo<A>,
-    announces: Announces,
+    announced: Announced,
 ) -> Option<State>
-    ensures { Compares limits.now announces limbo.old result limbo.new }
+    ensures { Compares limits.now announced limbo.old result limbo.new }
 {
-    if (announces.len() as u64) + 1 < limits.actors {
-        return Some(State::Announce { announces });
+    if u64::from(announced.count()) + 1 < limits.actors {
+        return Some(State::Announce { announced });
     }
-    may_free(limits, limbo, announces.as_slice());
+    may_free(limits, limbo, announced.least());
     free(limbo)
 }
 
-/// Finds out what may be freed.
-fn may_free<A: Allocator>(limits: &Limits, limbo: &mut Limbo<A>, announces: &[u64])
-    ensures { limbo.new ≡ after_comparing limits.now announces.now limbo.old }
+/// Finds out what may be freed, by the least epoch that another actor has announced.
+fn may_free<A: Allocator>(limits: &Limits, limbo: &mut Limbo<A>, least: u64)
+    ensures { limbo.new ≡ after_comparing limits.now least limbo.old }
 {
     if limits.is_large {
-        limbo.may_free_first(MOST_COMPARED, announces);
+        limbo.may_free_first(MOST_COMPARED, &[least]);
     } else {
-        limbo.may_free(announces);
+        limbo.may_free(&[least]);
     }
 }
 

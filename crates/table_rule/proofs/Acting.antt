@@ -9,6 +9,7 @@ use Rattle.atomic_table.specs.Seated.{TableId}
 use Rattle.bw_model.specs.declared.command.Command.{Command}
 use Rattle.bw_model.specs.declared.command.Reply.{Reply}
 use Rattle.tree_limits.specs.declared.limits.Limits.{Limits}
+use Rattle.tree_limits.specs.Limits.{most_large_actors}
 use Rattle.bw_model.specs.declared.step.Answer.{Answer}
 use Rattle.bw_model.specs.declared.step.Answer.TheVariants.{Done}
 use Rattle.bw_model.specs.declared.step.Step.{Step}
@@ -49,7 +50,7 @@ with_rows limits words words' m m' settled stay records sp parts = record {
 
 module _ (change : StepsChangeOneWord) (first : WordsStandApart) (limits : Limits) (law : Limits → List Entry → Type 0) where
   step_ready : (s : TableState) (h : Rule limits law s) (id actor : ℕ) (seen : List Entry) (begun : Option Command) (step : Step Record) (reply : Option Reply)
-      → get_elem? s.views id ≡ some (alone limits actor seen Idle) → actor < 16 → HasWord limits step → SetsBits step
+      → get_elem? s.views id ≡ some (alone limits actor seen Idle) → actor < most_large_actors → HasWord limits step → SetsBits step
       → Ready limits law s h id actor (changed_word limits actor step) (word_after step (get_or s.words (changed_word limits actor step) 0)) begun step
       (answer_by step (get_or s.words (changed_word limits actor step) 0)) reply
   step_ready s h id actor seen begun step reply at few has bits =
@@ -72,12 +73,12 @@ module _ (change : StepsChangeOneWord) (first : WordsStandApart) (limits : Limit
 
   acts : (slots id actor : ℕ) (me : Mine) (begun : Option Command) (step : Step Record) (reply : Option Reply) → SitsAt limits actor Idle me
       → IsLawfulStep law limits actor (seen_of me) begun step reply
-      → actor < 16 → HasWord limits step → SetsBits step → Allows (Rule limits law) slots id me (changed_word limits actor step) (word_after step) (Acts law begun step reply me)
+      → actor < most_large_actors → HasWord limits step → SetsBits step → Allows (Rule limits law) slots id me (changed_word limits actor step) (word_after step) (Acts law begun step reply me)
   acts slots id actor me begun step reply is may few has bits = event limits law slots id actor me (changed_word limits actor step) (word_after step) begun step reply (answer_by step) is may
       (λ s h at. step_ready s h id actor (seen_of me) begun step reply at few has bits)
 
 module _ (change : StepsChangeOneWord) (first : WordsStandApart) (law : Limits → List Entry → Type 0) (limits key : Limits) (table seat : TableId) (of : IsOf limits key table seat)
-    (slots id actor : ℕ) (me : Mine) (begun : Option Command) (reply : Option Reply) (is : SitsAt limits actor Idle me) (few : actor < 16)
+    (slots id actor : ℕ) (me : Mine) (begun : Option Command) (reply : Option Reply) (is : SitsAt limits actor Idle me) (few : actor < most_large_actors)
     (step : Step Record) (range : HasWord limits step) (bits : SetsBits step) (may : IsLawfulStep law limits actor (seen_of me) begun step reply) (i : ℕ) (e : i ≡ changed_word limits actor step) where
   there : i < table.words
   there = let own = (first limits actor step few range).there in let wide = of.wide in omega arith

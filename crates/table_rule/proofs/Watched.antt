@@ -5,6 +5,7 @@ use mathlib.Core.Option.{none}
 use Rattle.atomic_table.specs.Table.{Allows, step as made, keeps}
 use Rattle.atomic_table.specs.Seated.{TableId}
 use Rattle.tree_limits.specs.declared.limits.Limits.{Limits}
+use Rattle.tree_limits.specs.Limits.{most_large_actors}
 use Rattle.bw_model.specs.declared.step.Answer.TheVariants.{Number}
 use Rattle.bw_model.specs.declared.step.Step.{Step}
 use Rattle.bw_model.specs.declared.step.Step.TheVariants.{Slot, Row, Epoch, Announce, PidBits, RowBits, Place, ReusePids, ReuseRows}
@@ -42,7 +43,7 @@ reads_number limits other found has is = cc
 
 module _ (change : StepsChangeOneWord) (limits : Limits) (law : Limits → List Entry → Type 0) where
   -- what the memory answers after the longest run
-  answered : (s : TableState) (h : Rule limits law s) (actor i : ℕ) (step : Step Record) → actor < 16 → HasWord limits step → operation_of step ≡ Load → i ≡ changed_word limits actor step
+  answered : (s : TableState) (h : Rule limits law s) (actor i : ℕ) (step : Step Record) → actor < most_large_actors → HasWord limits step → operation_of step ≡ Load → i ≡ changed_word limits actor step
       → IsAnswer (memory_of limits h.run) step (Number (get_or s.words i 0))
   answered s h actor i step few has reads at =
       let m : Memory = memory_of limits h.run in
@@ -79,7 +80,7 @@ module _ (change : StepsChangeOneWord) (limits : Limits) (law : Limits → List 
 
 -- the same as the function asks for it
 module _ (change : StepsChangeOneWord) (first : WordsStandApart) (law : Limits → List Entry → Type 0) (limits key : Limits) (table seat : TableId) (of : IsOf limits key table seat) where
-  pub watches_at : (slots id : ℕ) (me : Mine) (actor i : ℕ) (step : Step Record) → actor < 16 → HasWord limits step → i ≡ changed_word limits actor step
+  pub watches_at : (slots id : ℕ) (me : Mine) (actor i : ℕ) (step : Step Record) → actor < most_large_actors → HasWord limits step → i ≡ changed_word limits actor step
       → (seat ≡ table) × (i < table.words) × Allows (Rule key law) slots id me i (λ n. n) (Watches law (made slots i 0 0 none) me)
   watches_at slots id me actor i step few has at =
       let own = (first limits actor step few has).there in

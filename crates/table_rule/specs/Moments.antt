@@ -10,6 +10,7 @@ use Rattle.bw_model.specs.declared.step.Step.{Step as StepOf}
 use Rattle.deltas.specs.declared.record.Record.{Record}
 use Rattle.traces.specs.declared.trace.Entry.{Entry}
 use Rattle.tree_limits.specs.declared.limits.Limits.{Limits}
+use Rattle.tree_limits.specs.Limits.{most_large_actors}
 use Rattle.tree_words.specs.Changes.{HasWord, changed_word, operation_of}
 use Rattle.tree_words.specs.declared.operations.Operation.TheVariants.{Load}
 use Rattle.tree_words.specs.Layout.{row_at}
@@ -89,7 +90,7 @@ pub record OperationsTurn (law : Limits → List Entry → Type 0) : Type 0 wher
       → SitsAt limits actor Idle me → made.word ≡ row_at row 0 → ReadsRow law made me found me' → Turns law me me'
   pub looks : (made : Made (Unit {0})) (me me' : Mine) (found : ℕ) → Looks made me found me' → Turns law me me'
   pub watches : (limits : Limits) (actor : ℕ) (step : StepOf Record) (made : Made (Unit {0})) (me me' : Mine) (found : ℕ)
-      → SitsAt limits actor Idle me → actor < 16 → HasWord limits step → operation_of step ≡ Load → made.word ≡ changed_word limits actor step
+      → SitsAt limits actor Idle me → actor < most_large_actors → HasWord limits step → operation_of step ≡ Load → made.word ≡ changed_word limits actor step
       → Watches law made me found me' → Turns law me me'
   pub measures : (limits : Limits) (actor row : ℕ) (made : Made (Unit {0})) (me me' : Mine) (found : ℕ)
       → SitsAt limits actor Idle me → made.word ≡ row_at row 0 → Measures made me found me' → Turns law me me'

@@ -1,19 +1,42 @@
-//! The rule of a tree that runs on threads: the words of a table spell a memory, whatever its seats do in whatever order, and each atomic
-//! operation on a word is one step of an actor of the tree.
+//! The rule of a tree that runs on threads: whatever its seats (sessions) do in whatever order, the words of a table spell a memory, and each atomic operation
+//! on a word is one step of an actor of the tree.
 //!
 //! Look first at `Rule`, and at `Running` (specs/Running), then at `act`, `read_first` and `place_row`, the steps.
 //!
-//! A table has words that change in single atomic operations, and seats, each of which is one thread's. What a seat knows is its view,
-//! which takes no memory: the run of the tree that it has seen, up to its own last step, and the row that it is in the midst of placing.
-//! The rule says what words and views have to do with each other between any two atomic operations of any seats. Each call here is a step
-//! of one actor, and tells its caller the run in which the step was taken; a look is a load that is no step, and so is the watching of a
-//! word.
+//! # How steps run in time
 //!
-//! moments.rt has the laws of what any number of such operations leave: nothing that was seen is forgotten, the longest run grows, and calls keep the
-//! order of real time.
+//! A table has words of 64 bits that change in single, sequentially consistent atomic operations, and seats, each used by one thread at a time. There is one
+//! history: the *longest run*, which no variable holds. Each step appends its entry to it at the very atomic operation that makes the step.
 //!
-//! Called by `running_tree` alone, which names the law. It knows no operation and not which runs there may be: that is for the tree to say, by
-//! a law (`Law`) that keeps the rows of actors apart.
+//! - *One operation, one step* (`act`): a load, store, compare-and-exchange, fetch-and or fetch-or of a slot, the epoch, an announced epoch or a word of free
+//!   bits. An operation's begin is appended with its first step, and a reply with the leave.
+//! - *Reading a record* (`read_first`): the load of the row's first word is the step. Later loads of its words (`look_at`) are no steps: the record cannot
+//!   change while its reader is inside.
+//! - *Placing a record* (`place_row`): one load of the first word, stores of the words behind it, and last a store of the first word, which is the step. Until
+//!   then the row counts as it was. No other seat may read or place in that row, so nobody sees the words in between.
+//! - *Watching and refreshing* (`watch`, `refresh`): one load each, which is no step. The seat has then seen the longest run.
+//!
+//! Nobody helps here: a step is one seat's, and ends with its atomic operation. A thread that stops while it places a row keeps that row, and no other.
+//!
+//! moments.rt has the laws of what any number of such operations leave: nothing that was seen is forgotten, the longest run only grows at its end, and calls
+//! keep the order of real time. plays.rt has the ghost effect of each atomic operation, which the kit's `atomic_table` calls a play.
+//!
+//! # Thread safety
+//!
+//! The words may be shared by any number of threads (`&Words`); a seat is borrowed by one call at a time (`&mut TableSeat`). What a seat knows is its *view*,
+//! which takes no memory at run time: the run that it has seen, up to its own last step, and its *reach*, whether it is placing a row. Between two calls of a
+//! seat others only append to the longest run, so what a view says stays true.
+//!
+//! # Invariants
+//!
+//! - Between any two atomic operations there is a longest run: it is lawful, extends what each seat has seen, and the words spell the memory after it, except
+//!   rows that a seat is placing: `Running`, `IsPartWritten`.
+//! - Each actor is in exactly one seat, so a seat has seen the longest run: `longest_is_seen`.
+//! - In a row in which one actor may place, no other may place or read; a row that may be read has its record: `KeepsRowsApart`, which the law must give.
+//! - What a call returns: the step was taken right behind the longest run, and the seat has seen that run with this entry: `Took`.
+//!
+//! Called by `running_tree` alone, which names the law. It knows no operation, and not which runs there may be: that is the tree's choice, by a law (`Law`)
+//! that keeps the rows of actors apart.
 #![tactic(auto)]
 
 mod examples;

@@ -2,6 +2,7 @@
 ghost use Rattle.std.specs.Prelude.{◌≡◌, ◌<◌, option_copied};
 ghost use Rattle.bw_model.specs.Answers.{answer_of};
 ghost use Rattle.bw_model.specs.Lent.{step_of_loan};
+ghost use Rattle.tree_limits.specs.Limits.{most_large_actors};
 ghost use Rattle.table_rule.specs.declared.view.Reach.TheVariants.{Idle};
 ghost use Rattle.table_rule.specs.Steps.{IsLawfulStep, Took};
 ghost use Rattle.table_rule.specs.Views.{SitsAt, IsOf, seen_of};
@@ -16,8 +17,8 @@ use tree_words::{
     Operation, made_by, operations_are_steps, steps_change_one_word, told_by, word_place,
 };
 
-/// Takes a step of the seat's actor that is one atomic operation on a word, and answers what stood there. Told are the command of
-/// an operation that begins with the step, and the reply of one that it ends.
+/// Takes a step of the seat's actor that is one atomic operation on a word, and returns its answer. `begun` is the command of an operation
+/// that begins with the step, `reply` the reply of one that it ends; both are for the contract alone.
 pub fn act<P: Law>(
     words: &Words<P>,
     seat: &mut TableSeat,
@@ -29,7 +30,7 @@ pub fn act<P: Law>(
 ) -> Told
     requires table { IsOf limits.now words.now.key words.now.table_id seat.old.table_id }
     requires range { HasWord limits.now (step_of_loan step.now) }
-    requires actor { actor < 16 }
+    requires actor { actor < most_large_actors }
     requires seat { SitsAt limits.now actor Idle seat.old.me }
     requires may { IsLawfulStep P.law limits.now actor (seen_of seat.old.me) (option_copied begun) (step_of_loan step.now) (option_copied reply) }
     ensures same { seat.new.table_id ≡ seat.old.table_id }
@@ -39,7 +40,7 @@ pub fn act<P: Law>(
     act_told::<P, Brand>(words, seat, limits, actor, step, begun, reply)
 }
 
-/// The same, once what is told is picked.
+/// As `act`, once the caller has picked what the step's contract names (`Telling`).
 fn act_told<P: Law, C: Telling>(
     words: &Words<P>,
     seat: &mut TableSeat,
@@ -54,7 +55,7 @@ fn act_told<P: Law, C: Telling>(
     requires reply { option_copied reply ≡ C.reply }
     requires table { IsOf limits.now words.now.key words.now.table_id seat.old.table_id }
     requires range { HasWord limits.now (step_of_loan step.now) }
-    requires actor { actor < 16 }
+    requires actor { actor < most_large_actors }
     requires seat { SitsAt limits.now actor Idle seat.old.me }
     requires may { IsLawfulStep P.law limits.now actor (seen_of seat.old.me) C.begun (step_of_loan step.now) C.reply }
     ensures same { seat.new.table_id ≡ seat.old.table_id }
@@ -87,7 +88,7 @@ fn operate<P: Law, C: Telling>(
     requires table { IsOf limits.now words.now.key words.now.table_id seat.old.table_id }
     requires range { HasWord limits.now C.step }
     requires bits { SetsBits C.step }
-    requires actor { actor < 16 }
+    requires actor { actor < most_large_actors }
     requires seat { SitsAt limits.now actor Idle seat.old.me }
     requires may { IsLawfulStep P.law limits.now actor (seen_of seat.old.me) C.begun C.step C.reply }
     requires place { at ≡ changed_word limits.now actor C.step }

@@ -1,6 +1,7 @@
 //! A word that is watched: what a step that reads it would be told, without that step.
 ghost use Rattle.std.specs.Prelude.{◌≡◌, ◌<◌};
 ghost use Rattle.bw_model.specs.Lent.{step_of_loan};
+ghost use Rattle.tree_limits.specs.Limits.{most_large_actors};
 ghost use Rattle.table_rule.specs.declared.view.Reach.TheVariants.{Idle};
 ghost use Rattle.table_rule.specs.Steps.{Watched};
 ghost use Rattle.table_rule.specs.Views.{SitsAt, IsOf, seen_of};
@@ -24,7 +25,7 @@ pub fn watch<P: Law>(
     requires table { IsOf limits.now words.now.key words.now.table_id seat.old.table_id }
     requires range { HasWord limits.now (step_of_loan step.now) }
     requires reads { operation_of (step_of_loan step.now) ≡ Load }
-    requires actor { actor < 16 }
+    requires actor { actor < most_large_actors }
     requires seat { SitsAt limits.now actor Idle seat.old.me }
     ensures same { seat.new.table_id ≡ seat.old.table_id }
     ensures seat { SitsAt limits.now actor Idle seat.new.me }

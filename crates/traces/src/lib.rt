@@ -1,11 +1,11 @@
-//! What happens over the shared memory, turn by turn; the chains of pages that stand in it; what each actor knows, and what it may do.
+//! What happens over the shared memory, turn by turn; the chains of its pages; what each actor (thread) knows, and what it may do.
 //!
-//! Look first at specs/discipline: `Discipline` says what an actor may do by what it knows, `Knowledge` what it knows by its own steps.
-//! specs/chain has what a chain decides and the page that it makes, specs/trace what a step answers and what a run is. Of code there are
-//! `Turn` and `Entry` alone; each other function is a law or a worked example, and does nothing.
+//! Look first at specs/discipline: `Discipline` defines what an actor may do by what it knows, `Knowledge` what it knows by its own steps.
+//! specs/chain defines what a chain decides and the page that it makes, specs/trace the answer of a step, and a run. The only code is `Turn`
+//! and `Entry`; each other function is a law or a worked example, and does nothing.
 //!
-//! Called by all that takes steps (`op_machine`, `table_rule`, `core_memory`, `step_core`) for its definitions, and by `tree_law`. It
-//! knows no operation: what one wants, and why, is the business of `op_machine`.
+//! Called by all that takes steps (`op_machine`, `table_rule`, `core_memory`, `step_core`) for its definitions, and by `tree_law`. It knows no
+//! operation: which step an operation takes, and why, is the business of `op_machine`.
 #![tactic(auto)]
 
 mod examples;

@@ -13,7 +13,7 @@ pub enum Turn {
 }
 
 impl Turn {
-    /// The same turn again, without memory.
+    /// A copy of the turn; it allocates nothing.
     pub fn copied(&self) -> Turn
         ensures { result ≡ self.now }
     {

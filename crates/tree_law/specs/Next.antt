@@ -69,7 +69,7 @@ pub record Next (a : ℕ) (m m' : Shared) (log : List Update) (o : Owners) (know
   pub kept : (row : ℕ) → o.row row ≡ Linked → (owners.row row ≡ Linked) × (m'.rows row ≡ m.rows row)
   pub is_tree : IsTree m' (grown log update) owners (put knows a (after_reply (learn (knows a) s x) r)) (put point a (log_at_point log update (point a))) (put logs a (log ∷ logs a))
 
--- The same of every step, a reuse among them, which lets linked rows go.
+-- What every step leaves, also a reuse, which lets linked rows go.
 pub record After (a : ℕ) (m m' : Shared) (log : List Update) (o : Owners) (knows : ℕ → Knowledge) (point : ℕ → Option (List Update)) (logs : ℕ → List (List Update)) (s : StepOf Record) (x : Answer Record) (r : Option Reply) : Type
     0 where
   pub update : Option Update

@@ -38,7 +38,7 @@ pub record Grows (limits : Limits) (entries : List Entry) (entry : Entry) : Type
 abbrev pub EntriesGrow : Type 0
 EntriesGrow = (limits : Limits) (entries : List Entry) (entry : Entry) → Grows limits entries entry
 
--- The same own entries let an actor know the same.
+-- An actor whose own entries are the same knows the same.
 abbrev pub KnowledgeIsOwn : Type 0
 KnowledgeIsOwn = (entries others : List Entry) (actor : ℕ) → own_entries actor entries ≡ own_entries actor others → knows entries actor ≡ knows others actor
 

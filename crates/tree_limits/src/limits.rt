@@ -11,6 +11,10 @@ pub(crate) const WORD_BITS: u64 = 64;
 /// How many actors there are at most.
 pub(crate) const MAX_ACTORS: u64 = 16;
 
+/// How many actors a large tree has at most. What actors announce lies in a table of words below the rows, one at every eighth word, and
+/// a word of one actor more would be the first row's (`tree_words`).
+pub const MAX_LARGE_ACTORS: u64 = 63;
+
 /// How many PIDs there are at most.
 pub(crate) const MAX_PIDS: u64 = 4096;
 
@@ -47,8 +51,8 @@ pub enum OpenError {
 /// Actors: 1 to 16. PIDs: 64 to 4,096, a multiple of 64. Rows: 64 to 16,384, a multiple of 64.
 /// Epoch: 1 to 2^62.
 ///
-/// Of a large tree: PIDs to 4,194,304, rows to 67,108,864, multiples of 64. Its pages are consolidated at two deltas in place of eight, and
-/// an actor that takes a free number begins at a word that the page's newest row scatters.
+/// Of a large tree: actors to 63, PIDs to 4,194,304, rows to 67,108,864, multiples of 64. Its pages are consolidated at two deltas in
+/// place of eight, and an actor that takes a free number begins at a word scattered by the number that its change's exchange expects.
 #[derive(Clone, Copy, Debug, PartialEq, Eq)]
 pub struct Limits {
     pub actors: u64,
@@ -95,7 +99,7 @@ impl Limits {
         }
     }
 
-    /// These limits of a large tree: up to 4,194,304 PIDs and 67,108,864 rows. Refused exactly where a number is outside its range.
+    /// These limits of a large tree: up to 63 actors, 4,194,304 PIDs and 67,108,864 rows. Refused exactly where a number is outside its range.
     pub fn large(actors: u64, pids: u64, rows: u64, epoch: u64) -> Result<Limits, BadLimits>
         ensures allowed { IsOk result ↔ AreLargeLimits actors pids rows epoch }
         ensures actors { IfOk result (λ limits. limits.actors ≡ actors) }
@@ -104,7 +108,7 @@ impl Limits {
         ensures epoch { IfOk result (λ limits. limits.epoch ≡ epoch) }
         ensures kind { IfOk result (λ limits. limits.is_large ≡ true) }
     {
-        let allowed = (1..=MAX_ACTORS).contains(&actors)
+        let allowed = (1..=MAX_LARGE_ACTORS).contains(&actors)
             && is_whole(pids, MAX_LARGE_PIDS)
             && is_whole(rows, MAX_LARGE_ROWS)
             && (1..=MAX_EPOCH).contains(&epoch);
@@ -121,7 +125,7 @@ impl Limits {
         }
     }
 
-    /// The same limits with another epoch that opens, refused exactly where that is outside its range.
+    /// These limits with another opening epoch, refused exactly where that is outside its range.
     pub fn opening_at(self, epoch: u64) -> Result<Limits, BadLimits>
         ensures allowed { IsOk result ↔ (1 ≤ epoch) × (epoch ≤ 2 ^ 62) }
         ensures actors { IfOk result (λ limits. limits.actors ≡ self.actors) }

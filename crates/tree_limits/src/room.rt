@@ -1,9 +1,11 @@
 //! Limits by the number of keys. specs/Room.antt has the rule in one place, and docs/DECISIONS.md the reasons.
 ghost use Rattle.std.specs.Prelude.{◌≡◌, ◌≤◌, ◌^◌, ◌↔◌, ℕ, IsOk, IfOk, MatchOption, true, false};
-ghost use Rattle.tree_limits.specs.declared.limits.TheConstants.{MAX_ACTORS, MAX_LARGE_PIDS, MAX_PIDS};
+ghost use Rattle.tree_limits.specs.declared.limits.TheConstants.{MAX_ACTORS, MAX_LARGE_ACTORS, MAX_LARGE_PIDS, MAX_PIDS};
 ghost use Rattle.tree_limits.specs.Room.{AreProposed, AreProposedLarge, IsMostKeys, in_whole_words, large_pids_for, large_rows_for, pages_for, pids_for, rows_for};
 
-use crate::limits::{BadLimits, Limits, MAX_ACTORS, MAX_LARGE_PIDS, MAX_PIDS, MAX_ROWS, WORD_BITS};
+use crate::limits::{
+    BadLimits, Limits, MAX_ACTORS, MAX_LARGE_ACTORS, MAX_LARGE_PIDS, MAX_PIDS, MAX_ROWS, WORD_BITS,
+};
 
 /// As many keys as a split leaves on both sides at least.
 const LEAF_KEYS: u64 = 8;
@@ -60,7 +62,7 @@ impl Limits {
         Limits::new(actors, pids, rows_for(actors, pids), FIRST_EPOCH)
     }
 
-    /// The same for a large tree, whose pages have chains of three rows at most: some 1,900 bytes for each key. Refused exactly where that
+    /// As `for_keys`, for a large tree, whose pages have chains of three rows at most: some 1,900 bytes for each key. Refused exactly where that
     /// is more than limits of a large tree may have.
     pub fn for_many_keys(actors: u64, keys: u64) -> Result<Limits, BadLimits>
         ensures allowed { IsOk result ↔ AreProposedLarge actors keys }
@@ -70,7 +72,7 @@ impl Limits {
         ensures epoch { IfOk result (λ limits. limits.epoch ≡ 1) }
         ensures kind { IfOk result (λ limits. limits.is_large ≡ true) }
     {
-        if actors > MAX_ACTORS {
+        if actors > MAX_LARGE_ACTORS {
             return Err(BadLimits);
         }
         let pids = large_pids_for(actors, keys);
@@ -123,7 +125,7 @@ fn rows_for(actors: u64, pids: u64) -> u64
 
 /// The PIDs that so many keys can take in a large tree.
 fn large_pids_for(actors: u64, keys: u64) -> u64
-    requires few { actors ≤ MAX_ACTORS }
+    requires few { actors ≤ MAX_LARGE_ACTORS }
     ensures { result ≡ large_pids_for actors keys }
 {
     let pages = pages_for(keys);
@@ -132,7 +134,7 @@ fn large_pids_for(actors: u64, keys: u64) -> u64
 
 /// The rows that so many PIDs can take in a large tree.
 fn large_rows_for(actors: u64, pids: u64) -> u64
-    requires actors { actors ≤ MAX_ACTORS }
+    requires actors { actors ≤ MAX_LARGE_ACTORS }
     requires pids { pids ≤ MAX_LARGE_PIDS }
     ensures { result ≡ large_rows_for actors pids }
 {

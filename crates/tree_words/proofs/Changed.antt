@@ -5,6 +5,7 @@ use Rattle.std.specs.Prelude.{if◌then◌else◌, bit_or}
 use mathlib.Core.Logic.{dite}
 use native.Mathlib.Decide.{ℕ_discrete}
 use Rattle.tree_limits.specs.declared.limits.Limits.{Limits}
+use Rattle.tree_limits.specs.Limits.{most_large_actors}
 use Rattle.bw_model.specs.declared.step.Answer.TheVariants.{Number, Whether}
 use Rattle.bw_model.specs.declared.step.Step.{Step}
 use Rattle.bw_model.specs.declared.step.Step.TheVariants.{Slot, Row, Epoch, Announce, PidBits, RowBits, Place, Exchange, TakePid, TakeRow, Enter, Leave, Retire, ReusePids, ReuseRows}
@@ -45,7 +46,7 @@ module _ (limits : Limits) (words : List ℕ) (m : Memory) (long : length words 
     rows = λ row j rl jl used none. absurd none;
   }
 
-  announced_set : (a x : ℕ) → a < 16 → SpellsParts limits (set words (announced_at a) x) (record m { announced = replaced_at a x m.announced })
+  announced_set : (a x : ℕ) → a < most_large_actors → SpellsParts limits (set words (announced_at a) x) (record m { announced = replaced_at a x m.announced })
   announced_set a x within = record {
     slots = λ p below. get_or-set_other words (announced_at a) (slot_at limits p) x 0 (omega arith) ∙ sp.slots p below;
     pid_bits = λ w below. subst (IsWordOf m.free_pids w) (sym (get_or-set_other words (announced_at a) (pid_bits_at limits w) x 0 (omega arith))) (sp.pid_bits w below);
@@ -102,7 +103,7 @@ module _ (limits : Limits) (words : List ℕ) (m : Memory) (long : length words 
   epoch_moved next true = epoch_set next
   epoch_moved next false = same epoch_at
 
-  module _ (actor : ℕ) (few : actor < 16) where
+  module _ (actor : ℕ) (few : actor < most_large_actors) where
     abbrev Changes : Step Record → Type 0
     Changes step = ChangesOneWord limits words m actor step
 

@@ -2,6 +2,7 @@
 use Rattle.std.specs.Prelude.{◌≡◌, ◌≢◌, ◌<◌, ℕ, ◌+◌, ◌/◌, ◌%◌, ◌^◌, ◌==◌, ⊤, not, if◌then◌else◌, List, length, slice_index, slice_set, bit_and, bit_or}
 use Rattle.std.specs.Int.{bit_not, w64}
 use Rattle.tree_limits.specs.declared.limits.Limits.{Limits}
+use Rattle.tree_limits.specs.Limits.{most_large_actors}
 use Rattle.bw_model.specs.declared.step.Answer.{Answer}
 use Rattle.bw_model.specs.declared.step.Answer.TheVariants.{Number, Whether, Done}
 use Rattle.bw_model.specs.declared.step.Step.{Step}
@@ -21,7 +22,7 @@ abbrev pub HasWord : Limits → Step Record → Type 0
 HasWord limits (Slot pid) = pid < limits.pids
 HasWord limits (Row row) = ⊥
 HasWord limits Epoch = ⊤
-HasWord limits (Announce actor) = actor < 16
+HasWord limits (Announce actor) = actor < most_large_actors
 HasWord limits (PidBits word) = word < limits.pids / 64
 HasWord limits (RowBits word) = word < limits.rows / 64
 HasWord limits (Place row content) = ⊥
@@ -132,7 +133,7 @@ pub record ChangesOneWord (limits : Limits) (words : List ℕ) (memory : Memory)
 -- So does each such step, wherever the words are the memory's.
 abbrev pub StepsChangeOneWord : Type 0
 StepsChangeOneWord = (limits : Limits) (words : List ℕ) (memory : Memory) (actor : ℕ) (step : Step Record) → length words ≡ width limits → SpellsParts limits words memory
-    → actor < 16 → HasWord limits step → SetsBits step → ChangesOneWord limits words memory actor step
+    → actor < most_large_actors → HasWord limits step → SetsBits step → ChangesOneWord limits words memory actor step
 
 -- Each such step has a word that is there, and is none of a row.
 pub record HasOwnWord (limits : Limits) (actor : ℕ) (step : Step Record) : Type 0 where
@@ -140,4 +141,4 @@ pub record HasOwnWord (limits : Limits) (actor : ℕ) (step : Step Record) : Typ
   pub apart : (row j : ℕ) → row < limits.rows → j < row_size → changed_word limits actor step ≢ row_at row j
 
 abbrev pub WordsStandApart : Type 0
-WordsStandApart = (limits : Limits) (actor : ℕ) (step : Step Record) → actor < 16 → HasWord limits step → HasOwnWord limits actor step
+WordsStandApart = (limits : Limits) (actor : ℕ) (step : Step Record) → actor < most_large_actors → HasWord limits step → HasOwnWord limits actor step

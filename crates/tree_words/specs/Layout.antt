@@ -1,10 +1,11 @@
 -- Where each part of a memory has its words, in a table of these limits.
 use Rattle.std.specs.Prelude.{◌≢◌, ◌<◌, ◌+◌, ◌*◌, ◌/◌, ℕ}
 use Rattle.tree_limits.specs.declared.limits.Limits.{Limits}
+use Rattle.tree_limits.specs.Limits.{most_large_actors}
 use Rattle.record_slots.specs.Layout.{row_size}
 
--- There are the epoch, 16 announced epochs, one at every eighth word, and from word 512 on the rows; then the slots, the words of free
--- PIDs, and those of free rows.
+-- There are the epoch, the announced epochs of as many actors as a large tree may have, one at every eighth word, and from word 512 on
+-- the rows; then the slots, the words of free PIDs, and those of free rows. A small tree has the same layout.
 abbrev pub epoch_at : ℕ
 epoch_at = 0
 
@@ -12,7 +13,7 @@ abbrev pub announced_at : ℕ → ℕ
 announced_at actor = 8 + 8 * actor
 
 abbrev pub rows_at : ℕ
-rows_at = 512
+rows_at = announced_at most_large_actors
 
 abbrev pub row_at : ℕ → ℕ → ℕ
 row_at row j = rows_at + (row_size * row + j)
@@ -32,4 +33,4 @@ width limits = rows_at + row_size * limits.rows + limits.pids + limits.pids / 64
 
 -- a word that no part has
 abbrev pub IsPad : ℕ → Type 0
-IsPad i = (epoch_at < i) × (i < rows_at) × ((actor : ℕ) → actor < 16 → i ≢ announced_at actor)
+IsPad i = (epoch_at < i) × (i < rows_at) × ((actor : ℕ) → actor < most_large_actors → i ≢ announced_at actor)

@@ -1,6 +1,7 @@
 -- The words that spell a memory.
 use Rattle.std.specs.Prelude.{◌≡◌, ◌<◌, ◌/◌, ℕ, if◌then◌else◌, List, length, slice_index, Option, None, Some, replicate, ⊤}
 use Rattle.tree_limits.specs.declared.limits.Limits.{Limits}
+use Rattle.tree_limits.specs.Limits.{most_large_actors}
 use Rattle.deltas.specs.declared.record.Record.{Record}
 use Rattle.deltas.specs.Memory.{Memory}
 use Rattle.traces.specs.trace.Steps.{IsWordOf}
@@ -30,7 +31,7 @@ pub record SpellsWhere (limits : Limits) (words : List ℕ) (memory : Memory) (s
   pub pid_bits : (word : ℕ) → word < limits.pids / 64 → IsWordOf memory.free_pids word (slice_index words (pid_bits_at limits word))
   pub row_bits : (word : ℕ) → word < limits.rows / 64 → IsWordOf memory.free_rows word (slice_index words (row_bits_at limits word))
   pub epoch : slice_index words epoch_at ≡ memory.epoch
-  pub announced : (actor : ℕ) → actor < 16 → slice_index words (announced_at actor) ≡ memory.announced actor
+  pub announced : (actor : ℕ) → actor < most_large_actors → slice_index words (announced_at actor) ≡ memory.announced actor
   pub pads : (i : ℕ) → IsPad i → slice_index words i ≡ 0
   pub rows : (row j : ℕ) → row < limits.rows → j < row_size → j < used_in limits (memory.rows row) → settled row
       → slice_index words (row_at row j) ≡ slice_index (words_in limits (memory.rows row)) j

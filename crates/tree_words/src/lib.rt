@@ -1,9 +1,9 @@
-//! A memory as one row of words, as a running tree keeps it: slots, words of free bits, the epoch, what actors announce, rows.
+//! A memory as one row of words, as a running tree keeps it: slots, words of free bits, the epoch, announced epochs, rows.
 //!
-//! Look first at specs/Changes and at `made_by`: which atomic operation on which word a step is. `opening_words` are the words of the
-//! tree of one empty leaf, and `word_place`, `row_place`, `slot_place` say where each part has its words.
+//! Look first at specs/Changes and at `made_by`: which atomic operation on which word a step is. `opening_words` are the words of the tree of
+//! one empty leaf; `word_place`, `row_place`, `slot_place` return where each part has its words.
 //!
-//! Called by `table_rule`, which makes the operations, and by `running_tree` at opening. It knows no seat and no thread: it says what one
+//! Called by `table_rule`, which makes the operations, and by `running_tree` at opening. It knows no seat and no thread: it defines what one
 //! operation does to one word.
 #![tactic(auto)]
 

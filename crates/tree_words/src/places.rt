@@ -4,9 +4,10 @@ ghost use Rattle.tree_words.specs.Layout.{announced_at, epoch_at, pid_bits_at, r
 
 use bw_model::Limits;
 use record_slots::ROW_WORDS;
+use tree_limits::MAX_LARGE_ACTORS;
 
-/// The place of the first word of the first row.
-const ROWS: usize = 512;
+/// The place of the first word of the first row: behind the words that so many actors announce.
+const ROWS: usize = 8 + 8 * MAX_LARGE_ACTORS as usize;
 
 /// The place of the slot of a PID.
 pub fn slot_place(limits: &Limits, pid: u32) -> usize

@@ -37,7 +37,7 @@ fn are_same(one: &[Command], other: &[Command]) -> bool
     one == other
 }
 
-/// Whether the jobs stand in order of their numbers, no two of which are the same.
+/// Whether the jobs are in the order of their numbers, no two of which are the same.
 pub fn are_ascending(jobs: &[Job]) -> bool
     ensures { MatchBool result (AreAscending jobs.now) (AreAscending jobs.now → ⊥) }
 {

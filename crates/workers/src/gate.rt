@@ -1,6 +1,7 @@
 //! What is told when jobs begin and end.
 
-/// Is told when a job begins and ends, in the thread that runs it. It may hold the thread up. It is asked for the threads' stacks.
+/// Is called when a job begins and ends, in the thread that runs it. It may hold the thread up. It returns how large the threads' stacks
+/// are to be.
 pub trait Gate {
     /// Before the job's first command.
     fn before(&self, job: u32);

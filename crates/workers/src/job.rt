@@ -38,7 +38,7 @@ pub enum JobsRefusal {
     Results,
 }
 
-/// A refusal to run jobs, which hands back the seats, and what was replied.
+/// A refusal to run jobs, which returns the seats, and what was replied.
 #[derive(Drop)]
 pub struct JobsError<A: Allocator = Global> {
     /// Why.

@@ -1,13 +1,12 @@
-//! Workers: jobs of commands on threads over one tree, a thread for each seat. What is simpler is passed on from `seats` and
-//! `seat_threads`: seats at hand, commands that run to their end, and works of the caller's own, each in a thread with a seat.
+//! Workers: jobs of commands on threads over one tree, a thread for each seat. It re-exports `seats` and `seat_threads`: lists of seats,
+//! commands that run to completion, and works of the caller's own, each in a thread with a seat.
 //!
-//! Look first at `run_jobs`, then at `Job` and `JobResult`. `Gate` may hold a job up, and is asked how great each thread's stack is to
-//! be.
+//! Look first at `run_jobs`, then at `Job` and `JobResult`. A `Gate` may delay a job, and returns how large each thread's stack is to be.
 //!
-//! Which worker runs which job is a matter of time. Each result names the seat that ran the job, and what that seat has seen tells of the
+//! Which worker runs which job depends on timing. Each result names the seat that ran the job, and the history that this seat has seen has the
 //! same calls with the same replies (specs/Worked).
 //!
-//! Called by `race`, and by who embeds a tree and has jobs. It knows a tree by its contracts alone, and reads no line.
+//! Called by `race`, and by programs that embed a tree and have jobs. It knows a tree by its contracts alone, and reads no line.
 #![tactic(auto)]
 
 mod begun;

@@ -17,10 +17,11 @@ use std::alloc::Allocator;
 use std::sync::{OnceLock, Wait};
 use std::thread::Threads;
 
-/// Runs all jobs, by as many threads as there are seats, once all of these stand. A free thread takes the next job, and runs its commands in
-/// order, each to its end; it waits where the gate does. The results stand in order of the jobs' numbers. It is refused for want of memory
-/// or of a thread, before a job has begun, and where a result is missing, doubled or foreign. The seats come back in their order and idle, also
-/// from a refusal; each has seen what all have done, in one history. A reply takes 3.2 KB, for which there is memory before a job begins.
+/// Runs all jobs, by as many threads as there are seats, once all of these exist. A free thread takes the next job, and runs its commands
+/// in order, each to completion; it waits where the gate does. The results are in the order of the jobs' numbers. It is refused if
+/// allocation or a thread fails, before a job has begun, and if a result is missing, doubled or foreign. The seats are returned in their
+/// order and idle, also from a refusal; each has seen what all have done, in one history. A reply takes 3.2 KB, which is allocated before a
+/// job begins.
 pub fn run_jobs<R: Threads + Wait + Sync, G: Gate + Sync, A: Allocator + Copy + Send + Sync>(
     rt: &R,
     alloc: A,

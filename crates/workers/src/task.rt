@@ -18,7 +18,7 @@ pub(crate) struct Task<A: Allocator> {
     pub(crate) ghost room: { vec_len commands ≤ vec_capacity replies },
 }
 
-/// The same commands once more.
+/// A copy of the commands.
 fn commands_of<A: Allocator>(
     alloc: A,
     commands: &[Command],

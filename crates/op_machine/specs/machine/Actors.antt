@@ -98,7 +98,7 @@ pub record IsToldActor (at : Actor) (answer : Answer Record) : Type 0 where
   pub r : Recalled
   pub going : IsGoing limits actor k r at answer
 
--- The same, and what was read then is there.
+-- As `IsToldActor`, and what was read then is there.
 pub record IsToldActorThere (is_there : ℕ → Record → Type 0) (at : Actor) (answer : Answer Record) : Type 0 where
   pub limits : Limits
   pub actor : ℕ

@@ -65,7 +65,7 @@ pub record IsToldOp (op : Op) (hand : Hand) (told : Answer Record) : Type 0 wher
   pub shows : Shows op hand k r
   pub fits : FitsLast op.task.limits k (wanted_of op hand) told
 
--- The same, and what was read then is there.
+-- As `IsToldOp`, and what was read then is there.
 pub record IsToldOpThere (is_there : ℕ → Record → Type 0) (op : Op) (hand : Hand) (told : Answer Record) : Type 0 where
   pub k : Knowledge
   pub r : Recalled

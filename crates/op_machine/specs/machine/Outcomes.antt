@@ -88,7 +88,7 @@ pub record IsAtLeaf (task : Task) (spares : Spares) (k : Knowledge) (r : Recalle
   pub early : length leaf.chain ≤ due_of task.limits task.errands task.command
   pub few : HasFewItems leaf.chain
 
--- The same, and the page above it, where one was read before it, which has its term.
+-- A writer is at its leaf, with the page above it, where one was read before it, which has its term.
 pub record IsAtLeafBelow (task : Task) (spares : Spares) (k : Knowledge) (r : Recalled) (parent : Option Version) (leaf : Version) : Type 0 where
   pub at : IsAtLeaf task spares k r leaf
   pub above : IfSome parent (write.IsUpper task.limits k r leaf)

@@ -78,7 +78,7 @@ pub record ReadsOn (old : OpPlaces) (told : Answer Record) (new : OpPlaces) (res
   pub same : read.ReadsForTheSame old.reader.round new.reader.round
   pub only : new ≡ record old { reader = new.reader }
 
--- The same of the writer's round.
+-- The writer's round has taken the answer, and nothing else has changed.
 pub record WritesOn (old : OpPlaces) (told : Answer Record) (new : OpPlaces) (result : Option WriteEnd) : Type 0 where
   pub responds : Responds response.writing old.writer.round told new.writer.round result
   pub same : write.WritesForTheSame old.writer.round new.writer.round

@@ -32,7 +32,7 @@ pub record IsToldOn (op : Op) (spares : Spares) (told : Answer Record) : Type 0 
   pub works : Works op spares k r
   pub fits : FitsLast op.task.limits k (asked_of op spares) told
 
--- The same, and what was read then is there.
+-- As `IsToldOn`, and what was read then is there.
 pub record IsToldOnThere (is_there : ℕ → Record → Type 0) (op : Op) (spares : Spares) (told : Answer Record) : Type 0 where
   pub k : Knowledge
   pub r : Recalled
@@ -45,7 +45,7 @@ pub record IsToldWith (op : Op) (hand : Hand) (told : Answer Record) : Type 0 wh
   pub told_on : IsToldOn op hand.spares told
   pub kept : AreKept op.task.limits op.task.actor hand.limbo told_on.k.limbo
 
--- The same of a state.
+-- Something is known that the state shows, the answer fits it, and the limbo list keeps what is known.
 pub record IsToldChange (state : State) (hand : Hand) (told : Answer Record) : Type 0 where
   pub told_at : IsToldAt state hand.spares told
   pub kept : AreKept told_at.task.limits told_at.task.actor hand.limbo told_at.k.limbo

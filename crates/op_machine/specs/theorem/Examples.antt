@@ -32,7 +32,7 @@ are_small = record {
 pub small_allowed : AreLargeLimits 2 64 64 1
 small_allowed = record {
   some_actor = are_small.some_actor;
-  few_actors = are_small.few_actors;
+  few_actors = lit≤ tt;
   some_pids = are_small.some_pids;
   few_pids = lit≤ tt;
   whole_pids = are_small.whole_pids;
@@ -163,7 +163,7 @@ row_reuse = Begin 0 (Insert (codes "a") (codes "1"))
     ∷ Step 0 (ReuseRows 0 2) Done None
     ∷ []
 
--- The same without the look at the other actor: refused.
+-- That row is freed without the look at the other actor: refused.
 abbrev pub hurried_reuse : List Entry
 hurried_reuse = Begin 0 (Insert (codes "a") (codes "1"))
     ∷ Step 0 Epoch (Number 1) None

@@ -1,4 +1,4 @@
-use Rattle.std.proofs.Common.{refl}
+use Rattle.std.proofs.Common.{refl, arith}
 use Rattle.sweep.proofs.Short.{begins_few, comes_free, moves_short}
 use Rattle.sweep.proofs.limbo_laws.large_sweeps_are_short.Goals as goal
 
@@ -15,4 +15,4 @@ pub returns-clause-goes : goal.returns-clause-goes
 returns-clause-goes c = λ limits old next told limbo after large sound clear moves. moves_short limits large old next told limbo after sound clear moves
 
 pub returns-clause-most : goal.returns-clause-most
-returns-clause-most c = refl
+returns-clause-most c = λ limits. omega arith
