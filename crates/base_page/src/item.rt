@@ -21,7 +21,7 @@ pub struct Item {
 }
 
 impl Content {
-    /// The same content again, without memory.
+    /// A copy of the content; it allocates nothing.
     pub fn copied(&self) -> Content
         ensures { result ≡ self.now }
     {
@@ -56,7 +56,7 @@ impl Clone for Content {
 }
 
 impl Item {
-    /// The same item again, without memory.
+    /// A copy of the item; it allocates nothing.
     pub fn copied(&self) -> Item
         ensures { result ≡ self.now }
     {

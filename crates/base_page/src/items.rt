@@ -84,7 +84,7 @@ impl Items {
         self.items.is_empty()
     }
 
-    /// The same items again, without memory.
+    /// A copy of the items; it allocates nothing.
     pub fn copied(&self) -> Items
         ensures { result ≡ self.now }
     {

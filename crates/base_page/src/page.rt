@@ -127,7 +127,7 @@ impl Page {
         &self.items
     }
 
-    /// The same page again, without memory.
+    /// A copy of the page; it allocates nothing.
     pub fn copied(&self) -> Page
         ensures { result ≡ self.now }
     {

@@ -10,7 +10,7 @@ ghost use Rattle.compact_rows.specs.Spells.{IsCompact};
 ghost use Rattle.deltas.specs.Spellable.{IsSpellable};
 ghost use Rattle.record_slots.specs.Spells.{HasShortTexts};
 
-/// The same compact words spell at most one record.
+/// No two records have equal compact words.
 pub fn compact_spelling_is_one()
     ensures { (one other : Record) (words : List ℕ) → IsCompact one words → IsCompact other words → one ≡ other }
 {}

@@ -17,7 +17,7 @@ use crate::short::{texts_are_short, value_bytes};
 use base_page::{Content, Item};
 use bw_model::Key;
 use deltas::Record;
-use record_slots::{FORM_UNIT, ITEM_UNIT, LEVEL_UNIT, NO_BOUND, key_bytes, word_at};
+use record_slots::{FORM_UNIT, ITEM_UNIT, LEVEL_UNIT, NO_BOUND, key_bytes, kinds, word_at};
 
 /// The compact words of a record that has room. Where a row can spell it, they are its compact spelling.
 pub fn to_compact(content: &Record) -> CompactRow
@@ -54,7 +54,7 @@ pub(crate) fn write_compact(row: &mut CompactRow, content: &Record)
             let items = page.items().as_slice();
             write_row(
                 row,
-                1,
+                kinds::BASE,
                 page.level(),
                 0,
                 right,
@@ -68,12 +68,12 @@ pub(crate) fn write_compact(row: &mut CompactRow, content: &Record)
                 key: put.key.copied(),
                 content: Content::Value(put.value.copied()),
             };
-            write_row(row, 2, 0, put.next, 0, &none, Some(&none), &[item])
+            write_row(row, kinds::PUT, 0, put.next, 0, &none, Some(&none), &[item])
         }
-        Record::Delete(delete) => write_link(row, 3, 0, delete.next, 0, &delete.key),
+        Record::Delete(delete) => write_link(row, kinds::DELETE, 0, delete.next, 0, &delete.key),
         Record::Split(split) => write_link(
             row,
-            4,
+            kinds::SPLIT,
             split.level,
             split.next,
             split.page,
@@ -81,7 +81,7 @@ pub(crate) fn write_compact(row: &mut CompactRow, content: &Record)
         ),
         Record::Term(term) => write_link(
             row,
-            5,
+            kinds::TERM,
             term.level,
             term.next,
             term.child,
@@ -89,16 +89,23 @@ pub(crate) fn write_compact(row: &mut CompactRow, content: &Record)
         ),
         Record::Hold(hold) => write_link(
             row,
-            6,
+            kinds::HOLD,
             hold.level,
             hold.next,
             hold.child,
             &hold.separator,
         ),
-        Record::Remove(remove) => write_link(row, 7, remove.level, remove.next, 0, &none),
+        Record::Remove(remove) => write_link(
+            row,
+            kinds::REMOVE,
+            remove.level,
+            remove.next,
+            0,
+            &none,
+        ),
         Record::Merge(merge) => write_row(
             row,
-            8,
+            kinds::MERGE,
             merge.level,
             merge.next,
             merge.right.unwrap_or(0),
@@ -108,7 +115,7 @@ pub(crate) fn write_compact(row: &mut CompactRow, content: &Record)
         ),
         Record::Unterm(unterm) => write_link(
             row,
-            9,
+            kinds::UNTERM,
             unterm.level,
             unterm.next,
             unterm.child,

@@ -2,13 +2,14 @@
 //!
 //! Look first at `to_words` and `from_words`: each record that a row can spell has one spelling, and words are read as a record exactly
 //! where they spell it. The layout's numbers have their home here (`ROW_WORDS`, `FIRST_ITEM`, `ITEM_WORDS` ..); docs/FORMATS.md draws it.
-//! The first word says kind, level, count of items and form, so it tells how many words the record uses.
+//! The first word has kind, level, count of items and form, so it determines how many words the record uses.
 //!
 //! Called by `row_search`, which searches rows without decoding them, by `tree_words` and `table_rule`, which keep rows as atomic words,
 //! and by `widening`. It knows no chain: the row under a record is a number.
 #![tactic(auto)]
 
 mod item_words;
+pub mod kinds;
 mod layout;
 mod read;
 mod records;

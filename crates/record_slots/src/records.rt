@@ -4,12 +4,12 @@ ghost use Rattle.record_slots.specs.Layout.{item_size};
 ghost use Rattle.record_slots.specs.Parts.{IsBare, IsLinkKind, IsLinkOf, IsRecordOf, IsRightIn, IsRowOfParts};
 ghost use Rattle.record_slots.specs.Spells.{FindsOne};
 
-use crate::BadRow;
 use crate::item_words::read_items;
 use crate::layout::{ITEM_CONTENT, ITEM_WORDS};
 use crate::row::Row;
 use crate::rules::keeps_rules;
 use crate::texts::{field_in, value_in};
+use crate::{BadRow, kinds};
 use arrayvec::ArrayVec;
 use base_page::{Items, Page};
 use bw_model::Key;
@@ -22,12 +22,12 @@ pub(crate) fn record_in(row: Row, words: &[u64]) -> Result<Record, BadRow>
     ensures { FindsOne (IsRecordOf row words.now) result }
 {
     match row.kind {
-        1 => base_in(row, words),
-        2 => put_in(row, words),
-        3 => delete_in(row, words),
-        4 | 5 | 6 | 9 => link_in(row, words),
-        7 => remove_in(row, words),
-        8 => merge_in(row, words),
+        kinds::BASE => base_in(row, words),
+        kinds::PUT => put_in(row, words),
+        kinds::DELETE => delete_in(row, words),
+        kinds::SPLIT | kinds::TERM | kinds::HOLD | kinds::UNTERM => link_in(row, words),
+        kinds::REMOVE => remove_in(row, words),
+        kinds::MERGE => merge_in(row, words),
         _ => Err(BadRow),
     }
 }
@@ -97,23 +97,23 @@ fn link_in(row: Row, words: &[u64]) -> Result<Record, BadRow>
     requires kind { IsLinkKind row.kind }
     ensures { FindsOne (IsRecordOf row words.now) result }
 {
-    if !is_link(&row) || row.kind != 4 && row.level == 0 {
+    if !is_link(&row) || row.kind != kinds::SPLIT && row.level == 0 {
         return Err(BadRow);
     }
     Ok(match row.kind {
-        4 => Record::Split(Split {
+        kinds::SPLIT => Record::Split(Split {
             level: row.level,
             next: row.next,
             separator: row.first,
             page: row.page,
         }),
-        5 => Record::Term(Term {
+        kinds::TERM => Record::Term(Term {
             level: row.level,
             next: row.next,
             separator: row.first,
             child: row.page,
         }),
-        6 => Record::Hold(Hold {
+        kinds::HOLD => Record::Hold(Hold {
             level: row.level,
             next: row.next,
             separator: row.first,

@@ -10,10 +10,10 @@ ghost use Rattle.record_slots.specs.Spelling.{bound_words, field_words, item_wor
 ghost use Rattle.record_slots.specs.Spells.{HasShortTexts, IsShortItem, IsSpelling};
 ghost use Rattle.record_slots.specs.declared.layout.TheConstants.{ROW_WORDS};
 
-use crate::WrittenRow;
 use crate::layout::{
     FORM, FORM_UNIT, HELD, ITEM_UNIT, LEVEL_UNIT, NO_BOUND, ROW_WORDS, TEXT_WORDS,
 };
+use crate::{WrittenRow, kinds};
 use base_page::{Content, Item};
 use bw_model::{Key, Value};
 use deltas::{Merge, Record};
@@ -41,7 +41,7 @@ pub fn write_record(row: &mut WrittenRow, content: &Record)
             let items = page.items().as_slice();
             write_row(
                 row,
-                1,
+                kinds::BASE,
                 page.level(),
                 0,
                 right,
@@ -55,14 +55,23 @@ pub fn write_record(row: &mut WrittenRow, content: &Record)
                 key: put.key.copied(),
                 content: Content::Value(put.value.copied()),
             };
-            write_row(row, 2, 0, put.next, 0, &none, Some(&none), &[item])
+            write_row(row, kinds::PUT, 0, put.next, 0, &none, Some(&none), &[item])
         }
         Record::Delete(delete) => {
-            write_row(row, 3, 0, delete.next, 0, &delete.key, Some(&none), &[])
+            write_row(
+                row,
+                kinds::DELETE,
+                0,
+                delete.next,
+                0,
+                &delete.key,
+                Some(&none),
+                &[],
+            )
         }
         Record::Split(split) => write_link(
             row,
-            4,
+            kinds::SPLIT,
             split.level,
             split.next,
             split.page,
@@ -70,7 +79,7 @@ pub fn write_record(row: &mut WrittenRow, content: &Record)
         ),
         Record::Term(term) => write_link(
             row,
-            5,
+            kinds::TERM,
             term.level,
             term.next,
             term.child,
@@ -78,18 +87,25 @@ pub fn write_record(row: &mut WrittenRow, content: &Record)
         ),
         Record::Hold(hold) => write_link(
             row,
-            6,
+            kinds::HOLD,
             hold.level,
             hold.next,
             hold.child,
             &hold.separator,
         ),
-        Record::Remove(remove) => write_link(row, 7, remove.level, remove.next, 0, &none),
+        Record::Remove(remove) => write_link(
+            row,
+            kinds::REMOVE,
+            remove.level,
+            remove.next,
+            0,
+            &none,
+        ),
         Record::Merge(merge) => write_merge(row, merge),
         Record::Unterm(unterm) => {
             write_link(
                 row,
-                9,
+                kinds::UNTERM,
                 unterm.level,
                 unterm.next,
                 unterm.child,
@@ -109,7 +125,7 @@ fn write_merge(row: &mut WrittenRow, merge: &Merge)
     let items = merge.items.as_slice();
     write_row(
         row,
-        8,
+        kinds::MERGE,
         merge.level,
         merge.next,
         right,

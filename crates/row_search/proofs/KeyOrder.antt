@@ -84,7 +84,8 @@ drop_bytes zero xs h = h
 drop_bytes (suc n) [] h = tt
 drop_bytes (suc n) (x ∷ xs) h = drop_bytes n xs h.1
 
-words_order : (k : ℕ) (x y : List ℕ) → AreBytes x → AreBytes y → slice_cmp nat_cmp (text_words k x) (text_words k y) ≡ slice_cmp nat_cmp (padded (8 * k) x) (padded (8 * k) y)
+pub words_order : (k : ℕ) (x y : List ℕ) → AreBytes x → AreBytes y
+    → slice_cmp nat_cmp (text_words k x) (text_words k y) ≡ slice_cmp nat_cmp (padded (8 * k) x) (padded (8 * k) y)
 words_order zero x y h g = refl
 words_order (suc k) x y h g =
     (λ i. ordering_then (packed_order 8 x y h g i) (words_order k (drop 8 x) (drop 8 y) (drop_bytes 8 x h) (drop_bytes 8 y g) i))
@@ -141,3 +142,18 @@ key_order (suc n) (x ∷ xs) (y ∷ ys) h g =
 pub text_order : (k : ℕ) (x y : List ℕ) → AreBytes x → AreBytes y → length x ≤ 8 * k → length y ≤ 8 * k → key_cmp x y ≡ words_cmp (text_words k x) (length x) (text_words k y) (length y)
 text_order k x y h g few_x few_y =
     key_order (8 * k) x y few_x few_y ∙ ap (λ o. ordering_then o (nat_cmp (length x) (length y))) (sym (words_order k x y h g))
+
+both_equal : (o rest : Ordering) → ordering_then o rest ≡ Equal → (o ≡ Equal) × (rest ≡ Equal)
+both_equal Less rest e = let w : Less ≡ Equal = e in cc
+both_equal Equal rest e = (refl, e)
+both_equal Greater rest e = let w : Greater ≡ Equal = e in cc
+
+-- where the first k bytes are the same, and one has no more of them, the lengths decide
+pub lead_order : (k : ℕ) (x y : List ℕ) → length y ≤ k → slice_cmp nat_cmp (padded k x) (padded k y) ≡ Equal → key_cmp x y ≡ nat_cmp (length x) (length y)
+lead_order k [] [] few e = refl
+lead_order k [] (y ∷ ys) few e = zero_below (length ys)
+lead_order k (x ∷ xs) [] few e = above_zero (length xs)
+lead_order zero (x ∷ xs) (y ∷ ys) few e = absurd (omega arith)
+lead_order (suc k) (x ∷ xs) (y ∷ ys) few e =
+    let first = both_equal (nat_cmp x y) (slice_cmp nat_cmp (padded k xs) (padded k ys)) e in
+    ap (λ o. ordering_then o (key_cmp xs ys)) first.0 ∙ lead_order k xs ys (omega arith) first.1 ∙ suc_order (length xs) (length ys)

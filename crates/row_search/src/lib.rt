@@ -1,12 +1,12 @@
-//! Searches on a record where it lies, in a row that was read and stays: they look at the words that they need, and copy no row.
+//! Searches in a record where it lies, in a row that was read and doesn't change: they load the words that they need, and copy no row.
 //!
-//! Look first at `RowAt`: a record that was read, as its row's number and its first word, which is asked what it says of a key, its
-//! bounds, the row under it, its items' keys, and how many items are below a bound. `Rows` is where the row lies: what a look takes, and
-//! what a look finds. `KeyWords` is a key as words, compared word by word.
+//! Look first at `RowAt`: a record that was read, as its row's number and its first word. It returns what the record has at a key, its bounds,
+//! the row under it, its items' keys, and how many items are below a bound. `Rows` is the memory: what a look (a plain load) takes, and what it
+//! returns. `KeyWords` is a key as words, compared word by word.
 //!
-//! Called by `row_chain` for every record of a page, by `rounds`, and by whoever reads a record (`step_core`, `running_tree`), whose memories
-//! are such rows. It knows one row at a time, and neither how it was read nor why it stays: each search asks, as its premise, that its
-//! record was read. What a chain of rows decides is said in `row_chain`.
+//! Called by `row_chain` for every record of a page, by `rounds`, and by all that read records (`step_core`, `running_tree`), whose memories
+//! are such rows. It knows one row at a time, and neither how it was read nor why it stays: each search requires that its record was read. What
+//! a chain of rows decides is in `row_chain`.
 #![tactic(auto)]
 
 mod key_words;

@@ -1,10 +1,11 @@
 //! A record that was read in a row, and is looked at there.
-ghost use Rattle.std.specs.Prelude.{◌≡◌, ◌<◌, ◌≤◌, ◌+◌, Some, false, length, slice_index, take, drop};
+ghost use Rattle.std.specs.Prelude.{◌≡◌, ◌<◌, ◌≤◌, ◌+◌, List, ℕ, Some, false, length, slice_index, take, drop};
 ghost use Rattle.base_page.specs.declared.items.TheConstants.{MAX_ITEMS};
 ghost use Rattle.deltas.specs.Records.{next_row, removed_after};
 ghost use Rattle.record_slots.specs.Parts.{items_of, row_of};
 ghost use Rattle.record_slots.specs.Spelling.{words_of};
 ghost use Rattle.record_slots.specs.Spells.{HasSpelling};
+ghost use Rattle.record_slots.specs.Texts.{IsText};
 ghost use Rattle.record_slots.specs.declared.layout.TheConstants.{ROW_WORDS, TEXT_WORDS};
 
 mod bounds;
@@ -17,8 +18,8 @@ mod says;
 use crate::{Rows, Told};
 use deltas::Record;
 use record_slots::{
-    FIRST_ITEM, ITEM_UNIT, ITEM_WORDS, LEVEL_UNIT, PART_LIMIT, ROW_WORDS, TEXT_WORDS, read_words,
-    rows_have_words,
+    FIRST_ITEM, ITEM_UNIT, ITEM_WORDS, LEVEL_UNIT, PART_LIMIT, ROW_WORDS, TEXT_WORDS, kinds,
+    read_words, rows_have_words,
 };
 use std::marker::Model;
 
@@ -82,18 +83,26 @@ impl<R: Rows> RowAt<R> {
         rows.look(pass, self.number, at)
     }
 
-    /// The words of a text from a place on.
-    pub(crate) fn text(&self, rows: &R, pass: &mut R::Pass, at: usize) -> [u64; TEXT_WORDS]
+    /// The words of a text of so many bytes, from a place on. Those that it uses are looked at; the rest are 0.
+    pub(crate) fn text(
+        &self,
+        rows: &R,
+        pass: &mut R::Pass,
+        at: usize,
+        count: u64,
+    ) -> [u64; TEXT_WORDS]
         requires read { R.has rows.now pass.old self.now.row self.now.content }
         requires within { at + TEXT_WORDS ≤ ROW_WORDS }
+        requires text { (text : List ℕ) × IsText count (take TEXT_WORDS (drop at (words_of self.now.content))) text }
         ensures same { pass.new ≡ pass.old }
         ensures text { result ≡ take TEXT_WORDS (drop at (words_of self.now.content)) }
     {
         rows_have_words();
         self.keeps_spelling();
+        let used = ((count + 7) / 8) as usize;
         let mut words = [0; TEXT_WORDS];
         let mut place = 0;
-        while place < TEXT_WORDS {
+        while place < used {
             words[place] = self.word(rows, pass, at + place);
             place += 1;
         }
@@ -129,10 +138,10 @@ impl<R: Rows> RowAt<R> {
     }
 
     /// Which kind of record it is, by its number.
-    fn kind(&self) -> u64
+    fn kind(&self) -> u8
         ensures { result ≡ (row_of self.now.content).kind }
     {
-        self.first % PART_LIMIT
+        (self.first % PART_LIMIT) as u8
     }
 
     /// The level; puts and deletes stand on leaves.
@@ -154,7 +163,7 @@ impl<R: Rows> RowAt<R> {
     pub fn removes(&self) -> bool
         ensures { result ≡ removed_after self.now.content false }
     {
-        self.kind() == 7
+        self.kind() == kinds::REMOVE
     }
 
     /// The row of the record under it.
@@ -164,7 +173,7 @@ impl<R: Rows> RowAt<R> {
         ensures next { result ≡ next_row self.now.content }
     {
         self.keeps_spelling();
-        if self.kind() == 1 {
+        if self.kind() == kinds::BASE {
             return None;
         }
         Some(self.word(rows, pass, 1) as u32)

@@ -7,7 +7,7 @@ ghost use Rattle.record_slots.specs.Parts.{items_of, row_of};
 
 use crate::{KeyWords, RowAt, Rows};
 use bw_model::Key;
-use record_slots::{FIRST_ITEM, FIRST_KEY, HELD, ITEM_WORDS, NO_BOUND, SECOND_KEY, key_in};
+use record_slots::{FIRST_ITEM, FIRST_KEY, ITEM_WORDS, NO_BOUND, SECOND_KEY, key_in, kinds};
 use std::cmp::Ordering;
 
 impl<R: Rows> RowAt<R> {
@@ -19,7 +19,7 @@ impl<R: Rows> RowAt<R> {
     {
         self.keeps_spelling();
         let count = self.word(rows, pass, FIRST_KEY);
-        let words = self.text(rows, pass, FIRST_KEY + 1);
+        let words = self.text(rows, pass, FIRST_KEY + 1, count);
         key_in(count, &words).unwrap()
     }
 
@@ -34,7 +34,7 @@ impl<R: Rows> RowAt<R> {
         if count == NO_BOUND {
             return None;
         }
-        let words = self.text(rows, pass, SECOND_KEY + 1);
+        let words = self.text(rows, pass, SECOND_KEY + 1, count);
         Some(key_in(count, &words).unwrap())
     }
 
@@ -46,13 +46,13 @@ impl<R: Rows> RowAt<R> {
         ensures high_kept { IsFalse result → (high : Option (List ℕ)) → high_after self.now.content high ≡ high }
     {
         let kind = self.kind();
-        if kind == 1 {
+        if kind == kinds::BASE {
             return true;
         }
-        if kind == 4 {
+        if kind == kinds::SPLIT {
             return true;
         }
-        if kind == 8 {
+        if kind == kinds::MERGE {
             return true;
         }
         false
@@ -82,13 +82,13 @@ impl<R: Rows> RowAt<R> {
         ensures high { result ≡ high_after self.now.content None }
     {
         let kind = self.kind();
-        if kind == 4 {
+        if kind == kinds::SPLIT {
             return Some(self.first(rows, pass));
         }
-        if kind == 1 {
+        if kind == kinds::BASE {
             return self.second(rows, pass);
         }
-        if kind == 8 {
+        if kind == kinds::MERGE {
             return self.second(rows, pass);
         }
         None
@@ -126,8 +126,7 @@ impl<R: Rows> RowAt<R> {
         while low < high {
             let middle = (low + high) / 2;
             let at = FIRST_ITEM + ITEM_WORDS * middle;
-            let count = self.word(rows, pass, at) % HELD;
-            match key.compare_at(self, rows, pass, at + 1, count) {
+            match key.compare_item(self, rows, pass, at) {
                 Ordering::Less => low = middle + 1,
                 Ordering::Equal => return Ok(middle),
                 Ordering::Greater => high = middle,

@@ -10,7 +10,7 @@ ghost use Rattle.record_slots.specs.declared.layout.TheConstants.{HELD, ROW_WORD
 ghost use Rattle.row_search.specs.Items.{is_term, items_said, may_take, takes};
 
 use crate::{KeyWords, RowAt, Rows};
-use record_slots::{FIRST_KEY, HELD, ITEM_CONTENT};
+use record_slots::{FIRST_KEY, HELD, ITEM_CONTENT, kinds};
 use std::cmp::Ordering;
 
 impl<R: Rows> RowAt<R> {
@@ -19,10 +19,10 @@ impl<R: Rows> RowAt<R> {
         ensures { result ≡ is_term self.now.content }
     {
         let kind = self.kind();
-        if kind == 5 {
+        if kind == kinds::TERM {
             return true;
         }
-        kind == 6
+        kind == kinds::HOLD
     }
 
     /// Where the key stands among the items that it says are there, or where it would stand.
@@ -73,8 +73,7 @@ impl<R: Rows> RowAt<R> {
         ensures compared { (d : Item) → result ≡ key_cmp (slice_index_or (items_said self.now.content) place d).key key.now }
     {
         let at = self.said_at(place);
-        let count = self.word(rows, pass, at) % HELD;
-        key.compare_at(self, rows, pass, at + 1, count)
+        key.compare_item(self, rows, pass, at)
     }
 
     /// The key of the item that it says is there.
@@ -112,7 +111,7 @@ impl<R: Rows> RowAt<R> {
     pub fn may_take(&self) -> bool
         ensures { result ≡ may_take self.now.content }
     {
-        if self.kind() == 2 {
+        if self.kind() == kinds::PUT {
             return false;
         }
         !self.is_term()

@@ -6,7 +6,7 @@ ghost use Rattle.record_slots.specs.declared.layout.TheConstants.{FIRST_ITEM, IT
 ghost use Rattle.row_search.specs.OneKey.{one_key, split_at};
 
 use crate::{KeyWords, RowAt, Rows};
-use record_slots::{FIRST_ITEM, FIRST_KEY, HELD, ITEM_WORDS};
+use record_slots::{FIRST_ITEM, FIRST_KEY, HELD, ITEM_WORDS, kinds};
 
 impl<R: Rows> RowAt<R> {
     /// The one key that it names, and whether it says that the key is there. A base, a split, a removal and a merge have none.
@@ -16,19 +16,19 @@ impl<R: Rows> RowAt<R> {
         ensures key { result ≡ one_key self.now.content }
     {
         let kind = self.kind();
-        if kind == 2 {
+        if kind == kinds::PUT {
             return Some((self.key_at(rows, pass, 0), true));
         }
-        if kind == 3 {
+        if kind == kinds::DELETE {
             return Some((self.first_words(rows, pass), false));
         }
-        if kind == 5 {
+        if kind == kinds::TERM {
             return Some((self.first_words(rows, pass), true));
         }
-        if kind == 6 {
+        if kind == kinds::HOLD {
             return Some((self.first_words(rows, pass), true));
         }
-        if kind == 9 {
+        if kind == kinds::UNTERM {
             return Some((self.first_words(rows, pass), false));
         }
         None
@@ -40,7 +40,7 @@ impl<R: Rows> RowAt<R> {
         ensures same { pass.new ≡ pass.old }
         ensures split { result ≡ split_at self.now.content }
     {
-        if self.kind() == 4 {
+        if self.kind() == kinds::SPLIT {
             return Some(self.first_words(rows, pass));
         }
         None

@@ -6,7 +6,7 @@ ghost use Rattle.record_slots.specs.Parts.{items_of, row_of};
 ghost use Rattle.row_search.specs.Reading.{first_key};
 
 use crate::{KeyWords, RowAt, Rows};
-use record_slots::{FIRST_ITEM, FIRST_KEY, HELD, NO_BOUND, SECOND_KEY};
+use record_slots::{FIRST_ITEM, FIRST_KEY, NO_BOUND, SECOND_KEY, kinds};
 use std::cmp::Ordering;
 
 impl<R: Rows> RowAt<R> {
@@ -43,8 +43,7 @@ impl<R: Rows> RowAt<R> {
         ensures compared { result ≡ key_cmp (first_key (items_of self.now.content)) key.now }
     {
         self.keeps_spelling();
-        let count = self.word(rows, pass, FIRST_ITEM) % HELD;
-        key.compare_at(self, rows, pass, FIRST_ITEM + 1, count)
+        key.compare_item(self, rows, pass, FIRST_ITEM)
     }
 
     /// Whether it decides what the key has.
@@ -54,19 +53,19 @@ impl<R: Rows> RowAt<R> {
         ensures names { result ≡ names self.now.content key.now }
     {
         let kind = self.kind();
-        if kind == 1 {
+        if kind == kinds::BASE {
             return true;
         }
-        if kind == 2 {
+        if kind == kinds::PUT {
             return self.compare_item(rows, pass, key).is_eq();
         }
-        if kind == 4 {
+        if kind == kinds::SPLIT {
             return !self.compare_first(rows, pass, key).is_gt();
         }
-        if kind == 7 {
+        if kind == kinds::REMOVE {
             return false;
         }
-        if kind == 8 {
+        if kind == kinds::MERGE {
             return self.covers(rows, pass, key);
         }
         self.compare_first(rows, pass, key).is_eq()
@@ -113,13 +112,13 @@ impl<R: Rows> RowAt<R> {
         ensures ends { result ≡ is_under key.now (high_after self.now.content None) }
     {
         let kind = self.kind();
-        if kind == 1 {
+        if kind == kinds::BASE {
             return self.is_below_second(rows, pass, key);
         }
-        if kind == 4 {
+        if kind == kinds::SPLIT {
             return self.compare_first(rows, pass, key).is_gt();
         }
-        if kind == 8 {
+        if kind == kinds::MERGE {
             return self.is_below_second(rows, pass, key);
         }
         true

@@ -10,7 +10,7 @@ use crate::{RowAt, Rows};
 use base_page::{Content, Item, Page};
 use bw_model::Key;
 use deltas::{Delete, Put};
-use record_slots::{HELD, key_in};
+use record_slots::{HELD, key_in, kinds};
 
 impl<R: Rows> RowAt<R> {
     /// The put that it is; none of another record.
@@ -19,7 +19,7 @@ impl<R: Rows> RowAt<R> {
         ensures same { pass.new ≡ pass.old }
         ensures put { result ≡ put_of self.now.content }
     {
-        if self.kind() == 2 {
+        if self.kind() == kinds::PUT {
             let next = self.under(rows, pass);
             return put_from(next, self.item(rows, pass, 0));
         }
@@ -32,7 +32,7 @@ impl<R: Rows> RowAt<R> {
         ensures same { pass.new ≡ pass.old }
         ensures delete { result ≡ delete_of self.now.content }
     {
-        if self.kind() == 3 {
+        if self.kind() == kinds::DELETE {
             let next = self.under(rows, pass);
             let key = self.first(rows, pass);
             return Some(Delete { next, key });
@@ -103,7 +103,7 @@ impl<R: Rows> RowAt<R> {
         self.keeps_spelling();
         let at = self.item_at(place);
         let count = self.word(rows, pass, at) % HELD;
-        let words = self.text(rows, pass, at + 1);
+        let words = self.text(rows, pass, at + 1, count);
         key_in(count, &words).unwrap()
     }
 }

@@ -9,7 +9,7 @@ ghost use Rattle.record_slots.specs.Parts.{items_of, row_of};
 use crate::{KeyWords, RowAt, Rows};
 use base_page::Content;
 use bw_model::Value;
-use record_slots::{HELD, ITEM_CONTENT, value_in};
+use record_slots::{HELD, ITEM_CONTENT, kinds, value_in};
 
 impl<R: Rows> RowAt<R> {
     /// What it says of a key that it names: its content, or none where the key is absent.
@@ -19,19 +19,19 @@ impl<R: Rows> RowAt<R> {
         ensures said { result ≡ content_said self.now.content key.now }
     {
         let kind = self.kind();
-        if kind == 1 {
+        if kind == kinds::BASE {
             return self.content_at(rows, pass, key);
         }
-        if kind == 2 {
+        if kind == kinds::PUT {
             return Some(self.content(rows, pass, 0));
         }
-        if kind == 5 {
+        if kind == kinds::TERM {
             return Some(self.child(rows, pass, false));
         }
-        if kind == 6 {
+        if kind == kinds::HOLD {
             return Some(self.child(rows, pass, true));
         }
-        if kind == 8 {
+        if kind == kinds::MERGE {
             return self.content_at(rows, pass, key);
         }
         None
@@ -44,19 +44,19 @@ impl<R: Rows> RowAt<R> {
         ensures says { result ≡ is_some (content_said self.now.content key.now) }
     {
         let kind = self.kind();
-        if kind == 1 {
+        if kind == kinds::BASE {
             return self.has_item_at(rows, pass, key);
         }
-        if kind == 2 {
+        if kind == kinds::PUT {
             return true;
         }
-        if kind == 5 {
+        if kind == kinds::TERM {
             return true;
         }
-        if kind == 6 {
+        if kind == kinds::HOLD {
             return true;
         }
-        if kind == 8 {
+        if kind == kinds::MERGE {
             return self.has_item_at(rows, pass, key);
         }
         false
@@ -113,7 +113,7 @@ impl<R: Rows> RowAt<R> {
             return Content::Child { page, held };
         }
         let count = self.word(rows, pass, at + ITEM_CONTENT);
-        let words = self.text(rows, pass, at + ITEM_CONTENT + 1);
+        let words = self.text(rows, pass, at + ITEM_CONTENT + 1, count);
         Content::Value(value_in(count, &words).unwrap())
     }
 

@@ -1,6 +1,6 @@
-use Rattle.std.proofs.Common.{◌+◌, ◌%◌, ℕ, List, [], get_or, take, drop, sym, ap, subst, ◌∙◌, arith}
+use Rattle.std.proofs.Common.{[], get_or, ap, ◌∙◌, arith}
 use Rattle.std.specs.Prelude.{false}
-use Rattle.row_search.proofs.Words.{key_cmp, Child, Item, held_mark, items_at, text_size, items_of, words_of, IsText}
+use Rattle.row_search.proofs.Words.{key_cmp, Child, Item, items_at, items_of, words_of}
 use Rattle.row_search.proofs.ItemReads.{key_text}
 use Rattle.row_search.proofs.RowTexts.{first_is}
 use Rattle.row_search.proofs.row_at.RowAt.compare_item.Goals as goal
@@ -11,7 +11,5 @@ returns-clause-compared g c =
     let words = words_of content in
     let none : Item = record { key = []; content = Child 0 false } in
     let text = key_text words content c.keeps_spelling.ensures 0 none c.requires.some items_at (omega arith) in
-    let key : List ℕ = (get_or (items_of content) 0 none).key in
-    c.compare_at.ensures.compared key
-    (subst (λ (n : ℕ). IsText (n % held_mark) (take text_size (drop (items_at + 1) words)) key) (sym c.word-count.ensures.word) text)
+    c.compare_item.ensures.compared (get_or (items_of content) 0 none).key text
     ∙ ap (λ text. key_cmp text c.args.key.now) (first_is (items_of content) none c.requires.some)

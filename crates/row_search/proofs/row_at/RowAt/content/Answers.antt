@@ -1,4 +1,4 @@
-use Rattle.std.proofs.Common.{◌≡◌, ◌<◌, ◌+◌, ◌*◌, List, ℕ, [], suc, get_or, take, drop, sym, subst, ◌∙◌, arith}
+use Rattle.std.proofs.Common.{◌≡◌, ◌<◌, ◌+◌, ◌*◌, List, ℕ, [], suc, get_or, take, drop, refl, sym, subst, ◌∙◌, arith}
 use Rattle.std.specs.Prelude.{false, nat_le}
 use Rattle.row_search.proofs.Words.{Child, Item, field_size, held_mark, item_size, items_at, text_size, row_of, words_of, IsText}
 use Rattle.row_search.proofs.Found.{found_one, unwrapped}
@@ -59,3 +59,14 @@ returns-clause-content g c d =
     (text_from words c.unwrap.result c.item_at-at.result (items_at + item_size * c.args.place) c.word-count.result c.text-words.result c.item_at-at.ensures.at c.word-count.ensures.word
     c.text-words.ensures.text
     (unwrapped (λ (text : List ℕ). IsText c.word-count.result c.text-words.result text) c.value_in.result c.unwrap.result c.unwrap.ensures c.value_in.ensures))
+
+pub text-words-requires-clause-text : goal.text-words-requires-clause-text
+text-words-requires-clause-text g c =
+    let content = c.args.self.now.content in
+    let words = words_of content in
+    let leaf : (row_of content).level ≡ 0 = sym c.level.ensures ∙ omega (arith, c.if-level-gt0.false) in
+    let there = value_there words content c.keeps_spelling.ensures c.args.place none c.requires.there leaf in (
+      there.0,
+      text_to words there.0 c.item_at-at.result (items_at + item_size * c.args.place) c.word-count.result
+          (take text_size (drop (c.item_at-at.result + field_size + 1) words)) c.item_at-at.ensures.at c.word-count.ensures.word refl there.1.1,
+    )

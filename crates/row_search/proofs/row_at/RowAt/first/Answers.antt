@@ -1,5 +1,5 @@
-use Rattle.std.proofs.Common.{List, ℕ}
-use Rattle.row_search.proofs.Words.{row_of, words_of, IsText}
+use Rattle.std.proofs.Common.{List, ℕ, suc, take, drop, sym, subst}
+use Rattle.row_search.proofs.Words.{first_at, text_size, row_of, words_of, IsText}
 use Rattle.row_search.proofs.Found.{found_one, unwrapped}
 use Rattle.row_search.proofs.ItemReads.{text_same}
 use Rattle.row_search.proofs.RowTexts.{first_text}
@@ -18,3 +18,11 @@ returns-clause-first g c =
     text_same c.word-count.result c.text-words.result c.unwrap.result (row_of content).first
     (unwrapped (λ (text : List ℕ). IsText c.word-count.result c.text-words.result text) c.key_in.result c.unwrap.result c.unwrap.ensures c.key_in.ensures)
     (at_words (row_of content).first c.word-count.ensures.word c.text-words.ensures.text (first_text (words_of content) content c.keeps_spelling.ensures))
+
+pub text-words-requires-clause-text : goal.text-words-requires-clause-text
+text-words-requires-clause-text g c =
+    let content = c.args.self.now.content in (
+      (row_of content).first,
+      subst (λ (n : ℕ). IsText n (take text_size (drop (suc first_at) (words_of content))) (row_of content).first) (sym c.word-count.ensures.word)
+          (first_text (words_of content) content c.keeps_spelling.ensures),
+    )

@@ -1,17 +1,17 @@
-use Rattle.std.proofs.Common.{◌≡◌, ◌<◌, ◌+◌, ◌*◌, ◌/◌, ◌%◌, ℕ, List, length, get_or, take, drop, sym, subst, ◌∙◌, arith}
+use Rattle.std.proofs.Common.{◌≡◌, ◌<◌, ◌+◌, ◌*◌, ◌/◌, ◌%◌, ℕ, List, length, get_or, take, drop, subst, ◌∙◌, arith}
 use Rattle.row_search.proofs.Words.{AllWithin, Ordering, Less, Equal, Greater, key_cmp, Item, held_mark, item_size, items_at, text_size, items_of, words_of, IsSpelling, IsText, Record}
 use Rattle.row_search.proofs.Bisect.{lower, upper, found_at, gap_at}
 use Rattle.row_search.proofs.ItemTexts.{decided}
 use Rattle.row_search.proofs.RowTexts.{stands}
 use Rattle.row_search.proofs.row_at.RowAt.place_of.Goals as goal
 
--- what is said of the text at an item's place, by the count that was looked at
-at_item : (content : Record) (spelled : IsSpelling content (words_of content)) (key : List ℕ) (o : Ordering) (place word : ℕ) → place < length (items_of content)
-    → word ≡ get_or (words_of content) (items_at + item_size * place) 0
-    → ((text : List ℕ) → IsText (word % held_mark) (take text_size (drop (items_at + item_size * place + 1) (words_of content))) text → o ≡ key_cmp text key)
+-- what is said of the text at an item's place
+at_item : (content : Record) (spelled : IsSpelling content (words_of content)) (key : List ℕ) (o : Ordering) (place : ℕ) → place < length (items_of content)
+    → ((text : List ℕ) → IsText (get_or (words_of content) (items_at + item_size * place) 0 % held_mark)
+    (take text_size (drop (items_at + item_size * place + 1) (words_of content))) text → o ≡ key_cmp text key)
     → (d : Item) → key_cmp (get_or (items_of content) place d).key key ≡ o
-at_item content spelled key o place word within is said = decided (words_of content) (items_of content) (stands (words_of content) content spelled) key o place within
-    (λ text text_is. said text (subst (λ (n : ℕ). IsText (n % held_mark) (take text_size (drop (items_at + item_size * place + 1) (words_of content))) text) (sym is) text_is))
+at_item content spelled key o place within said =
+    decided (words_of content) (items_of content) (stands (words_of content) content spelled) key o place within said
 
 pub loop-low-preserved-in-Less : goal.loop-low-preserved-in-Less
 loop-low-preserved-in-Less g c =
@@ -23,12 +23,12 @@ loop-low-preserved-in-Less g c =
     let top = v.top in
     let within : middle < length (items_of content) = omega arith in
     record {
-      same = c.in-Less.ensures.same ∙ c.word-count.ensures.same ∙ v.same;
+      same = c.in-Less.ensures.same ∙ v.same;
       ordered = omega arith;
       few = v.few;
       top = v.top;
       below = lower (items_of content) stand.ascending c.args.key.now middle within
-          (at_item content c.keeps_spelling.ensures c.args.key.now Less middle _ within c.word-count.ensures.word c.in-Less.ensures.compared);
+          (at_item content c.keeps_spelling.ensures c.args.key.now Less middle within c.in-Less.ensures.compared);
       above = v.above;
     }
 
@@ -42,7 +42,7 @@ returns-in-Equal-clause-found g c =
     let top = v.top in
     let within : middle < length (items_of content) = omega arith in
     found_at (items_of content) stand.ascending c.args.key.now middle within
-    (at_item content c.keeps_spelling.ensures c.args.key.now Equal middle _ within c.word-count.ensures.word c.in-Equal.ensures.compared)
+    (at_item content c.keeps_spelling.ensures c.args.key.now Equal middle within c.in-Equal.ensures.compared)
 
 pub loop-low-preserved : goal.loop-low-preserved
 loop-low-preserved g c =
@@ -54,13 +54,13 @@ loop-low-preserved g c =
     let top = v.top in
     let within : middle < length (items_of content) = omega arith in
     record {
-      same = c.in-Greater.ensures.same ∙ c.word-count.ensures.same ∙ v.same;
+      same = c.in-Greater.ensures.same ∙ v.same;
       ordered = omega (arith, c.loop-low-test.true);
       few = let f = v.few in omega arith;
       top = omega arith;
       below = v.below;
       above = upper (items_of content) stand.ascending c.args.key.now middle within
-          (at_item content c.keeps_spelling.ensures c.args.key.now Greater middle _ within c.word-count.ensures.word c.in-Greater.ensures.compared);
+          (at_item content c.keeps_spelling.ensures c.args.key.now Greater middle within c.in-Greater.ensures.compared);
     }
 
 pub returns-clause-absent : goal.returns-clause-absent

@@ -1,5 +1,5 @@
-use Rattle.std.proofs.Common.{List, ℕ, sym, ◌∙◌}
-use Rattle.row_search.proofs.Words.{row_of, words_of, IsText, row_spelled}
+use Rattle.std.proofs.Common.{List, ℕ, suc, take, drop, sym, subst, ◌∙◌}
+use Rattle.row_search.proofs.Words.{second_at, text_size, row_of, words_of, IsText, row_spelled}
 use Rattle.row_search.proofs.Found.{found_one, unwrapped}
 use Rattle.row_search.proofs.ItemReads.{second_text, second_there}
 use Rattle.row_search.proofs.Bounds.{unbounded}
@@ -27,3 +27,11 @@ returns-clause-second g c =
     second_there (words_of content) (row_of content).second is.is.second is.second (λ e. c.if-count-eq-NO_BOUND.false (c.word-count.ensures.word ∙ e)) c.unwrap.result
     (from_words c.unwrap.result c.word-count.ensures.word c.text-words.ensures.text
     (unwrapped (λ (text : List ℕ). IsText c.word-count.result c.text-words.result text) c.key_in.result c.unwrap.result c.unwrap.ensures c.key_in.ensures))
+
+pub text-words-requires-clause-text : goal.text-words-requires-clause-text
+text-words-requires-clause-text g c =
+    let content = c.args.self.now.content in
+    let is = row_spelled (words_of content) content c.keeps_spelling.ensures in
+    let there = second_text (words_of content) (row_of content).second is.is.second is.second
+    (λ e. c.if-count-eq-NO_BOUND.false (c.word-count.ensures.word ∙ e)) in
+    (there.0, subst (λ (n : ℕ). IsText n (take text_size (drop (suc second_at) (words_of content))) there.0) (sym c.word-count.ensures.word) there.1)
