@@ -1,11 +1,11 @@
 //! What one process keeps of the memory that its actors share, and of what they did: a table, and entries.
 //!
-//! Look first at `CoreTable`: it answers a step and takes it, as specs of `traces` say. `Entries` is the trace, with room that is asked
-//! for before a turn; `SharedRecord` is a record with several owners, so that what was placed and what was read is kept once. `CoreRows` are
-//! a table's rows as searches look at them.
+//! Look first at `CoreTable`: it answers a step and takes it, as specs of `traces` define. `Entries` is the trace, with room that is allocated
+//! before a turn; `SharedRecord` is a record with several owners, so that what was placed and what was read is kept once. `CoreRows` are a
+//! table's rows as searches look at them.
 //!
-//! Called by `step_core`; `tree_picture` reads a table, and `listing` by `RecordRows`. It knows no operation and no law: whether a step may be taken is not asked
-//! here.
+//! Called by `step_core`; `tree_picture` reads a table, and `listing` by `RecordRows`. It knows no operation and no law, and doesn't test
+//! whether a step is allowed.
 #![tactic(auto)]
 
 mod entries;

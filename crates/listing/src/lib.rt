@@ -1,10 +1,10 @@
-//! The pairs of a log, and those that stand in a memory, leaf by leaf, whatever keeps the memory.
+//! The pairs of a log, and those of a memory, leaf by leaf, whatever keeps the memory.
 //!
-//! Look first at `add_pairs`, and at `page_of`: a memory of a core and one of words are read alike, as `RecordRows`. `logged_pairs` lists
-//! what a log of updates says; `pages_are_listed` is the law that both are one list.
+//! Look first at `add_pairs`, and at `page_of`: the memory of a core and one of words are read alike, as `RecordRows`. `logged_pairs` lists the
+//! pairs of a log of updates; `pages_are_listed` is the law that both are one list.
 //!
-//! Called by `step_core` (a core's listing), `running_tree` (the pairs of a closed tree) and `tree_picture`; `bw_shell` cites what a listing
-//! is (`IsListing`). It knows of no operation that is under way: it reads a memory that stands still.
+//! Called by `step_core` (a core's listing), `running_tree` (the pairs of a closed tree) and `tree_picture`; `bw_shell` cites the definition of
+//! a listing (`IsListing`). It knows no operation under way: it reads a memory that doesn't change.
 #![tactic(auto)]
 
 mod count;

@@ -25,7 +25,7 @@ pub record IsTold {At : Type 0} (machine : Machine At) (at : At) (told : Answer 
 abbrev pub AreThere : (ℕ → Record → Type 0) → Knowledge → Type 0
 AreThere is_there k = (row : ℕ) (content : Record) → k.read.seen row ≡ Some content → is_there row content
 
--- The same as `IsTold`, and what was read then is there.
+-- As `IsTold`, and what was read then is there.
 pub record IsToldThere (is_there : ℕ → Record → Type 0) {At : Type 0} (machine : Machine At) (at : At) (told : Answer Record) : Type 0 where
   pub k : Knowledge
   pub r : Recalled

@@ -1,11 +1,11 @@
-//! What a round is, from the root to a page: the model of `rounds`, as definitions, and the laws of rounds.
+//! The definitions and laws of rounds, which are traversals from the root to a page: the model of the crate `rounds`.
 //!
-//! Look first at specs/ReadRounds and specs/WriteRounds: what a reader's and a writer's round reads next, how it goes on from a page, and
-//! how it ends. Ways, Visits and Descents have what both share. `read_rounds_follow` and `write_rounds_follow` are the laws: what a round
-//! shows after each answer, and that it spends few reads.
+//! Look first at specs/ReadRounds and specs/WriteRounds: what a reader's and a writer's round reads next, how it continues from a page, and how
+//! it ends. Ways, Visits and Descents have what both share. `read_rounds_follow` and `write_rounds_follow` are the laws: what a round shows
+//! after each answer, and that it takes few reads.
 //!
-//! Called by `op_machine` for its laws, and cited by `rounds`, whose contracts are these definitions over places. It has no code that
-//! runs, and knows no places: a page in hand is a value here.
+//! Called by `op_machine` for its laws, and cited by `rounds`, whose contracts are these definitions over places. It has no code that runs, and
+//! knows no places: a page in hand is a value here.
 #![tactic(auto)]
 
 mod round_laws;

@@ -1,11 +1,11 @@
-//! Rounds from the root to a page over records that are read where they lie: pages change places, and no row is copied.
+//! Rounds: traversals from the root to a page, over records that are read where they lie. Pages change places, and no row is copied.
 //!
-//! Look first at `ReadRound`, then at `WriteRound`. A round asks for a slot or a row (`Asked`), is told a number or takes a record, and
-//! ends at some time (`ReadEndKind`, `WriteEndKind`), with the pages of its end where they stand in it. `Descent` reads page after page; `Leg`
-//! and `read_round/detour` go round removed index pages of any level. A writer's round ends at the first change that is due.
+//! Look first at `ReadRound`, then at `WriteRound`. A round is a step machine: it requests a slot or a row (`Asked`), is passed a number or
+//! takes a record, and ends (`ReadEndKind`, `WriteEndKind`) with the pages of its end in it. `Descent` reads page after page; `Leg` and
+//! `read_round/detour` go round removed index pages of any level. A writer's round ends at the first change that is due.
 //!
-//! Called by `op_machine`. What each function does is defined in `round_model`, of which this is the code. It takes no step, links nothing,
-//! and knows no command: a key, how many deltas are due, and whether small index pages are tended.
+//! Called by `op_machine`. `round_model` defines what each function does. It takes no step, links nothing, and knows no command: a key, how
+//! many deltas are due, and whether small index pages are tended.
 #![tactic(auto)]
 
 mod asked;

@@ -240,7 +240,7 @@ impl<R: Rows, A: Allocator> ReadRound<R, A> {
         }
     }
 
-    /// The same on the way to the left of the page that is kept aside.
+    /// The page's right, where it ends on the way to the left of the page that is kept aside.
     #[inline(never)]
     fn right_to_the_left(&self, rows: &R, pass: &mut R::Pass) -> Option<u32>
         requires read { IsReadPage (R.has rows.now pass.old) self.now.page }
@@ -283,7 +283,7 @@ impl<R: Rows, A: Allocator> ReadRound<R, A> {
         }
     }
 
-    /// The same on the way to the left of the page that is kept aside.
+    /// The child of the greatest term on the way to the left of the page that is kept aside.
     #[inline(never)]
     fn child_to_the_left(&self, rows: &R, pass: &mut R::Pass) -> u32
         requires read { IsReadPage (R.has rows.now pass.old) self.now.page }

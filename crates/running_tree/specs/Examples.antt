@@ -39,7 +39,7 @@ are_two_words = record {
 pub two_words_allowed : AreLargeLimits 2 128 64 1
 two_words_allowed = record {
   some_actor = are_two_words.some_actor;
-  few_actors = are_two_words.few_actors;
+  few_actors = lit≤ tt;
   some_pids = are_two_words.some_pids;
   few_pids = lit≤ tt;
   whole_pids = are_two_words.whole_pids;

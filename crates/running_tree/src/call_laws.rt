@@ -18,14 +18,14 @@ pub fn resumed_calls_are_calls()
         → IsSpent old command budget mid → IsResumed mid more called new → IsCalled old command (budget + more) called new }
 {}
 
-/// The reply with which what a seat has seen ends is that of its last operation, so that `BwSeat::lacking` tells of it.
+/// If the run that a seat has seen ends with a reply, it is that of its last operation, which `BwSeat::lacking` is about.
 pub fn done_calls_reply_last()
     ensures { (seat : Seat) (reply : Reply) → EndsWith seat reply → last_reply seat.actor seat.seen ≡ Some reply }
 {}
 
-/// Real time: where a call on one seat is done, or was resumed and is done, and a call on another seat begins at a later moment, all of what the
-/// first one has seen, up to its Leave, comes before the begin of the second one, in the history that the second one has seen. The seats need not
-/// have met, and no note went between them.
+/// Real time: if a call on one seat is done, or was resumed and is done, and a call on another seat begins at a later moment, then all that
+/// the first seat has seen, up to its Leave, comes before the second call's begin, in the history that the second seat has seen. The seats
+/// need not have met, and no note is needed.
 pub fn calls_keep_real_time()
     ensures called { (limits : Limits) → CallsKeepRealTime limits HasCalled }
     ensures resumed { (limits : Limits) → CallsKeepRealTime limits HasResumed }

@@ -20,7 +20,7 @@ pub struct ClosedPage {
     pub next: Option<Key>,
 }
 
-/// A closed tree: nobody steps in it any more, and its pairs stay until it is dropped.
+/// A closed tree: no seat steps in it any more, and its pairs stay until it is dropped.
 pub struct ClosedTree<A: Allocator = Global> {
     pub(crate) limits: Limits,
     pub(crate) words: Closed<(), A>,
@@ -50,7 +50,7 @@ impl<A: Allocator> Drop for ClosedTree<A> {
 }
 
 impl<A: Allocator> ClosedTree<A> {
-    /// How many pairs it has. It takes no memory, and reads each leaf.
+    /// How many pairs it has. It allocates nothing, and reads each leaf.
     pub fn count(&self) -> usize
         ensures { CountsAll self.now result }
     {
@@ -63,8 +63,8 @@ impl<A: Allocator> ClosedTree<A> {
         count_pairs(&self.limits, &rows)
     }
 
-    /// Its pairs in the order of their keys. Room is taken for just so many as there are; where that is refused, nothing is lost: the tree
-    /// is as it was, and can be asked again.
+    /// Its pairs in the order of their keys, in a list of exactly that length. If allocation fails, nothing is lost: the tree is as it was,
+    /// and the call can be made again.
     pub fn pairs<B: Allocator>(&self, alloc: B) -> Result<Vec<(Key, Value), B>, AllocError>
         ensures { IfOk result (λ pairs. ListsAll self.now pairs.items) }
     {
@@ -79,8 +79,9 @@ impl<A: Allocator> ClosedTree<A> {
         Ok(pairs)
     }
 
-    /// The pairs of the leaf that has the key, from the key on, and the key from which the next page goes on: what a cursor page would
-    /// show. It takes no memory. One page after another costs a leaf each, and a page behind the last one a walk from the first leaf.
+    /// The pairs of the leaf that has the key, from the key on, and the key at which the next page begins, as of a cursor page. It
+    /// allocates nothing. It goes right from the leaf of the last page, or from the first leaf if that one begins above the key: so one page
+    /// after another costs a leaf each.
     pub fn page(&mut self, from: &Key) -> ClosedPage
         ensures same { self.new ≡ self.old }
         ensures page { ListsPage self.old from.now result.pairs result.next }
@@ -96,7 +97,7 @@ impl<A: Allocator> ClosedTree<A> {
         ClosedPage { pairs, next }
     }
 
-    /// Its pairs in the order of their keys, in a list that has room for them: nothing is asked for, so nothing is refused.
+    /// Its pairs in the order of their keys, in a list that has room for them: it allocates nothing, so it can't fail.
     pub fn listed<B: Allocator>(&self, pairs: Vec<(Key, Value), B>) -> Vec<(Key, Value), B>
         requires empty { pairs.items ≡ [] }
         requires room { 24 * self.now.limits.pids ≤ vec_capacity pairs }

@@ -13,8 +13,8 @@ use std::alloc::Allocator;
 use table_rule::{TableSeat, blank, closing_spells, join};
 
 impl<A: Allocator> Tree<A> {
-    /// Closes the tree, and lists its pairs in the order of their keys. Refused, with the tree and the seats as they were, where a
-    /// seat is missing, where one has an unfinished operation, and for want of memory, in this order.
+    /// Closes the tree, and returns its pairs in the order of their keys. Refused, with the tree and the seats as they were, if a seat is
+    /// missing, if one has an unfinished operation, or if allocation fails, in this order.
     pub fn close<B: Allocator>(
         self,
         alloc: B,
@@ -40,8 +40,8 @@ impl<A: Allocator> Tree<A> {
         Ok(self.shut(seats).listed(pairs))
     }
 
-    /// Closes the tree, without memory: its pairs can be asked for afterwards. Refused, with the tree and the seats as they were, where a
-    /// seat is missing, and where one has an unfinished operation, in this order.
+    /// Closes the tree without allocating; the closed tree returns its pairs. Refused, with the tree and the seats as they were, if a seat
+    /// is missing, or if one has an unfinished operation, in this order.
     pub fn into_closed(self, seats: Vec<BwSeat<A>, A>) -> Result<ClosedTree<A>, CloseError<A>>
         requires own { AreSeatsOf self seats.items }
         ensures ok { IfOk result (IsClosedWith self.limits seats.items) }

@@ -15,8 +15,8 @@ use std::alloc::Allocator;
 pub const LOAD_BUDGET: u32 = 65_536;
 
 impl<A: Allocator> Tree<A> {
-    /// Upserts the pairs on an idle seat, in their order, each within `LOAD_BUDGET` steps, until one is refused. Takes no memory. What came
-    /// before a stop stays: after `Full` the seat is idle, after `Spent` its operation is to be resumed.
+    /// Upserts the pairs on an idle seat, in their order, each within `LOAD_BUDGET` steps, until one is refused. It allocates nothing. What
+    /// came before a stop stays: after `Full` the seat is idle, after `Spent` its operation is to be resumed.
     pub fn load(&self, seat: &mut BwSeat<A>, pairs: &[(Key, Value)]) -> Result<(), LoadStop>
         requires own { IsSeatOf self.now seat.old }
         requires idle { unfinished_command seat.old ≡ None }

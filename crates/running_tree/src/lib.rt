@@ -1,14 +1,13 @@
-//! The running tree: threads call it, each with a seat of its own, over the same theorem.
+//! The running tree: a linearizable ordered map that threads call, each with a seat (session) of its own.
 //!
 //! Look first at `Tree` (tree.rt), then at `BwSeat` (seat.rt).
 //!
-//! A `Tree` is shared by reference; a `BwSeat` is one thread's, and stands for one actor. A call runs the operation that a core would run
-//! too (`op_machine`), one atomic operation on the tree's words a step (`table_rule`), and takes no lock and no memory. What a call
-//! ensures is said of the run that its seat has seen: one history of all actors' steps up to the seat's own last one (specs/Runs,
-//! specs/Calls).
+//! A `Tree` is shared by reference. A `BwSeat` is used by one thread at a time, and acts for one actor. A call runs the same operation as a
+//! core (`op_machine`), one atomic operation on the tree's words a step (`table_rule`). It takes no lock and allocates nothing. The contract of
+//! a call is about the run that its seat has seen: one history of all actors' steps up to the seat's own last one (specs/Runs, specs/Calls).
 //!
-//! Called by `seats`, `seat_threads`, `workers`, `walks`, `bw_tree_c` and `race`, and by who embeds a tree (docs/GUIDE.md); `map_laws` speaks of
-//! its runs. docs/LOOKUP.md goes through one call. It knows no thread and no channel: who has a seat steps for its actor.
+//! Called by `seats`, `seat_threads`, `workers`, `walks`, `bw_tree_c` and `race`, and by programs that embed a tree (docs/GUIDE.md); `map_laws`
+//! is about its runs. docs/LOOKUP.md follows one call. It knows no thread and no channel: whoever has a seat steps for its actor.
 #![tactic(auto)]
 
 mod call_laws;

@@ -16,8 +16,8 @@ use table_rule::TableSeat;
 use tree_law::own_lasts;
 
 impl<A: Allocator + Copy> Tree<A> {
-    /// A tree with these pairs, as those of a closed tree, and a seat for each actor, in order: seat 0 loads the pairs, as by `load`. A
-    /// refusal leaves no tree. Memory is taken as by `open`, and for no pair.
+    /// A tree with exactly these pairs, whose keys ascend, and a seat for each actor, in order: seat 0 loads the pairs, as by `load`. If it
+    /// is refused, there is no tree. It allocates what `open` does, and nothing for a pair.
     pub fn open_from(
         alloc: A,
         limits: Limits,

@@ -12,7 +12,7 @@ use std::alloc::Allocator;
 use std::marker::Model;
 use table_rule::{TableSeat, cut, join, note, refresh};
 
-/// What a seat had seen when the note was made. It takes no memory, and goes from thread to thread.
+/// A causality token: what a seat had seen when the note was made. It takes no memory, and may be sent to another thread.
 #[derive(Drop)]
 pub struct Note {
     place: TableSeat,
@@ -31,7 +31,7 @@ impl Model for Note {
 }
 
 impl<A: Allocator> Tree<A> {
-    /// A note of what the seat has seen, for another seat to heed. No step is taken.
+    /// Returns a note of what the seat has seen, for another seat to heed. It takes no step.
     pub fn note(&self, seat: &mut BwSeat<A>) -> Note
         requires own { IsSeatOf self.now seat.old }
         ensures stays { seat.new ≡ seat.old }
@@ -43,7 +43,7 @@ impl<A: Allocator> Tree<A> {
         }
     }
 
-    /// From now on the seat has seen what the note tells, too: whatever it does comes after that. No step is taken.
+    /// The seat observes the note: it has then seen all that the note contains, and its later calls come after that. It takes no step.
     pub fn heed(&self, seat: &mut BwSeat<A>, note: Note)
         requires own { IsSeatOf self.now seat.old }
         requires note { IsNoteOf self.now note }

@@ -9,8 +9,8 @@ use bw_model::{Limits, OpenError};
 use std::alloc::{AllocError, Allocator};
 
 impl<A: Allocator + Copy> Tree<A> {
-    /// A tree with one leaf, and a seat for each actor, in order; refused for want of memory alone. No later call on a seat takes
-    /// memory.
+    /// Opens an empty tree, and returns it with a seat for each actor, in order. It fails only if allocation does. No later call on a seat
+    /// allocates.
     pub fn open(alloc: A, limits: Limits) -> Result<(Tree<A>, Vec<BwSeat<A>, A>), OpenError>
         ensures limits { IfOk result (λ opened. opened.0.limits ≡ limits) }
         ensures seats { IfOk result (λ opened. AreFresh opened.0 opened.1.items) }
@@ -22,7 +22,7 @@ impl<A: Allocator + Copy> Tree<A> {
         }
     }
 
-    /// The same with another opening epoch, 1 to 2^62.
+    /// Opens a tree as `open` does, but at another opening epoch, 1 to 2^62.
     pub fn open_at(
         alloc: A,
         limits: Limits,

@@ -28,8 +28,8 @@ pub struct Room {
 }
 
 impl<A: Allocator> Tree<A> {
-    /// How many PIDs and rows are free now, by one load for each 64 of them. It takes no step, and waits for nobody; the others go on
-    /// meanwhile. A seat may ask in the midst of an operation, too.
+    /// How many PIDs and rows are free: each 64 of them count as after a run of their own (`HasCounted`), so the count is no snapshot. It
+    /// takes no step, and waits for nobody; other seats continue meanwhile. It may be called in the midst of an operation, too.
     pub fn room(&self, seat: &mut BwSeat<A>) -> Room
         requires own { IsSeatOf self.now seat.old }
         ensures same { IsSame seat.old seat.new }

@@ -19,7 +19,7 @@ use std::alloc::{Allocator, Global};
 use std::marker::Model;
 use table_rule::{TableSeat, act};
 
-/// A seat of a tree: one actor, and the thread that has the seat is the actor.
+/// A seat (session) of a tree: whoever has it acts as one actor, one call at a time.
 pub struct BwSeat<A: Allocator = Global> {
     pub(crate) desk: Desk,
     pub(crate) limits: Limits,

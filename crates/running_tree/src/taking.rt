@@ -135,7 +135,7 @@ fn place_record(
     }
 }
 
-/// The same in a large tree. Not inlined: no other step needs room for its words.
+/// Places a record in a large tree, as compact words. Not inlined: no other step needs room for its words.
 #[inline(never)]
 fn place_compact(
     words: &TreeWords,
@@ -161,7 +161,7 @@ fn place_compact(
     place_row(words, place, limits, number, row, content, spelt.words());
 }
 
-/// The same in a small tree. Not inlined: no other step needs room for its words.
+/// Places a record in a small tree, as it is spelled. Not inlined: no other step needs room for its words.
 #[inline(never)]
 fn place_spelt(
     words: &TreeWords,

@@ -15,7 +15,7 @@ use std::marker::Model;
 use std::mem::replace;
 use table_rule::{Rule, View, blank, cut, join, refresh};
 
-/// A tree that threads share by reference.
+/// An ordered map that threads share by reference, each with a seat of its own.
 #[derive(Drop)]
 pub struct Tree<A: Allocator = Global> {
     pub(crate) limits: Limits,
@@ -33,8 +33,8 @@ impl<A: Allocator> Model for Tree<A> {
 }
 
 impl<A: Allocator> Tree<A> {
-    /// Runs a command on an idle seat, for at most `budget` steps, which is 1 at least. It takes no lock and no memory, and waits
-    /// for nobody. `Spent` comes after exactly `budget` steps; the operation stays in the seat, to be resumed.
+    /// Runs a command on an idle seat, for at most `budget` steps, at least 1. It takes no lock, allocates nothing, and waits for nobody.
+    /// `Spent` comes after exactly `budget` steps; the operation stays in the seat, to be resumed.
     pub fn call(&self, seat: &mut BwSeat<A>, command: Command, budget: u32) -> Called
         requires own { IsSeatOf self.now seat.old }
         requires idle { unfinished_command seat.old ≡ None }
@@ -48,7 +48,7 @@ impl<A: Allocator> Tree<A> {
         called_if(done, reply)
     }
 
-    /// The same, where the reply comes into a place that the caller has, and the answer is whether the operation is done: a lookup then
+    /// As `call`, but writes the reply into the caller's place, and returns whether the operation is done: a lookup then
     /// moves no reply's room, 3.2 KB. Where it isn't done, any reply may lie there.
     pub fn call_in(
         &self,
@@ -70,8 +70,7 @@ impl<A: Allocator> Tree<A> {
         done
     }
 
-    /// Goes on with the operation of a seat, for at most `budget` steps. `Spent` comes after exactly `budget` steps, so at once where it
-    /// is 0.
+    /// Continues the operation of a seat, for at most `budget` steps. `Spent` comes after exactly `budget` steps, so at once if it is 0.
     pub fn resume(&self, seat: &mut BwSeat<A>, budget: u32) -> Called
         requires own { IsSeatOf self.now seat.old }
         requires busy { IsSome (unfinished_command seat.old) }
@@ -84,7 +83,7 @@ impl<A: Allocator> Tree<A> {
         called_if(done, reply)
     }
 
-    /// The same, where the reply comes into a place that the caller has, and the answer is whether the operation is done.
+    /// As `resume`, but writes the reply into the caller's place, and returns whether the operation is done.
     pub fn resume_in(&self, seat: &mut BwSeat<A>, budget: u32, reply: &mut Reply) -> bool
         requires own { IsSeatOf self.now seat.old }
         requires busy { IsSome (unfinished_command seat.old) }
@@ -97,7 +96,7 @@ impl<A: Allocator> Tree<A> {
         done
     }
 
-    /// Two seats meet: afterwards both have seen one run, with all that either had seen. No step is taken.
+    /// Lets two seats meet: afterwards both have seen one run, which contains all that either had seen. It takes no step.
     pub fn meet(&self, one: &mut BwSeat<A>, other: &mut BwSeat<A>)
         requires own { IsSeatOf self.now one.old }
         requires own_other { IsSeatOf self.now other.old }

@@ -1,11 +1,10 @@
-//! All actors over one memory, one step a turn.
+//! All actors over one memory, in one process, one step a turn.
 //!
 //! Look first at `Core`: `turn` begins an operation or takes one step of it, and after every turn the whole trace is linearized
-//! (`Core::linearized`). `run` takes a list of turns from the opening on. `RunError` says why a turn is refused, and what it leaves as it
-//! was.
+//! (`Core::linearized`). `run` takes a list of turns from the opening on. `RunError` is why a turn is refused; a refused turn changes nothing.
 //!
-//! Called by `bw_shell`, whose lines are turns, and by `tree_picture`, which draws a core. It knows no thread: in which order actors step
-//! is its caller's choice. It knows no line and no text.
+//! Called by `bw_shell`, whose lines are turns, and by `tree_picture`, which draws a core. It knows no thread, no line and no text: the order
+//! of turns is its caller's choice.
 #![tactic(auto)]
 
 mod actor;

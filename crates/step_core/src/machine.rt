@@ -131,7 +131,7 @@ impl<A: Allocator + Copy> Core<A> {
         stepped
     }
 
-    /// The same, of which no law is told.
+    /// As `step_on`, without the laws of the whole trace: `step_on` adds them once.
     fn stepped(&mut self, actor: u8) -> Option<Option<Link>>
         ensures some { IfSome result (λ link. (refusal_of self.old (Turn.Step actor) ≡ None) × AddsTurn self.old (Turn.Step actor) (Event.Stepped link) self.new) }
         ensures none { result ≡ None → self.new ≡ self.old }

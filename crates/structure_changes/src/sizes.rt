@@ -4,16 +4,16 @@ ghost use Rattle.structure_changes.specs.Sizes.{many_of};
 
 use bw_model::Limits;
 
-/// As many deltas or more, and a page is consolidated before it gets another one.
+/// A page with this many deltas or more is consolidated before it gets another one.
 pub const MANY_DELTAS: usize = 8;
 
-/// The same in a large tree.
+/// A page of a large tree with this many deltas or more is consolidated before it gets another one.
 const FEW_DELTAS: usize = 2;
 
-/// As many items or more, and a page is split before it gets another one.
+/// A page with this many items or more is split before it gets another one.
 pub const MANY_ITEMS: usize = 16;
 
-/// As many items or fewer, and a page may be removed.
+/// A page with this many items or fewer may be removed.
 pub const FEW_ITEMS: usize = 4;
 
 /// The highest level of a page.

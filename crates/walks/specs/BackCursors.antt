@@ -111,7 +111,7 @@ HasBackStopped scanned.End old seat budget before after new later = new.at ≡ N
 HasBackStopped scanned.Spent old seat budget before after new later = IsSpentBackAt seat budget new later ⊎ HasManyBack old seat before after new later
 
 -- What seeking a pair came to: a page that has one, or the walk's end; or steps or pages were too few.
-abbrev pub HasSoughtBack : Walk → BackCursor → Seat → ℕ → BackCursor → Seat → Type 0
-HasSoughtBack walk.Page old seat budget new later = 0 < length new.pairs
-HasSoughtBack walk.Spent old seat budget new later = IsSpentBackAt seat budget new later ⊎ HasManyBack old seat [] [] new later
-HasSoughtBack walk.End old seat budget new later = new.at ≡ None
+abbrev pub HasSeekStoppedBack : Walk → BackCursor → Seat → ℕ → BackCursor → Seat → Type 0
+HasSeekStoppedBack walk.Page old seat budget new later = 0 < length new.pairs
+HasSeekStoppedBack walk.Spent old seat budget new later = IsSpentBackAt seat budget new later ⊎ HasManyBack old seat [] [] new later
+HasSeekStoppedBack walk.End old seat budget new later = new.at ≡ None

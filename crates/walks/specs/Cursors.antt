@@ -122,7 +122,7 @@ HasScanStopped scanned.End old seat budget before after new later = new.at ≡ N
 HasScanStopped scanned.Spent old seat budget before after new later = IsSpentAt seat budget new later ⊎ HasManyPages old seat before after new later
 
 -- What seeking a pair came to: a page that has one, or the walk's end; or steps or pages were too few.
-abbrev pub HasSought : Walk → Cursor → Seat → ℕ → Cursor → Seat → Type 0
-HasSought walk.Page old seat budget new later = 0 < length new.pairs
-HasSought walk.Spent old seat budget new later = IsSpentAt seat budget new later ⊎ HasManyPages old seat [] [] new later
-HasSought walk.End old seat budget new later = new.at ≡ None
+abbrev pub HasSeekStopped : Walk → Cursor → Seat → ℕ → Cursor → Seat → Type 0
+HasSeekStopped walk.Page old seat budget new later = 0 < length new.pairs
+HasSeekStopped walk.Spent old seat budget new later = IsSpentAt seat budget new later ⊎ HasManyPages old seat [] [] new later
+HasSeekStopped walk.End old seat budget new later = new.at ≡ None

@@ -20,7 +20,7 @@ use running_tree::{BwSeat, Called, Tree};
 use std::alloc::Allocator;
 use std::marker::Model;
 
-/// A place in a walk in the descending order of keys, and the page that was shown last. It takes no memory.
+/// An iterator over pairs in descending order of keys, page by page, with the page that was read last. It takes no memory but its own.
 #[derive(Drop)]
 pub struct BackCursor {
     at: Option<Key>,
@@ -42,7 +42,7 @@ impl Model for BackCursor {
 }
 
 impl BackCursor {
-    /// A walk over the keys from this one down to the lowest one; with the empty key as the lowest it goes down to the tree's first key.
+    /// A walk over the keys from this one down to the lowest one; with the empty key as the lowest, to the tree's first key.
     pub fn new(upto: Key, low: Key) -> BackCursor
         ensures { result ≡ record { at = place_from low (Some upto); low = low; asked = false; pairs = [] } }
     {
@@ -82,7 +82,7 @@ impl BackCursor {
         }
     }
 
-    /// The pairs of the page that was shown last, in the ascending order of their keys: the walk goes over them from the last to the first.
+    /// The pairs of the page that was read last, in ascending order of keys: the walk goes over them from the last to the first.
     pub fn pairs(&self) -> &[(Key, Value)]
         ensures pairs { result.now ≡ self.now.pairs }
         ensures few { length result.now ≤ MAX_PAIRS }
@@ -90,7 +90,7 @@ impl BackCursor {
         &self.page.as_slice()[self.skipped..]
     }
 
-    /// Whether a seat has an unfinished operation of this cursor's, which waits to be asked again.
+    /// Whether a seat has an unfinished operation of this cursor's, which the next call continues.
     pub fn is_waiting(&self) -> bool
         ensures { result ≡ self.now.asked }
     {
@@ -104,8 +104,8 @@ impl BackCursor {
         self.at.is_none()
     }
 
-    /// Shows the next page, if its operation is done within `budget` steps. It takes no lock and no memory. A cursor that waits goes on with
-    /// its operation, on the seat that has it; any other one calls on an idle seat, and the seats may change from page to page.
+    /// Reads the next page, if its operation is done within `budget` steps. It takes no lock and allocates nothing. A cursor that waits
+    /// continues its operation, on the seat that has it; any other one needs an idle seat, which may change from page to page.
     pub fn next<A: Allocator>(&mut self, tree: &Tree<A>, seat: &mut BwSeat<A>, budget: u32) -> Walk
         requires own { IsSeatOf tree.now seat.old }
         requires ready { unfinished_command seat.old ≡ back_command self.old }

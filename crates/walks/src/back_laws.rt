@@ -19,15 +19,15 @@ pub fn pages_backward_are_the_maps()
         → IsBackOf run low page → IsBackShown run linear.points low page }
 {}
 
-/// What a walk down has shown, read from its end, of the keys above where it stands up to where it began: they ascend strictly, each key that
-/// the map has had there all the while, with whatever values, is among it, and the map has had all of it at some time in between.
+/// The pairs of a walk down, read from its end, from where it is up to where it began: their keys ascend strictly; each key that the map
+/// has had there all the while, with whatever values, is among them; and the map has had each of them at some time in between.
 pub fn walks_back_tell_the_map()
     ensures { (limits : Limits) (turns : List Turn) (run : List Entry) (low upto : List ℕ) (since : ℕ) (pages : List BackPage) (to : Option (List ℕ)) (till : ℕ)
         (linear : IsLinearized limits turns run) → IsBackWalk run low (Some upto) since pages to till
         → TellKeys run linear.points since till (begin_above low to) (Some (key_after upto)) (pairs_upward pages) }
 {}
 
-/// A walk down is one of each longer run; and a walk that begins where another one ended goes on with it.
+/// A walk down of a run is one of each longer run; and a walk that begins where another one ended continues it.
 pub fn walks_back_go_on()
     ensures longer { (run later : List Entry) (low : List ℕ) (at : Option (List ℕ)) (since : ℕ) (pages : List BackPage) (to : Option (List ℕ)) (till : ℕ)
         → StartsWith later run → IsBackWalk run low at since pages to till → IsBackWalk later low at since pages to till }
@@ -37,8 +37,7 @@ pub fn walks_back_go_on()
         → IsBackWalk run low at since (pages ++ more) to till }
 {}
 
-/// What a cursor that was asked for its next page shows is a walk down of one page, or of none; and what was walked in parts, on one seat, is
-/// walked.
+/// What a call for a cursor's next page reads is a walk down of one page, or of none; and what was walked in parts, on one seat, is walked.
 pub fn pages_backward_are_walked()
     ensures next { (old new : BackCursor) (seat later : Seat) (budget : ℕ) (walk : Walk) (before : List (List ℕ × List ℕ))
         → IsSame seat later → IsNextBack old seat budget walk new later → HasWalkedBack old seat before (before ++ added_back walk new) new later }

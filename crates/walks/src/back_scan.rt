@@ -15,8 +15,8 @@ use running_tree::{BwSeat, Tree};
 use std::alloc::{AllocError, Allocator};
 
 impl BackCursor {
-    /// Walks down to the end, each page in at most `budget` steps, and adds the pairs to a list, the greatest key first. Refused only where
-    /// the list can't have room for a page; what was added stays, and the cursor stands behind it.
+    /// Walks down to the end, each page in at most `budget` steps, and adds the pairs to a list, the greatest key first. It fails only if
+    /// the list can't have room for a page; what was added stays, and the cursor is behind it.
     pub fn scan<A: Allocator, B: Allocator>(
         &mut self,
         tree: &Tree<A>,

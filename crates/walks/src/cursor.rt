@@ -18,7 +18,7 @@ use running_tree::{BwSeat, Called, Tree};
 use std::alloc::Allocator;
 use std::marker::Model;
 
-/// A place in a walk in the order of keys, and the page that was shown last. It takes no memory.
+/// An iterator over pairs in ascending order of keys, page by page, with the page that was read last. It takes no memory but its own.
 #[derive(Drop)]
 pub struct Cursor {
     at: Option<Key>,
@@ -39,12 +39,12 @@ impl Model for Cursor {
     ghost invariant = { λ c. c.shown ≤ length c.page };
 }
 
-/// What a cursor answers that was asked for its next page.
+/// What a call for a cursor's next page returns.
 #[derive(Clone, Copy, Debug, PartialEq, Eq)]
 pub enum Walk {
-    /// The next page: its pairs lie in the cursor.
+    /// The next page: its pairs are in the cursor.
     Page,
-    /// The budget is spent. The operation stays in the seat: ask again, on the same seat.
+    /// The budget is spent. The operation stays in the seat: call again, on the same seat.
     Spent,
     /// The walk is at the bound, or at the tree's end.
     End,
@@ -91,7 +91,7 @@ impl Cursor {
         }
     }
 
-    /// The pairs of the page that was shown last.
+    /// The pairs of the page that was read last.
     pub fn pairs(&self) -> &[(Key, Value)]
         ensures pairs { result.now ≡ self.now.pairs }
         ensures few { length result.now ≤ MAX_PAIRS }
@@ -99,7 +99,7 @@ impl Cursor {
         &self.page.as_slice()[..self.shown]
     }
 
-    /// Whether a seat has an unfinished operation of this cursor's, which waits to be asked again.
+    /// Whether a seat has an unfinished operation of this cursor's, which the next call continues.
     pub fn is_waiting(&self) -> bool
         ensures { result ≡ self.now.asked }
     {
@@ -113,8 +113,8 @@ impl Cursor {
         self.at.is_none()
     }
 
-    /// Shows the next page, if its operation is done within `budget` steps. It takes no lock and no memory. A cursor that waits goes on with
-    /// its operation, on the seat that has it; any other one calls on an idle seat, and the seats may change from page to page.
+    /// Reads the next page, if its operation is done within `budget` steps. It takes no lock and allocates nothing. A cursor that waits
+    /// continues its operation, on the seat that has it; any other one needs an idle seat, which may change from page to page.
     pub fn next<A: Allocator>(&mut self, tree: &Tree<A>, seat: &mut BwSeat<A>, budget: u32) -> Walk
         requires own { IsSeatOf tree.now seat.old }
         requires ready { unfinished_command seat.old ≡ cursor_command self.old }

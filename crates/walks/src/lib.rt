@@ -1,11 +1,12 @@
-//! Walks over a running tree in the order of keys, or down, page by page.
+//! Walks over a running tree in the order of keys, ascending or descending, page by page.
 //!
-//! Look first at `Cursor`, and at `BackCursor`, which goes down; `scan` walks to the end, and `seek` to the next pair.
+//! Look first at `Cursor`, and at `BackCursor`, which descends; `scan` walks to the end, and `seek` to the next pair.
 //!
-//! A cursor is asked for its next page on a seat. Each page is what one operation has replied, so its pairs are the map's at one step
-//! of that operation's own; what a walk of many pages tells of the map follows from that (specs/Pages, specs/Walks; of walks down specs/BackPages, specs/BackWalks).
+//! A cursor returns its next page on a given seat. Each page is the reply of one operation, so its pairs are the map's at one step of that
+//! operation (its linearization point). What follows for a walk of many pages is in specs/Pages and specs/Walks, for descending ones in
+//! specs/BackPages and specs/BackWalks.
 //!
-//! Called by who embeds a tree. It knows a tree by the contracts of `Tree::call` and `Tree::resume` alone, as any caller does.
+//! Called by programs that embed a tree. It knows a tree by the contracts of `Tree::call` and `Tree::resume` alone, as any caller does.
 #![tactic(auto)]
 
 mod back_cursor;

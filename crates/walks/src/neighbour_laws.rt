@@ -13,8 +13,8 @@ pub fn keys_have_least_above()
     ensures greatest { (x : List ℕ) → IsShort x → is_below (filled longest) x ≡ false }
 {}
 
-/// Of the first pair that a walk has shown, as `seek` comes to it, the walk tells that the map has had it at some time in between, and that no
-/// key before it was there all the while. A walk down tells the like of its first pair, which is the last one read from the walk's end.
+/// The first pair of a walk, as `seek` finds it, was in the map at some time in between, and no key before it was there all the while.
+/// Likewise the first pair of a walk down, which is the last one read from the walk's end.
 pub fn next_pairs_are_told()
     ensures next { (run : List Entry) (points : List Bool) (since till : ℕ) (from : List ℕ) (end : Option (List ℕ)) (key value : List ℕ)
         (pairs : List (List ℕ × List ℕ))

@@ -22,8 +22,8 @@ pub enum Scanned {
 }
 
 impl Cursor {
-    /// Walks to the end, each page in at most `budget` steps, and adds the pairs to a list. Refused only where the list can't have room for
-    /// a page; what was added stays, and the cursor stands behind it.
+    /// Walks to the end, each page in at most `budget` steps, and adds the pairs to a list. It fails only if the list can't have room for a
+    /// page; what was added stays, and the cursor is behind it.
     pub fn scan<A: Allocator, B: Allocator>(
         &mut self,
         tree: &Tree<A>,

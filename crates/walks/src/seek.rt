@@ -3,16 +3,16 @@ ghost use Rattle.std.specs.Prelude.{◌≡◌, ◌≤◌, []};
 ghost use Rattle.running_tree.specs.Runs.{IsOneHistory};
 ghost use Rattle.running_tree.specs.Seats.{IsSame, unfinished_command};
 ghost use Rattle.running_tree.specs.Trees.{IsSeatOf};
-ghost use Rattle.walks.specs.Cursors.{HasSought, HasTold, HasWalked, added_by, cursor_command};
+ghost use Rattle.walks.specs.Cursors.{HasSeekStopped, HasTold, HasWalked, added_by, cursor_command};
 
 use crate::cursor::{Cursor, Walk};
 use running_tree::{BwSeat, Tree};
 use std::alloc::Allocator;
 
 impl Cursor {
-    /// Shows pages, each in at most `budget` steps, until one has a pair: the first of its pairs is the walk's next one. Where one page was
-    /// asked for, that is so of the map at one moment; where several were, as far as a walk tells of the map. `Spent` also after 2^64 - 1
-    /// pages without a pair.
+    /// Reads pages, each in at most `budget` steps, until one has a pair: the first of its pairs is the walk's next one. If one page was
+    /// read, this is so of the map at one moment; otherwise as far as a walk determines it (`next_pairs_are_told`). `Spent` also after
+    /// 2^64 - 1 pages without a pair.
     pub fn seek<A: Allocator>(&mut self, tree: &Tree<A>, seat: &mut BwSeat<A>, budget: u32) -> Walk
         requires own { IsSeatOf tree.now seat.old }
         requires ready { unfinished_command seat.old ≡ cursor_command self.old }
@@ -21,7 +21,7 @@ impl Cursor {
         ensures ready { unfinished_command seat.new ≡ cursor_command self.new }
         ensures walked { HasWalked self.old seat.old [] (added_by result self.new) self.new seat.new }
         ensures told { HasTold self.old seat.old [] (added_by result self.new) self.new seat.new }
-        ensures sought { HasSought result self.old seat.old budget self.new seat.new }
+        ensures sought { HasSeekStopped result self.old seat.old budget self.new seat.new }
         ensures history { IsOneHistory seat.new.limits seat.new.seen }
     {
         for _ in 0..u64::MAX {

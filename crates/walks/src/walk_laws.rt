@@ -18,15 +18,15 @@ pub fn pages_are_the_maps()
         → IsPageOf run bound page → IsPageShown run linear.points bound page }
 {}
 
-/// What a walk has shown of the keys from where it began to where it stands: they ascend strictly, each key that the map has had there all the while, with
-/// whatever values, is among it, and the map has had all of it at some time in between.
+/// The pairs of a walk, from where it began to where it is: their keys ascend strictly; each key that the map has had there all the while,
+/// with whatever values, is among them; and the map has had each of them at some time in between.
 pub fn walks_tell_the_map()
     ensures { (limits : Limits) (turns : List Turn) (run : List Entry) (bound : Option (List ℕ)) (from : List ℕ) (since : ℕ) (pages : List WalkedPage) (to : Option (List ℕ)) (till : ℕ)
         (linear : IsLinearized limits turns run) → IsWalk run bound (Some from) since pages to till → TellMap run linear.points since till from (end_under bound to) (pairs_shown pages) }
 {}
 
-/// A walk is one of each longer run; and a walk that begins where another one ended goes on with it. So the seats may change from page to page,
-/// where each has seen what the one before it had seen.
+/// A walk of a run is one of each longer run; and a walk that begins where another one ended continues it. So the seats may change from
+/// page to page, if each has seen what the one before it had seen.
 pub fn walks_go_on()
     ensures longer { (run later : List Entry) (bound at : Option (List ℕ)) (since : ℕ) (pages : List WalkedPage) (to : Option (List ℕ)) (till : ℕ)
         → StartsWith later run → IsWalk run bound at since pages to till → IsWalk later bound at since pages to till }
@@ -34,7 +34,7 @@ pub fn walks_go_on()
         → IsWalk run bound at since pages mid between → IsWalk run bound mid between more to till → IsWalk run bound at since (pages ++ more) to till }
 {}
 
-/// What a cursor that was asked for its next page shows is a walk of one page, or of none; and what was walked in parts, on one seat, is walked.
+/// What a call for a cursor's next page reads is a walk of one page, or of none; and what was walked in parts, on one seat, is walked.
 pub fn pages_are_walked()
     ensures next { (old new : Cursor) (seat later : Seat) (budget : ℕ) (walk : Walk) (before : List (List ℕ × List ℕ))
         → IsSame seat later → IsNextOf old seat budget walk new later → HasWalked old seat before (before ++ added_by walk new) new later }

@@ -84,7 +84,7 @@ fn change<R: Rows>(
     }
 }
 
-/// The same of a record that names one key, by whether it says that the key has an item.
+/// The change that a record makes which names one key, by whether it gives the key an item.
 fn change_at<R: Rows>(
     key: &KeyWords,
     is_there: bool,
