@@ -1,10 +1,11 @@
 -- Laws of lines, and of what is run of them.
 use Rattle.std.proofs.Common.{◌≡◌, ◌≢◌, ℕ, ◌+◌, ◌<◌, List, [], ◌∷◌, ◌++◌, length, refl, sym, ap, ◌∙◌, arith, inl, Bool, true, false, Option, Some, None}
-use Rattle.std.proofs.Common.{length-append, take, drop, get_or, subst, MatchBool}
+use Rattle.std.proofs.Common.{◌⊎◌, length-append, take, drop, get_or, subst, inr, MatchBool}
 use Rattle.std.proofs.lemmas.List.{append_assoc, append-nil, take-append-drop, drop_more, take_more}
 use Rattle.std.proofs.lemmas.Bool.{ne_eqb}
 use Rattle.std.proofs.lemmas.Grind.{flat_map-append}
 use Rattle.std.specs.List.{AllByRecursion, flat_map}
+use Rattle.byte_streams.specs.Output.{Prints, Sink}
 use Rattle.shell_lines.specs.declared.request.Language.{Language}
 use Rattle.bw_shell.specs.Turns.{Trace}
 use Rattle.bw_shell.specs.Lines.{lines_of, HasNoFeed, with_newline}
@@ -142,6 +143,22 @@ weaves_stops n m p bs n' m' q t tail m'' u r v s rest =
       transcript_then _ n m v.lines m' t n' end.0 m'' u r v.says v.count end.3,
     )
 
+-- Behind bytes that were read a run may stop, whatever follows them.
+pub weaves_end : {language : Language} (n : ℕ) (m : Trace) (p bs : List ℕ) (n' : ℕ) (m' : Trace) (q t : List ℕ)
+    → Weaves language n m p bs n' m' q t → StopsAmong language n m p bs m' t None
+weaves_end n m p bs n' m' q t v rest =
+    let e : (p ++ bs) ++ rest ≡ flat_map with_newline v.lines ++ (q ++ rest)
+    = ap (λ (l : List ℕ). l ++ rest) v.splits.whole ∙ append_assoc (flat_map with_newline v.lines) q rest in
+    (v.lines, lines_of (q ++ rest), ap lines_of e ∙ lines_whole v.lines (q ++ rest) v.splits.each, v.says)
+
+-- Of two facts one is so, by whether a writer has failed: one that shows nothing more from there on.
+pub either_by : (a c : Sink) (P Q : Type 0) → Prints a c [] → MatchBool a.failed P Q → P ⊎ Q
+either_by a c P Q shows fact = at a.failed fact
+  where
+    at : (b : Bool) → MatchBool b P Q → P ⊎ Q
+    at true p = inl p
+    at false q = inr q
+
 -- ---- the end of the input
 
 pub end_whole : {language : Language} (m : Trace) (taken : List ℕ) (n : ℕ) (after : Trace) (t : List ℕ) → Weaves language 1 m [] taken n after [] t
@@ -184,10 +201,6 @@ match_true false P Q e p = cc e
 pub match_false : (b : Bool) (P Q : Type 0) → b ≡ false → Q → MatchBool b P Q
 match_false true P Q e q = cc e
 match_false false P Q e q = q
-
-pub match_true_at : (b : Bool) (P Q : Type 0) → b ≡ true → MatchBool b P Q → P
-match_true_at true P Q e p = p
-match_true_at false P Q e p = cc e
 
 pub match_false_at : (b : Bool) (P Q : Type 0) → b ≡ false → MatchBool b P Q → Q
 match_false_at true P Q e q = cc e

@@ -15,7 +15,8 @@ use shell_lines::Language;
 use std::alloc::Global;
 use step_core::Core;
 
-// Reads to the end of the input, or as far as it goes, and answers the line that was refused, if one was.
+// Reads to the end of the input, or as far as it goes, and returns the line that was refused, if one was. All replies that are due are
+// written before each read: whoever waits for them may be whoever writes the next line.
 fn run<I: Input, O: Output>(
     alloc: Global,
     language: Language,
@@ -42,6 +43,7 @@ fn run<I: Input, O: Output>(
                 if let Some(line) = feed(alloc, language, weaver, bytes.split_at(n).0, out) {
                     return Some(line);
                 }
+                out.finish();
                 if out.has_failed() {
                     return None;
                 }

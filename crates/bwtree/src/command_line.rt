@@ -5,16 +5,16 @@ ghost use Rattle.shell_options.specs.Words.{MayOpen};
 
 use crate::programs::run_settings;
 use bw_shell::Refusal;
-use byte_streams::{Reader, Writer};
+use byte_streams::{Input, Output, Reader, Watched, Writer};
 use shell_options::{OptionsError, Settings, options};
 use std::alloc::Global;
-use std::io::ErrorKind;
+use std::io::{ErrorKind, IsTerminal, Stderr};
 use std::process::ExitCode;
 use std::sync::Wait;
 use std::thread::Threads;
 use std::{env, io};
 
-/// Runs the program that the words of the command line ask for, and answers the exit status. A race's threads are those of `threads`.
+/// Runs the program that the words of the command line ask for, and returns the exit status. A race's threads are those of `threads`.
 pub(crate) fn run<R: Threads + Wait + Sync>(rt: &HostRuntime, threads: &R) -> ExitCode {
     let alloc = rt.alloc();
     let words = match words(rt, alloc) {
@@ -32,7 +32,7 @@ fn words(rt: &HostRuntime, alloc: Global) -> io::Result<Vec<String>> {
     Ok(env::args(rt)?.collect(alloc)?)
 }
 
-/// Tells why the words can't be read, and answers the status.
+/// Prints why the words can't be read, and returns the status.
 fn unread(rt: &HostRuntime, kind: ErrorKind) -> u8 {
     if kind == ErrorKind::OutOfMemory {
         return no_memory(rt);
@@ -41,13 +41,13 @@ fn unread(rt: &HostRuntime, kind: ErrorKind) -> u8 {
     2
 }
 
-/// Tells that a growth of memory was refused, and answers the status.
+/// Prints that a growth of memory was refused, and returns the status.
 fn no_memory(rt: &HostRuntime) -> u8 {
     let _ = println!(rt; "refused: {}", Refusal::Memory.code());
     1
 }
 
-/// Tells why the words are refused, or what was asked of them, and answers the status.
+/// Prints why the words are refused, or what they ask for, and returns the status.
 fn refuse(rt: &HostRuntime, error: OptionsError) -> u8 {
     match error {
         OptionsError::Clap(error) => {
@@ -55,23 +55,59 @@ fn refuse(rt: &HostRuntime, error: OptionsError) -> u8 {
             if error.use_stderr() {
                 return 2;
             }
-            if told { 0 } else { 1 }
+            if told {
+                return 0;
+            }
+            unwritten(rt);
+            1
         }
         OptionsError::Memory => no_memory(rt),
     }
 }
 
-/// Runs a program from standard input to standard output, and answers the status: 2 exactly where the limits aren't allowed. A race's
+/// Prints that standard output couldn't be written.
+fn unwritten(rt: &HostRuntime) {
+    let _ = eprintln!(rt; "error: standard output could not be written");
+}
+
+/// Prints which of standard input and standard output failed.
+fn tell_failures(rt: &HostRuntime, read_failed: bool, write_failed: bool) {
+    if read_failed {
+        let _ = eprintln!(rt; "error: standard input could not be read");
+    }
+    if write_failed {
+        unwritten(rt);
+    }
+}
+
+/// Prints that a number of these settings is outside its range, and which.
+fn tell_range(rt: &HostRuntime, settings: &Settings) {
+    let _ = eprintln!(rt; "refused: {}", Refusal::BadLimits.code());
+    if let Some(found) = settings.out_of_range() {
+        let _ = eprintln!(rt; "error: {found}");
+    }
+}
+
+/// Standard error, where that is a terminal at which someone waits: neither standard input nor standard output is one.
+fn watching(rt: &HostRuntime) -> Option<Stderr> {
+    let waits = rt.stderr().is_terminal()
+        && !rt.stdin().is_terminal()
+        && !rt.stdout().is_terminal();
+    if waits { Some(rt.stderr()) } else { None }
+}
+
+/// Runs a program from standard input to standard output, and returns the status: 2 exactly where the limits aren't allowed. A race's
 /// threads are those of `threads`.
 fn started<R: Threads + Wait + Sync>(rt: &HostRuntime, threads: &R, settings: Settings) -> u8
     ensures allowed { MayOpen settings → (result ≡ 0) ⊎ (result ≡ 1) }
     ensures refused { (MayOpen settings → ⊥) → result ≡ 2 }
 {
-    let mut input = Reader::new(rt.reader());
+    let mut input = Reader::new(Watched::new(rt.reader(), watching(rt)));
     let mut output = Writer::new(io::writer(rt));
     let Some(status) = run_settings(threads, rt.alloc(), settings, &mut input, &mut output) else {
-        let _ = eprintln!(rt; "refused: {}", Refusal::BadLimits.code());
+        tell_range(rt, &settings);
         return 2;
     };
+    tell_failures(rt, input.has_failed(), output.has_failed());
     status
 }

@@ -67,6 +67,17 @@ shows_at a b c t u false g is_f is_g p q = record {
 pub shows_then : {a b c : Sink} {t u : List ℕ} → Prints a b t → Prints b c u → Prints a c (t ++ u)
 shows_then {a} {b} {c} {t} {u} p q = shows_at a b c t u b.failed c.failed refl refl p q
 
+pub then_no_text : {a b c : Sink} {t : List ℕ} → Prints a b t → Prints b c [] → Prints a c t
+then_no_text {a} {b} {c} {t} p q = subst (λ (u : List ℕ). Prints a c u) (append-nil t) (shows_then p q)
+
+-- a writer that hasn't failed hadn't failed before
+pub sound_before : {a b : Sink} {t : List ℕ} → Prints a b t → b.failed ≡ false → a.failed ≡ false
+sound_before {a} {b} {t} p sound = at a.failed refl
+  where
+    at : (f : Bool) → a.failed ≡ f → f ≡ false
+    at true e = cc (sym (p.stays e).1 ∙ sound)
+    at false e = refl
+
 -- ---- pieces that don't fit
 
 pub err_holds : {A E : Type 0} (r : Result A E) (P : Type 0) → is_ok r ≡ false → OnErr r P → P

@@ -63,7 +63,7 @@ impl<R: Read> Input for Reader<R> {
     }
 }
 
-/// Any writer. It is given few large pieces, the last one by `finish`.
+/// Any writer. It is given few large pieces, and what is left of them by `finish`.
 #[derive(Drop)]
 pub struct Writer<W> {
     pub inner: W,

@@ -16,7 +16,7 @@ SaysOfJob line asks =
     (length line ≤ 1024) × (number : List ℕ) × (rest : List (List ℕ)) × (fields_of line ≡ number ∷ rest)
     × (number_of number ≡ Some asks.job) × (asks.job < 4096) × SpellsCommand rest asks.command
 
--- the same as a function: the way of the code
+-- what the fields ask for, as a function: the number of the job, then the command
 
 abbrev pub job_number : ℕ → Option ℕ
 job_number n = if nat_lt n 4096 then Some n else None

@@ -51,7 +51,7 @@ race_app = limits_rules (with_rule (new_app (codes "race")) (number_rule (codes 
 abbrev pub bwtree_app : App
 bwtree_app =
     with_subcommand
-    (with_subcommand (with_subcommand (with_subcommand (on_top (λ s. record s { subcommand_required = true }) (new_app (codes "bwtree"))) script_app.top) weave_app.top) draw_app.top)
+    (with_subcommand (with_subcommand (with_subcommand (on_top (λ s. record s { has_version = true; subcommand_required = true }) (new_app (codes "bwtree"))) script_app.top) weave_app.top) draw_app.top)
     race_app.top
 
 -- n is the number that the word of the option spells, or the default where there is no such word
@@ -121,7 +121,7 @@ told_by matches = subcommand_rows (out-ArgMatches matches).subcommand
 abbrev pub IsApp : {E : Type 0} → App → Result Command E → Type 0
 IsApp app made = IfOk made (λ c. app_of c ≡ app)
 
--- the same, and no option of it is its subcommands' too
+-- the command, if it could be made, is of this shape, and no option of it is its subcommands' too
 abbrev pub MakesApp : {E : Type 0} → App → Result Command E → Type 0
 MakesApp app made = IfOk made (λ c. (app_of c ≡ app) × ((fields_of c).has_globals ≡ false))
 

@@ -5,6 +5,9 @@
 //! Called by `bwtree`. It knows limits as numbers, and no tree; nothing is run here.
 #![tactic(auto)]
 
+mod help;
+mod ranges;
 mod words;
 
+pub use ranges::{LimitOption, OutOfRange};
 pub use words::{OptionsError, Program, Settings, options};

@@ -7,6 +7,7 @@ ghost use Rattle.shell_options.specs.Words.{flag_rule, number_rule, limits_rules
 ghost use Rattle.shell_options.specs.Words.{SpellsFlag, SpellsOr, HasActors, HasNumbers, IsApp, MakesApp, default_pids_of, default_rows_of, told_by};
 ghost use Rattle.shell_options.specs.Words.{HasNoFault, IsSpelled, IsNamedBy, MayRefuse, MayOpen};
 
+use crate::help;
 use clap::error::ErrorKind;
 use clap::{Arg, ArgAction, ArgMatches, Command, Error, value_parser};
 use std::alloc::{AllocError, Global};
@@ -19,13 +20,13 @@ pub enum Program {
     Script,
     /// Runs operations of several actors, turn by turn.
     Weave,
-    /// Runs the same, and draws the tree as it then stands.
+    /// Runs the lines of `Weave`, and draws the tree at the end of the input.
     Draw,
     /// Runs jobs on threads.
     Race,
 }
 
-/// What the words of a command line say.
+/// What the words of a command line ask for.
 #[derive(Clone, Copy, Debug, PartialEq, Eq)]
 pub struct Settings {
     pub program: Program,
@@ -66,7 +67,7 @@ pub enum OptionsError {
     Memory,
 }
 
-// An option with a number.
+/// An option with a number.
 fn option<'a>(alloc: Global, name: &'a str) -> Arg<'a>
     ensures rule { rule_of result ≡ number_rule name.entry.now }
     ensures local { result.global ≡ false }
@@ -76,7 +77,7 @@ fn option<'a>(alloc: Global, name: &'a str) -> Arg<'a>
         .value_parser(value_parser!(u64))
 }
 
-// The same, with what help says of it.
+/// An option with a number, and its line in help.
 fn number<'a>(alloc: Global, name: &'a str, help: &'a str) -> Arg<'a>
     ensures rule { rule_of result ≡ number_rule name.entry.now }
     ensures local { result.global ≡ false }
@@ -84,7 +85,7 @@ fn number<'a>(alloc: Global, name: &'a str, help: &'a str) -> Arg<'a>
     option(alloc, name).help(help)
 }
 
-// The command with one such option more, if there is a command.
+/// The command with one such option more, if there is a command.
 fn with_number<'a>(
     alloc: Global,
     command: Result<Command<'a>, AllocError>,
@@ -96,7 +97,7 @@ fn with_number<'a>(
     command?.arg(number(alloc, name, help))
 }
 
-// A flag: an option without a value.
+/// A flag: an option without a value.
 fn flag<'a>(alloc: Global, name: &'a str) -> Arg<'a>
     ensures rule { rule_of result ≡ flag_rule name.entry.now }
     ensures local { result.global ≡ false }
@@ -104,7 +105,7 @@ fn flag<'a>(alloc: Global, name: &'a str) -> Arg<'a>
     Arg::new(alloc, name).long(name).action(ArgAction::SetTrue)
 }
 
-// The command with one flag more, if there is a command.
+/// The command with one flag more, if there is a command.
 fn with_flag<'a>(
     alloc: Global,
     command: Result<Command<'a>, AllocError>,
@@ -116,7 +117,7 @@ fn with_flag<'a>(
     command?.arg(flag(alloc, name).help(help))
 }
 
-// A program's words: a command with the options of its limits, but for the number of actors.
+/// A program's words: a command with the options of its limits, but for the number of actors.
 fn with_limits<'a>(
     alloc: Global,
     command: Result<Command<'a>, AllocError>,
@@ -134,7 +135,7 @@ fn with_limits<'a>(
     with_number(alloc, command, "epoch", epoch_help)
 }
 
-// The limits of a program that takes turns.
+/// The limits of a program that takes turns.
 fn with_few<'a>(
     alloc: Global,
     command: Result<Command<'a>, AllocError>,
@@ -149,7 +150,7 @@ fn with_few<'a>(
     )
 }
 
-// A command without options, and what help says of it.
+/// A command without options, and what help says of it.
 fn described<'a>(
     alloc: Global,
     name: &'a str,
@@ -161,7 +162,7 @@ fn described<'a>(
     Ok(Command::new(alloc, name).about(about).after_help(example))
 }
 
-// The words of a program of several actors that take turns.
+/// The words of a program of several actors that take turns.
 fn actors_command<'a>(
     alloc: Global,
     name: &'a str,
@@ -171,7 +172,12 @@ fn actors_command<'a>(
     ensures { MakesApp (actors_app name.entry.now) result }
 {
     let command = described(alloc, name, about, example);
-    let command = with_number(alloc, command, "actors", "Actors, 1 to 16 [default: 2]");
+    let command = with_number(
+        alloc,
+        command,
+        "actors",
+        "Actors, 1 to 16, with --large to 63 [default: 2]",
+    );
     with_few(alloc, command)
 }
 
@@ -182,7 +188,7 @@ fn weave_command<'a>(alloc: Global) -> Result<Command<'a>, AllocError>
         alloc,
         "weave",
         "Runs the lines of standard input, turn by turn, and prints what they answer",
-        "Example: the lines 'begin 0 insert a 1' and 'finish 0' print '0 inserted'",
+        help::WEAVE,
     )
 }
 
@@ -193,7 +199,7 @@ fn draw_command<'a>(alloc: Global) -> Result<Command<'a>, AllocError>
         alloc,
         "draw",
         "Runs the lines of standard input as weave does, and prints a picture of the tree, as SVG",
-        "Example: the lines 'begin 0 insert a 1' and 'finish 0' print a picture of one page with one item",
+        help::DRAW,
     )
 }
 
@@ -204,7 +210,7 @@ fn script_command<'a>(alloc: Global) -> Result<Command<'a>, AllocError>
         alloc,
         "script",
         "Runs the commands of standard input, one a line, and prints what they answer",
-        "Example: the lines 'insert a 1' and 'get a' print '0 inserted' and '0 value 1'",
+        help::SCRIPT,
     );
     with_few(alloc, script)
 }
@@ -216,9 +222,9 @@ fn race_command<'a>(alloc: Global) -> Result<Command<'a>, AllocError>
         alloc,
         "race",
         "Runs the jobs of standard input on threads, and prints what they answer and all pairs",
-        "Example: the lines '0 insert a 1' and '1 get b' print '0 inserted', '1 none', 'pairs 1' and 'a 1'",
+        help::RACE,
     );
-    let seats_help = "Seats, one thread each, 1 to 16 [default: 2]";
+    let seats_help = "Seats, one thread each, 1 to 16, with --large to 63 [default: 2]";
     let race = with_number(alloc, race, "seats", seats_help);
     with_limits(
         alloc,
@@ -228,7 +234,7 @@ fn race_command<'a>(alloc: Global) -> Result<Command<'a>, AllocError>
     )
 }
 
-// The command with a program more, if there is a command, and where that one's words could be made.
+/// The command with a program more, if there is a command, and where that one's words could be made.
 fn with_program<'a>(
     command: Result<Command<'a>, AllocError>,
     made: Result<Command<'a>, AllocError>,
@@ -238,12 +244,14 @@ fn with_program<'a>(
     command?.subcommand(made?)
 }
 
-// The words of all programs.
+/// The words of all programs.
 fn command<'a>(alloc: Global) -> Result<Command<'a>, AllocError>
     ensures { IsApp bwtree_app result }
 {
     let command = Command::new(alloc, "bwtree")
         .about("An ordered map of keys to values, kept in a latch-free Bw-tree")
+        .version(help::VERSION)
+        .after_help(help::PROGRAM)
         .subcommand_required(true);
     let command = with_program(Ok(command), script_command(alloc));
     let command = with_program(command, weave_command(alloc));
@@ -251,7 +259,7 @@ fn command<'a>(alloc: Global) -> Result<Command<'a>, AllocError>
     with_program(command, race_command(alloc))
 }
 
-// The number of the option `name`, or `default` where it isn't there.
+/// The number of the option `name`, or `default` where it isn't there.
 fn chosen(matches: &ArgMatches<'_>, name: &str, default: u64) -> Option<u64>
     ensures { IfSome result (SpellsOr (rows_of (found_of matches.now)) name.now default) }
 {
@@ -262,7 +270,7 @@ fn chosen(matches: &ArgMatches<'_>, name: &str, default: u64) -> Option<u64>
     }
 }
 
-// Whether the flag `name` is there.
+/// Whether the flag `name` is there.
 fn has_flag(matches: &ArgMatches<'_>, name: &str) -> Option<bool>
     ensures { IfSome result (SpellsFlag (rows_of (found_of matches.now)) name.now) }
 {
@@ -273,7 +281,7 @@ fn has_flag(matches: &ArgMatches<'_>, name: &str) -> Option<bool>
     }
 }
 
-// The number of actors that a program has, from the words behind its name.
+/// The number of actors that a program has, from the words behind its name.
 fn actors(program: Program, matches: &ArgMatches<'_>) -> Option<u64>
     ensures { IfSome result (HasActors program (rows_of (found_of matches.now))) }
 {
@@ -284,7 +292,7 @@ fn actors(program: Program, matches: &ArgMatches<'_>) -> Option<u64>
     }
 }
 
-// How many page identifiers a program has where its words don't say.
+/// How many page identifiers a program has where its words don't say.
 fn default_pids(program: Program) -> u64
     ensures { result ≡ default_pids_of program }
 {
@@ -294,7 +302,7 @@ fn default_pids(program: Program) -> u64
     }
 }
 
-// How many rows.
+/// How many rows a program has where its words don't say.
 fn default_rows(program: Program) -> u64
     ensures { result ≡ default_rows_of program }
 {
@@ -304,7 +312,7 @@ fn default_rows(program: Program) -> u64
     }
 }
 
-// The numbers of a program, from the words behind its name.
+/// The numbers of a program, from the words behind its name.
 fn numbers(program: Program, matches: &ArgMatches<'_>) -> Result<Settings, OptionsError>
     ensures ok { IfOk result (HasNumbers (rows_of (found_of matches.now))) }
     ensures program { IfOk result (λ settings. settings.program ≡ program) }
@@ -335,7 +343,7 @@ fn numbers(program: Program, matches: &ArgMatches<'_>) -> Result<Settings, Optio
     })
 }
 
-// The program that the matches name, with its numbers.
+/// The program that the matches name, with its numbers.
 fn named_program(matches: &ArgMatches<'_>) -> Result<Settings, OptionsError>
     ensures told { IfOk result (IsNamedBy (told_by matches.now)) }
     ensures refused { IfErr result (λ error. error ≡ OptionsError.Memory) }

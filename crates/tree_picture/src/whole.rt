@@ -57,7 +57,7 @@ fn all_actors(sheet: &mut Sheet, core: &Core, y: u32) -> u32
     ensures { sheet.new ≡ sheet.old }
 {
     let mut y = y.saturating_add(20);
-    for number in 0..16u8 {
+    for number in 0..core.limits().actors as u8 {
         if let Some(actor) = core.actor(number) {
             let announced = core.memory().announced(number);
             actor_lines(sheet, number, actor, announced, y);

@@ -1,8 +1,8 @@
 use Rattle.std.proofs.Common.{◌≡◌, ℕ, ◌+◌, ◌<◌, [], ◌++◌, length, refl, sym, ap, ◌∙◌, arith, inl, inr}
 use Rattle.std.proofs.lemmas.Bool.{eqb-true, eqb-false}
 use Rattle.std.proofs.lemmas.List.{append-nil}
-use Rattle.byte_streams.proofs.Showing.{no_text, shows_then}
-use Rattle.bw_shell.proofs.Feeding.{no_bytes, weaves_then, weaves_stops, end_whole, end_part, match_true_at, match_false_at}
+use Rattle.byte_streams.proofs.Showing.{no_text, shows_then, then_no_text, sound_before}
+use Rattle.bw_shell.proofs.Feeding.{no_bytes, weaves_then, weaves_stops, weaves_end, either_by, end_whole, end_part, match_false_at}
 use Rattle.bw_shell.proofs.Weaving.{no_items}
 use Rattle.std.proofs.KnownBytes.{Consumes-nil, Consumes-trans, Consumes-kept}
 use Rattle.bw_shell.proofs.whole.run.Goals as goal
@@ -37,13 +37,20 @@ returns-then-has_failed g c =
     let fed = c.feed.ensures.fed in
     let failed = sym c.has_failed.ensures ∙ c.if-has_failed.true in
     let after = rw c.in_default.is at fed.2 in
-    let stops = match_true_at _ _ _ failed after in
+    let either = either_by _ _ _ _ c.finish.ensures.shows after in
     record {
       taken = inv.woven.0 ++ c.split_at.result.0.now;
       text = inv.woven.1 ++ fed.0;
       reads = Consumes-trans _ _ _ _ _ inv.woven.2 (rw c.split_at.ensures.front c.in-Ok.ensures.bytes.0);
-      says = inr (inr (c.in-Ok.ensures.fails ∙ inv.sound_in, inr failed, weaves_stops _ _ _ _ _ _ _ _ _ _ _ _ inv.woven.3 stops));
-      shows = shows_then inv.woven.4 fed.1;
+      says = inr (inr (
+        c.in-Ok.ensures.fails ∙ inv.sound_in,
+        inr failed,
+        elim either [
+          | inl stops ↦ weaves_stops _ _ _ _ _ _ _ _ _ _ _ _ inv.woven.3 stops
+          | inr more ↦ let end = weaves_end _ _ _ _ _ _ _ _ more in weaves_stops _ _ _ _ _ _ _ _ _ _ _ _ inv.woven.3 end
+        ],
+      ));
+      shows = then_no_text (shows_then inv.woven.4 fed.1) c.finish.ensures.shows;
     }
 
 pub reads-preserved : goal.reads-preserved
@@ -52,14 +59,14 @@ reads-preserved g c =
     let fed = c.feed.ensures.fed in
     let sound = sym c.has_failed.ensures ∙ c.if-has_failed.false in
     let after = rw c.in_default.is at fed.2 in
-    let more = match_false_at _ _ _ sound after in
+    let more = match_false_at _ _ _ (sound_before c.finish.ensures.shows sound) after in
     record {
       woven = (
         inv.woven.0 ++ c.split_at.result.0.now,
         inv.woven.1 ++ fed.0,
         Consumes-trans _ _ _ _ _ inv.woven.2 (rw c.split_at.ensures.front c.in-Ok.ensures.bytes.0),
         weaves_then _ _ _ _ _ _ _ _ _ _ _ _ _ inv.woven.3 more,
-        shows_then inv.woven.4 fed.1,
+        then_no_text (shows_then inv.woven.4 fed.1) c.finish.ensures.shows,
       );
       sound_in = c.in-Ok.ensures.fails ∙ inv.sound_in;
       sound_out = sound;
