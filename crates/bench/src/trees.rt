@@ -43,7 +43,7 @@ fn limits_for(what: What, keys: u32) -> Result<Limits, BadLimits> {
     }
 }
 
-/// The same on a new tree.
+/// What is done on a tree in which the keys were inserted before, by one thread.
 fn on_loaded<R: Threads + Clock + Sync>(
     rt: &R,
     alloc: Global,

@@ -38,7 +38,7 @@ pub(crate) enum What {
     Scans,
     /// Drawn keys are looked up one step at a time, and the steps are counted.
     Steps,
-    /// The same of upserts.
+    /// Upserts of drawn keys are made one step at a time, and the steps are counted.
     Writes,
     /// Every second operation inserts the next key at the end, the others delete the first one, once there are as many as there are to be.
     Window,

@@ -1,7 +1,7 @@
 //! Where each row and each PID is at the end of a trace, by the steps that moved them: that none is lost. What a step may do, and what it
 //! is answered, is proved of each trace.
 
-use crate::by_hand::comes_to_rest;
+use crate::by_hand::{MOST_ACTORS, comes_to_rest};
 use crate::numbers::{MOST, Numbers, Status};
 use bw_model::{Answer, Key, Link, Step};
 use core_memory::Entries;
@@ -24,7 +24,7 @@ struct Accounts {
     rows: Numbers,
     pids: Numbers,
     /// The page that each actor has made ready last.
-    ready: [u32; 16],
+    ready: [u32; MOST_ACTORS as usize],
 }
 
 /// A base of which nothing is under it.
@@ -44,7 +44,7 @@ impl Accounts {
             placed: [OPENING; MOST as usize],
             rows: Numbers::new(),
             pids: Numbers::new(),
-            ready: [0; 16],
+            ready: [0; MOST_ACTORS as usize],
         }
     }
 
@@ -84,7 +84,7 @@ impl Accounts {
     /// A record was linked over another, or in place of a chain.
     fn links(&mut self, actor: u8, head: u32, row: u32) -> bool {
         let placed = self.placed(row);
-        let ready = self.ready[usize::from(actor % 16)];
+        let ready = self.ready[usize::from(actor % MOST_ACTORS)];
         let stands = match placed.link {
             Link::Base => self.unlink_chain(head),
             Link::Split => self.pids.moves(ready, Status::Spare, Status::Linked),
@@ -96,7 +96,7 @@ impl Accounts {
 
     /// An own page is filled before it is linked.
     fn fills(&mut self, actor: u8, page: u32, row: u32) -> bool {
-        self.ready[usize::from(actor % 16)] = page;
+        self.ready[usize::from(actor % MOST_ACTORS)] = page;
         self.pids.is_at(page, Status::Spare) && self.rows.moves(row, Status::Spare, Status::Linked)
     }
 

@@ -1,7 +1,7 @@
 //! Additions of several actors to few keys, in a drawn order: each key's number is the sum of what was added to it.
 
 use crate::asked::draw;
-use crate::by_hand::{let_go, reply};
+use crate::by_hand::{MOST_ACTORS, let_go, reply};
 use crate::numbered::key;
 use crate::scripts::Size;
 use bw_model::{Command, Reply, Value};
@@ -23,7 +23,7 @@ const TURNS: u32 = 20_000;
 struct Sums {
     sums: [u64; KEYS],
     set: [u32; KEYS],
-    adds: [(u32, u64); 16],
+    adds: [(u32, u64); MOST_ACTORS as usize],
     made: u32,
     full: u32,
 }
@@ -43,7 +43,7 @@ impl Sums {
         Sums {
             sums: [0; KEYS],
             set: [0; KEYS],
-            adds: [(0, 0); 16],
+            adds: [(0, 0); MOST_ACTORS as usize],
             made: 0,
             full: 0,
         }
@@ -51,13 +51,13 @@ impl Sums {
 
     /// An actor begins to add a number to a key.
     fn begin(&mut self, actor: u8, number: u32, more: u64) -> Turn {
-        self.adds[usize::from(actor % 16)] = (number, more);
+        self.adds[usize::from(actor % MOST_ACTORS)] = (number, more);
         Turn::Begin(actor, Command::Add(key(number), more))
     }
 
     /// The actor's addition has this reply; says whether it is one of an addition.
     fn ends(&mut self, actor: u8, reply: &Reply) -> bool {
-        let (number, more) = self.adds[usize::from(actor % 16)];
+        let (number, more) = self.adds[usize::from(actor % MOST_ACTORS)];
         let place = number as usize % KEYS;
         match reply {
             Reply::Full => {
@@ -84,7 +84,7 @@ impl Sums {
 
     /// Takes a turn of one of so many actors.
     fn turn(&mut self, core: &mut Core, rng: &mut Pcg32, actors: u32) -> bool {
-        let actor = (draw(rng, actors) % 16) as u8;
+        let actor = (draw(rng, actors) % u32::from(MOST_ACTORS)) as u8;
         if core.is_busy(actor) {
             return self.steps(core, actor);
         }
@@ -101,7 +101,7 @@ impl Sums {
                 return false;
             }
         }
-        for actor in 0..16u8 {
+        for actor in 0..MOST_ACTORS {
             for _ in 0..1000u32 {
                 if core.is_busy(actor) && !self.steps(core, actor) {
                     return false;
@@ -147,6 +147,12 @@ fn additions_sum_up(rt: HostRuntime) {
             );
         }
     }
+}
+
+#[test]
+fn additions_of_sixty_three_sum_up(rt: HostRuntime) {
+    let added = added(rt.alloc(), Size::Large(192, 1024), 11, 63);
+    assert!(rt; added.is_some_and(|(made, _)| made > 100), "{added:?}");
 }
 
 // With few rows some of the additions find no room, and add nothing.

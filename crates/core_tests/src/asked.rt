@@ -43,12 +43,12 @@ pub(crate) enum Mix {
     ManyDeletes,
     /// All commands but the last three, each as often as the others.
     Seven,
-    /// The same, where a swap expects the value that its key has when it is asked, if it has one.
+    /// All commands but the last three, each as often as the others; a swap expects the value that its key has when it is asked, if it has one.
     Swaps,
     /// All ten commands, each as often as the others; what expects a value expects the one that its key has when it is asked, if it has
     /// one.
     Ten,
-    /// The same, with both deletions three times as often.
+    /// As `Ten`, but both deletions three times as often.
     Shrinking,
 }
 

@@ -8,6 +8,9 @@ use traces::Turn;
 /// More steps than an operation takes where the others stand: one that removes pages of several levels takes some thousand.
 pub(crate) const MOST_STEPS: u32 = 4096;
 
+/// How many actors a core has at most.
+pub(crate) const MOST_ACTORS: u8 = 63;
+
 /// Lets a core go. A function in which a core is dropped costs the proof two seconds more than one that hands it to this.
 pub(crate) fn let_go<A: Allocator>(_core: Core<A>) {}
 
@@ -99,13 +102,13 @@ pub(crate) fn used(core: &Core) -> u32 {
 
 /// Whether all operations are done, and then four deletes of a key by each actor, after which each has freed all that it took out.
 pub(crate) fn comes_to_rest(core: &mut Core, key: &Key) -> bool {
-    for actor in 0..16u8 {
+    for actor in 0..MOST_ACTORS {
         if core.is_busy(actor) && finish(core, actor).is_none() {
             return false;
         }
     }
-    for turn in 0..64u8 {
-        let actor = turn % 16;
+    for turn in 0..4 * MOST_ACTORS {
+        let actor = turn % MOST_ACTORS;
         let is_one = u64::from(actor) < core.limits().actors;
         if is_one && reply(core, actor, Command::Delete(key.copied())).is_none() {
             return false;

@@ -268,7 +268,7 @@ fn stands(alloc: Global, core: &mut Core, kind: u32, seed: u64) -> Option<(u64, 
     all_end(alloc, core, &keys).then_some((moment, steps))
 }
 
-/// The same in a new tree.
+/// What commands of a kind took in a new tree, beside all that stand there.
 fn watched(alloc: Global, size: Size, kind: u32, seed: u64) -> Option<Seen> {
     let mut core = size.opened(alloc, 16)?;
     let stands = stands(alloc, &mut core, kind, seed);

@@ -131,7 +131,7 @@ fn taken(core: &mut Core, command: Command) -> Option<(u32, u32)> {
     None
 }
 
-/// The same in a core that is emptied for it.
+/// How many steps the command takes, and how many exchanges win, in a core that is emptied for it.
 fn taken_anew(alloc: Global, size: Size, ask: Ask) -> Option<(u32, u32)> {
     let mut core = emptied(alloc, size)?;
     let taken = taken(&mut core, ask.command());

@@ -91,7 +91,7 @@ fn paused(alloc: Global, core: &mut Core, seed: u64) -> Option<u32> {
     pause.turns(core, &mut Pcg32::seed_from_u64(seed))
 }
 
-/// The same in a new tree.
+/// The longest pause in a new tree, in the order of this seed.
 fn paused_anew(alloc: Global, size: Size, seed: u64) -> Option<u32> {
     let mut core = size.opened(alloc, 3)?;
     let paused = paused(alloc, &mut core, seed);

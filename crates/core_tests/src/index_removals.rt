@@ -85,7 +85,7 @@ fn first_removal(alloc: Global, core: Core, lines: &[Line]) -> Option<u32> {
     None
 }
 
-/// The same on a new core.
+/// What `first_removal` finds on a new core.
 fn removal_anew(alloc: Global, lines: &[Line]) -> Option<u32> {
     match opened(alloc, 2, 256, 4096, 1) {
         Some(core) => first_removal(alloc, core, lines),

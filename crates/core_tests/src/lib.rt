@@ -1,7 +1,8 @@
 //! What runs of a core are to do, and what it does where memory is refused: tests alone, over its public calls.
 //!
-//! Look first at `scripts`, whose lines say what actors do, and at `schedules`, which draws their order, of what `asked` draws. `plain_map` is the map beside
-//! which replies are looked at, `stops` stops each operation after each of its steps, and `refusals` refuses each allocation in turn.
+//! Look first at `scripts`, whose lines are what actors do, and at `schedules`, which draws their order, of what `asked` draws. `plain_map`
+//! is the map with which replies are compared, `stops` stops each operation after each of its steps, and `refusals` refuses each allocation
+//! in turn.
 //!
 //! Called by nobody, and apart from `step_core`, which would be proved twice with its tests.
 #![tactic(auto)]

@@ -322,7 +322,7 @@ fn sixteen_lack(alloc: Global, core: &Core) -> bool {
     }
 }
 
-/// The same on a new core, once the pairs are inserted.
+/// Whether the listing of a new core is refused so, once the pairs are inserted.
 fn listing_lacks(alloc: Global) -> bool {
     match opened(alloc, 1, 64, 64, 1) {
         Some(mut core) => {

@@ -2,6 +2,7 @@
 
 use crate::accounts::is_settled;
 use crate::asked::{Asked, Kind, Mix, bit, draw};
+use crate::by_hand::MOST_ACTORS;
 use crate::numbered::key;
 use crate::plain_map::{ABSENT, PlainMap};
 use crate::scripts::Size;
@@ -41,7 +42,7 @@ impl Twin {
     pub(crate) fn new(alloc: Global) -> Result<Twin, AllocError> {
         Ok(Twin {
             map: PlainMap::new(alloc)?,
-            asked: vec![in alloc; Asked::idle(); 16]?,
+            asked: vec![in alloc; Asked::idle(); usize::from(MOST_ACTORS)]?,
             seen: NOTHING,
         })
     }
@@ -156,7 +157,7 @@ pub(crate) fn steps(core: &mut Core, twin: &mut Twin, actor: u8) -> Option<bool>
 
 /// Takes a turn of an actor that is drawn; says whether what it did may be, beside the map.
 fn turn(core: &mut Core, twin: &mut Twin, rng: &mut Pcg32, schedule: &Schedule) -> bool {
-    let actor = (draw(rng, schedule.actors) % 16) as u8;
+    let actor = (draw(rng, schedule.actors) % u32::from(MOST_ACTORS)) as u8;
     if core.is_busy(actor) {
         return steps(core, twin, actor).is_some();
     }
@@ -288,6 +289,16 @@ fn ten_commands_beside_removals(rt: HostRuntime) {
 fn many_actors(rt: HostRuntime) {
     let four = in_both(rt.alloc(), (Mix::Four, 40), (9, 16, 30_000), (64, 512));
     assert!(rt; four == [Some((1, false, false)); 2], "{four:?}");
+}
+
+// As many as a large tree takes.
+#[test]
+fn sixty_three_actors(rt: HostRuntime) {
+    let size = Size::Large(192, 1_024);
+    let ten = told(watch(rt.alloc(), (Mix::Ten, 40), (27, 63, 30_000), size));
+    assert!(rt; ten == Some((1, false, false)), "{ten:?}");
+    let four = told(watch(rt.alloc(), (Mix::Four, 676), (28, 63, 30_000), size));
+    assert!(rt; four == Some((2, false, false)), "{four:?}");
 }
 
 #[test]

@@ -50,7 +50,7 @@ pub(crate) enum Say {
     Differs(u32),
     /// The pairs from the first number to the second, and the next key.
     Page(u32, u32, Option<u32>),
-    /// The same of a page backward, in a leaf from the key of the third number on, or from the least key.
+    /// The pairs of a page backward, in a leaf from the key of the third number on, or from the least key.
     Back(u32, u32, Option<u32>),
     Tidied,
 }

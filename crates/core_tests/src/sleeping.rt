@@ -101,7 +101,7 @@ fn slept(core: &mut Core, steps: u32) -> Option<u32> {
     None
 }
 
-/// The same in a new tree.
+/// What `slept` finds in a new tree.
 fn slept_anew(alloc: Global, size: Size, steps: u32) -> Option<u32> {
     let mut core = size.opened(alloc, 16)?;
     let slept = slept(&mut core, steps);

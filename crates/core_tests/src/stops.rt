@@ -46,7 +46,7 @@ fn goes_on(
     }
 }
 
-/// The same on a new core.
+/// What `goes_on` finds on a new core.
 fn goes_on_anew(
     alloc: Global,
     size: Size,

@@ -1,16 +1,16 @@
-//! A removal on level 2 beside each of seven commands: the delete stops after each of its steps, and the command goes to its end; and the other
-//! way round. How many turns each takes at most is known.
+//! A removal on level 2 beside each of seven commands, and beside a page backward: the delete stops after each of its steps, and the command goes to
+//! its end; and the other way round. How many turns each takes at most is known.
 
 use crate::by_hand::{begins, end, let_go, until};
 use crate::level_two::{KEYS, LAST, extra, grown, regrows, shrinks};
-use crate::numbered::{key, page, value};
+use crate::numbered::{back_page, key, page, value};
 use crate::scripts::lists_all;
 use bw_model::{Command, Link, Reply};
 use std::alloc::Global;
 use step_core::Core;
 
 /// A command of the other actor on the way of the removal, and what it replies: a lookup, a cursor page, an insert that splits a leaf, an update,
-/// a second delete, a swap and a tidying.
+/// a second delete, a swap, a tidying, and a page backward of the leaf into which the removed one was merged.
 fn asked(place: usize) -> (Command, Reply) {
     match place {
         0 => (Command::Get(key(1_019)), Reply::Value(value(1_019))),
@@ -25,7 +25,11 @@ fn asked(place: usize) -> (Command, Reply) {
             Command::Swap(key(1_016), value(1_016), value(7)),
             Reply::Swapped,
         ),
-        _ => (Command::Tidy(key(1_018)), Reply::Tidied),
+        6 => (Command::Tidy(key(1_018)), Reply::Tidied),
+        _ => (
+            Command::Back(key(1_019)),
+            back_page(1_009, 1_019, Some(1_009)),
+        ),
     }
 }
 
@@ -216,6 +220,13 @@ fn a_removal_on_level_2_stops_anywhere(rt: HostRuntime) {
     ];
     let found = found(rt.alloc(), Stops::Delete, [1; 7]);
     assert!(rt; found == wanted, "{found:?}");
+}
+
+// A page backward goes past the removed page, as a cursor page does.
+#[test]
+fn a_removal_on_level_2_stops_beside_pages_backward(rt: HostRuntime) {
+    let stops = all_stops(rt.alloc(), Stops::Delete, 7, 1).map(|most| most.stops);
+    assert!(rt; stops == Some(156), "{stops:?}");
 }
 
 // A reader has read the root or the page before it is removed, a writer has planned over it: what it is to link there loses, and it begins

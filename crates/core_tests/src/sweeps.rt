@@ -46,7 +46,7 @@ fn goes(alloc: Global, core: &mut Core, stop: u32) -> bool {
         && is_round(alloc, core)
 }
 
-/// The same on a new core with limbo, whose rows are what they are to be then.
+/// Whether it goes so on a new core with limbo, whose rows are what they are to be then.
 fn goes_on(alloc: Global, stop: u32) -> bool {
     match opened(alloc, 3, 64, 256, 1) {
         Some(mut core) => {

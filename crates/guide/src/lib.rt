@@ -1,4 +1,4 @@
-//! The examples of docs/GUIDE.md: tests alone. `swaps` stands there whole; each other module is named there, as checks/copies looks.
+//! The examples of docs/GUIDE.md: tests alone. That page shows `swaps` whole and names each other module, as checks/copies tests.
 //!
 //! Called by nobody. It uses a tree as a user would, by `workers`, `walks`, `map_laws`, `running_tree` and `bw_model`.
 #![tactic(auto)]

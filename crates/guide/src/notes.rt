@@ -117,7 +117,7 @@ fn tell_and_heed<R: Threads + Wait + Sync, T: OfTree + Send>(
     found == TIMES
 }
 
-/// The same with the last two seats of a list.
+/// The last two seats of a list: one tells, and the other one heeds.
 fn heeded_by<R: Threads + Wait + Sync>(
     rt: &R,
     alloc: Global,
@@ -131,7 +131,7 @@ fn heeded_by<R: Threads + Wait + Sync>(
     Some(tell_and_heed::<R, Brand>(rt, alloc, tree, &mut one, &mut other))
 }
 
-/// The same on a new tree.
+/// Two seats of a new tree: one tells, and the other one heeds.
 fn heeded<R: Threads + Wait + Sync>(rt: &R, alloc: Global) -> Option<bool> {
     let Ok(limits) = Limits::for_keys(2, 1000) else {
         return None;

@@ -66,7 +66,7 @@ fn first_word(limit: u64, at: u32, free: u8) -> u64
     if free == 1 { 32 } else { 40 }
 }
 
-/// The same of the last two numbers of several words.
+/// A word of free bits: of the last two numbers of several words none is free, or the last one, or both.
 fn last_word(limit: u64, at: u32, free: u8) -> u64
     requires whole { limit % 64 ≡ 0 }
     ensures { FitsWord limit at result }

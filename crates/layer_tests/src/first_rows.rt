@@ -132,7 +132,7 @@ fn full() -> [u64; FIRST_ROW_WORDS] {
     row
 }
 
-/// The same by today's form.
+/// That full leaf in today's form.
 fn full_today() -> [u64; ROW_WORDS] {
     let mut row = rows::row(&[(0, 0x02180001), (12, 255)]);
     for place in 21..453usize {

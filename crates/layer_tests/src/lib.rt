@@ -1,7 +1,7 @@
 //! What the layers below the operation do by hand: tests alone, over their public calls.
 //!
-//! Rows and their spelling at the edges, compact rows, rows of the first form, limbo lists, sweeps, plans and changes; `built` makes the pages that
-//! they need. What equations and exact conditions say is asked by no test once more.
+//! Rows and their spelling at the edges, compact rows, rows of the first form, limbo lists, sweeps, plans and changes; `built` makes the
+//! pages that they need. No test repeats what an equation or an exact condition in a contract states.
 //!
 //! Called by nobody, and apart from those crates, since a crate with tests is proved a second time with them.
 #![tactic(auto)]

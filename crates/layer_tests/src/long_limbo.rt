@@ -111,7 +111,7 @@ fn sweeps(limits: &Limits, limbo: &mut Limbo, rows: u32) -> Option<(u32, u32)>
     None
 }
 
-/// The same in a tree of two actors.
+/// What `sweeps` finds in a tree of two actors.
 fn swept(alloc: Global, limits: &Limits, rows: u32) -> Option<(u32, u32)> {
     if limits.actors != 2 {
         return None;

@@ -86,7 +86,7 @@ pub(crate) fn leaf_of<R: Abort + AllocGlobal>(rt: &R, pid: u32, low: Key, count:
     based(rt, pid, leaf(low, count))
 }
 
-/// The same under so many deltas, which change nothing, and twelve at most.
+/// That leaf under so many deltas, which change nothing, and twelve at most.
 fn leaf_under<R: Abort + AllocGlobal>(rt: &R, pid: u32, low: Key, count: u8, deltas: u8) -> Held
     requires pid { IsPid pid }
     ensures alive { is_removed result.chain ≡ false }
@@ -137,21 +137,21 @@ fn index() -> Page
     index_from(1, Key::default(), 1)
 }
 
-/// The same as page 5, in row 8.
+/// An index page that has page 1 at the empty key, as page 5, in row 8.
 pub(crate) fn bare<R: Abort + AllocGlobal>(rt: &R) -> Held
     ensures { result.chain ≡ index_page }
 {
     built::page(rt, 5, 8, &[], index())
 }
 
-/// The same with the term of page 2, in row 5.
+/// That page with the term of page 2, in row 5.
 fn termed<R: Abort + AllocGlobal>(rt: &R) -> Held
     ensures { result.chain ≡ termed_page }
 {
     built::page(rt, 5, 5, &[term_of(4, 2)], index())
 }
 
-/// The same with the term held, in row 6.
+/// That page with the term of page 2, held, in row 6.
 fn held<R: Abort + AllocGlobal>(rt: &R) -> Held
     ensures { result.chain ≡ held_page }
 {

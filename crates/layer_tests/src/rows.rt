@@ -107,7 +107,7 @@ pub(crate) const INDEX: Words = &[
     (48, 2),
 ];
 
-/// The same with both children at the empty key.
+/// An index page with both children at the empty key.
 const EQUAL_KEYS: Words = &[(0, 0x02020101), (12, 255), (30, 1), (39, 0x100), (48, 2)];
 
 pub(crate) const EACH_KIND: &[Words] = &[

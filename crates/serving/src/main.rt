@@ -121,7 +121,7 @@ fn ask_and_serve<R: Threads + Wait + Sync>(
     Some(inserted(rt, &receiver))
 }
 
-/// The same with the last two seats of a list, which come back to it.
+/// Serves the client with the last two seats of a list, which come back to it.
 fn served_by<R: Threads + Wait + Sync>(
     rt: &R,
     alloc: Global,

@@ -12,7 +12,8 @@ pub const NEVER: u32 = 1_000_000;
 pub struct Breaking {
     pub held: Vec<u8>,
     pub size: usize,
-    pub writes: u32,
+    /// How much had been written at each write that didn't fail.
+    pub starts: Vec<usize>,
     pub before_fault: u32,
     pub flush_fails: bool,
 }
@@ -23,7 +24,7 @@ impl Breaking {
         Breaking {
             held: Vec::new(alloc),
             size,
-            writes: 0,
+            starts: Vec::new(alloc),
             before_fault,
             flush_fails: false,
         }
@@ -37,7 +38,7 @@ impl Write for Breaking {
             return Err(io::Error::from(ErrorKind::Other));
         }
         self.before_fault -= 1;
-        self.writes = self.writes.saturating_add(1);
+        self.starts.push(self.held.len())?;
         let n = self.size.min(buf.len());
         self.held.extend_from_slice(buf.split_at(n).0)?;
         Ok(n)
@@ -51,12 +52,12 @@ impl Write for Breaking {
     }
 }
 
-/// What a run answered, what it wrote, and by how many writes.
+/// What a run answered, what it wrote, and how much of that stood before each write.
 #[derive(Drop)]
 pub struct Ran {
     pub status: u8,
     pub output: Vec<u8>,
-    pub writes: u32,
+    pub starts: Vec<usize>,
 }
 
 impl Ran {
@@ -65,7 +66,7 @@ impl Ran {
         Ran {
             status,
             output: out.held,
-            writes: out.writes,
+            starts: out.starts,
         }
     }
 

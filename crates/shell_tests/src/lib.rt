@@ -1,7 +1,8 @@
 //! What the programs are to print, draw and race, and what they do where a stream fails: tests alone, over the public calls of the shell,
 //! of `drawing` and of `race`.
 //!
-//! Look first at `runs`, which runs text and compares what is printed. Expected text stands in the tests, not in what a program printed.
+//! Look first at `runs`, which runs text and compares what is printed. Expected text is written in the tests, not taken from what a program
+//! printed.
 //!
 //! Called by nobody, and apart from those crates, which would be proved twice with their tests.
 #![tactic(auto)]
@@ -19,11 +20,14 @@ mod choppy;
 #[cfg(test)]
 mod cursor_pages;
 #[cfg(test)]
+#[cfg(test)]
 mod drawn;
 #[cfg(test)]
 mod faults;
 #[cfg(test)]
 mod grown;
+#[cfg(test)]
+mod help;
 #[cfg(test)]
 mod interleaved;
 #[cfg(test)]
@@ -70,5 +74,7 @@ mod streams;
 mod swaps;
 #[cfg(test)]
 mod tidying;
+#[cfg(test)]
+mod watched;
 #[cfg(test)]
 mod words;

@@ -11,7 +11,7 @@ use std::process::Abort;
 pub enum Part<'a> {
     /// These lines, which print this.
     Adds(&'a str, &'a str),
-    /// The same so many times.
+    /// These lines so many times, which print this each time.
     Repeats(u32, &'a str, &'a str),
     /// Inserts of keys that are absent, from one number to another, each without a stop.
     Inserts(u32, u32),
@@ -21,7 +21,7 @@ pub enum Part<'a> {
     Turns(u32),
     /// These lines for each number from the first to the last, which print this.
     Each(u32, u32, &'a str, &'a str),
-    /// The same from the first of two numbers down to the other.
+    /// These lines for each number from the first of two down to the other, which print this.
     EachDown(u32, u32, &'a str, &'a str),
     /// A listing begins, with so many pairs: as many as a number of all digits.
     Lists(u32),

@@ -2,7 +2,7 @@
 
 use crate::race_runs::{add_parts, prints};
 use crate::words::limits_of;
-use bw_model::Limits;
+use bw_model::{BadLimits, Limits};
 use std::alloc::Global;
 use std::sync::Wait;
 use std::thread::Threads;
@@ -52,8 +52,12 @@ const ROWS: &[(&[u8], &[u8])] = &[
 ];
 
 // Whether all rows are printed with so many seats.
-fn are_printed<R: Threads + Wait + Sync>(rt: &R, alloc: Global, seats: u64) -> bool {
-    let Ok(limits) = Limits::new(seats, 64, 256, 1) else {
+fn are_printed<R: Threads + Wait + Sync>(
+    rt: &R,
+    alloc: Global,
+    limits: Result<Limits, BadLimits>,
+) -> bool {
+    let Ok(limits) = limits else {
         return false;
     };
     for (input, output) in ROWS {
@@ -67,8 +71,13 @@ fn are_printed<R: Threads + Wait + Sync>(rt: &R, alloc: Global, seats: u64) -> b
 // As many seats as jobs, fewer and more.
 #[test]
 fn rows_with_seats(rt: HostRuntime) {
-    for seats in [2, 1, 16] {
-        assert!(rt; are_printed(&rt, rt.alloc(), seats));
+    for limits in [
+        Limits::new(2, 64, 256, 1),
+        Limits::new(1, 64, 256, 1),
+        Limits::new(16, 64, 256, 1),
+        Limits::large(63, 64, 256, 1),
+    ] {
+        assert!(rt; are_printed(&rt, rt.alloc(), limits));
     }
 }
 

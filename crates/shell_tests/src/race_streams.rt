@@ -57,7 +57,7 @@ fn reads_fail<R: Threads + Wait + Sync>(rt: &R, alloc: Global, fault: ErrorKind)
 #[test]
 fn failed_reads(rt: HostRuntime) {
     for fault in [ErrorKind::Other, ErrorKind::Interrupted] {
-        assert!(rt; reads_fail(&rt, rt.alloc(), fault));
+        assert!(rt; reads_fail(&rt, rt.alloc(), fault), "{fault}");
     }
 }
 
@@ -80,7 +80,7 @@ fn prints_all<R: Threads + Wait + Sync>(rt: &R, alloc: Global, size: usize) -> b
 #[test]
 fn few_bytes_at_a_time(rt: HostRuntime) {
     for size in [1, 5, 7] {
-        assert!(rt; prints_all(&rt, rt.alloc(), size));
+        assert!(rt; prints_all(&rt, rt.alloc(), size), "{size} bytes at a time");
     }
 }
 

@@ -70,7 +70,7 @@ const SCRIPT: [&str; 9] = [
     "back k#\n",
 ];
 
-/// The same as operations of actor 0, from the begin to the end.
+/// Those commands as operations of actor 0, from the begin to the end.
 const WEAVE: [&str; 9] = [
     "begin 0 insert k# v#\nfinish 0\n",
     "begin 0 insert k# x\nfinish 0\n",
@@ -116,5 +116,6 @@ fn are_alike(alloc: Global, limits: Limits) -> bool {
 // Each command is what an operation of actor 0 is, from its begin to its end.
 #[test]
 fn scripts_are_finished_operations(rt: HostRuntime) {
-    assert!(rt; are_alike(rt.alloc(), limits(&rt)));
+    let alike = are_alike(rt.alloc(), limits(&rt));
+    assert!(rt; alike, "a script prints something else than its operations");
 }

@@ -41,15 +41,19 @@ fn is_told(alloc: Global, limits: Limits, zeros: u32, behind: &[u8], output: &[u
 fn long_lines(rt: HostRuntime) {
     let (alloc, limits) = (rt.alloc(), limits(&rt));
     let (turn, malformed) = (b"refused line 1: 6\n", b"refused line 1: 11\n");
-    let told = [b"".as_slice(), b"\nlist\n"].map(|behind| {
-        [
-            is_told(alloc, limits, 1016, behind, turn),
-            is_told(alloc, limits, 1017, behind, turn),
-            is_told(alloc, limits, 1018, behind, malformed),
-            is_told(alloc, limits, 5000, behind, malformed),
-        ]
-    });
-    assert!(rt; told == [[true; 4]; 2]);
+    for (zeros, output) in [
+        (1016, turn.as_slice()),
+        (1017, turn),
+        (1018, malformed),
+        (5000, malformed),
+    ] {
+        for behind in [b"".as_slice(), b"\nlist\n"] {
+            assert!(rt;
+                is_told(alloc, limits, zeros, behind, output),
+                "{zeros} zeros"
+            );
+        }
+    }
 }
 
 // About thirty lines, with empty ones, and without a last LF.
@@ -91,17 +95,25 @@ fn writes_fail(
     output: &[u8],
 ) -> bool {
     let all = run(alloc, language, limits, Choppy::sound(input, 7), 5, NEVER);
-    for n in 0..all.writes {
-        let woven = run(alloc, language, limits, Choppy::sound(input, 7), 5, n);
-        let written = (n as usize).saturating_mul(5).min(output.len());
+    for (n, start) in all.starts.iter().enumerate() {
+        let before_fault = u32::try_from(n).unwrap_or(NEVER);
+        let woven = run(
+            alloc,
+            language,
+            limits,
+            Choppy::sound(input, 7),
+            5,
+            before_fault,
+        );
+        let written = (*start).min(output.len());
         if !woven.is(output.split_at(written).0, 1) {
             return false;
         }
     }
-    all.writes > 2 && all.is(output, 0)
+    all.starts.len() > 2 && all.is(output, 0)
 }
 
-// Whether a flush that fails leaves all of the output.
+// Whether a run whose first flush fails, before the second piece of the input is read, leaves what the first piece prints.
 fn flush_fails(
     alloc: Global,
     limits: Limits,
@@ -111,17 +123,21 @@ fn flush_fails(
 ) -> bool {
     let mut out = Breaking::taking(alloc, 4096, NEVER);
     out.flush_fails = true;
-    run_into(alloc, language, limits, Choppy::sound(input, 7), out).is(output, 1)
+    let half = input.len() / 2;
+    let before = whole(alloc, language, limits, whole_lines(input, half));
+    let woven = run_into(alloc, language, limits, Choppy::sound(input, half), out);
+    woven.is(before.output.as_slice(), 1) && output.starts_with(woven.output.as_slice())
 }
 
 #[test]
 fn failed_writes(rt: HostRuntime) {
     let (alloc, limits) = (rt.alloc(), limits(&rt));
-    let fail = RUNS.map(|(language, input, output)| {
-        writes_fail(alloc, limits, language, input, output)
-            && flush_fails(alloc, limits, language, input, output)
-    });
-    assert!(rt; fail == [true; 4]);
+    for (number, (language, input, output)) in RUNS.iter().enumerate() {
+        let leaves = writes_fail(alloc, limits, *language, input, output);
+        assert!(rt; leaves, "run {number}, of which a write fails");
+        let leaves = flush_fails(alloc, limits, *language, input, output);
+        assert!(rt; leaves, "run {number}, of which the first flush fails");
+    }
 }
 
 // The whole lines among the first bytes of the input.
@@ -163,11 +179,14 @@ fn reads_fail(
 #[test]
 fn failed_reads(rt: HostRuntime) {
     let (alloc, limits) = (rt.alloc(), limits(&rt));
-    let fail = RUNS.map(|run| {
-        reads_fail(alloc, limits, run, ErrorKind::Other)
-            && reads_fail(alloc, limits, run, ErrorKind::Interrupted)
-    });
-    assert!(rt; fail == [true; 4]);
+    for (number, run) in RUNS.iter().enumerate() {
+        for fault in [ErrorKind::Other, ErrorKind::Interrupted] {
+            assert!(rt;
+                reads_fail(alloc, limits, *run, fault),
+                "run {number}, of which a read fails: {fault}"
+            );
+        }
+    }
 }
 
 // Whether this is printed, one byte a read and one a write.
@@ -198,31 +217,43 @@ fn is_ended(
 #[test]
 fn one_byte_at_a_time(rt: HostRuntime) {
     let (alloc, limits) = (rt.alloc(), limits(&rt));
-    let printed = RUNS.map(|(language, input, output)| {
-        is_printed(alloc, limits, language, input, output)
-            && is_ended(alloc, limits, language, input, output)
-    });
-    assert!(rt; printed == [true; 4]);
-}
-
-// Whether this is printed, by six writes at most, however many bytes come with each read.
-fn is_written(alloc: Global, limits: Limits, input: &[u8], output: &[u8]) -> bool {
-    for size in [1, 4096] {
-        let input = Choppy::sound(input, size);
-        let woven = run(alloc, Language::Weave, limits, input, 4096, NEVER);
-        if !woven.is(output, 0) || woven.writes > 6 {
-            return false;
-        }
+    for (number, (language, input, output)) in RUNS.iter().enumerate() {
+        let printed = is_printed(alloc, limits, *language, input, output);
+        assert!(rt; printed, "run {number}, as it is");
+        let printed = is_ended(alloc, limits, *language, input, output);
+        assert!(rt; printed, "run {number}, with a last LF");
     }
-    true
 }
 
-// Thousands of lines, read in one piece and byte by byte, and written in few pieces.
+// Whether this is printed, by so many writes at most, with so many bytes a read.
+fn is_written(
+    alloc: Global,
+    limits: Limits,
+    input: &[u8],
+    output: &[u8],
+    (size, most): (usize, usize),
+) -> bool {
+    let input = Choppy::sound(input, size);
+    let woven = run(alloc, Language::Weave, limits, input, 4096, NEVER);
+    woven.is(output, 0) && woven.starts.len() <= most
+}
+
+// Thousands of lines, read byte by byte, and written by one write for each reply; read in 18 pieces, and written by one write for each.
 #[test]
 fn many_lines(rt: HostRuntime) -> Result<(), Fail> {
     let last: &[u8] = b"begin 0 get a\n\nfinish 0\n";
     let lines = joined(rt.alloc(), &[(INPUT, 1), (b"\n", 1), (last, 3000)])?;
     let output = joined(rt.alloc(), &[(OUTPUT, 1), (b"0 none\n", 3000)])?;
-    assert!(rt; is_written(rt.alloc(), limits(&rt), lines.as_slice(), output.as_slice()));
+    for most in [(1, 3012), (4096, 18)] {
+        assert!(rt;
+            is_written(
+                rt.alloc(),
+                limits(&rt),
+                lines.as_slice(),
+                output.as_slice(),
+                most
+            )
+        );
+    }
     Ok(())
 }

@@ -3,19 +3,20 @@
 use bw_model::Limits;
 use shell_options::{OptionsError, Program, Settings, options};
 use std::alloc::{AllocError, Global};
+use std::process::Abort;
 
 /// What the words come to.
 #[derive(Clone, Copy, PartialEq, Eq)]
 enum Said {
     /// A program with its numbers: actors, PIDs, rows, epoch.
     Numbers(Program, [u64; 4]),
-    /// The same, for a large tree.
+    /// A program with its numbers, for a large tree.
     Large(Program, [u64; 4]),
-    /// The same, but one of the numbers isn't allowed.
+    /// A program with its numbers, one of which isn't allowed.
     BadLimits,
     /// They are refused.
     Refused,
-    /// Help.
+    /// Help, or the version.
     Help,
     Memory,
 }
@@ -34,7 +35,7 @@ fn said_by(settings: &Settings) -> Said {
 }
 
 /// The words of a line, behind the program's name.
-fn words(alloc: Global, line: &str) -> Result<Vec<String>, AllocError> {
+pub(crate) fn words(alloc: Global, line: &str) -> Result<Vec<String>, AllocError> {
     let mut words = Vec::new(alloc);
     words.push(String::from_str(alloc, "bwtree")?)?;
     for word in line.split(' ') {
@@ -72,14 +73,11 @@ fn says(alloc: Global, line: &str, wanted: Said) -> bool {
     }
 }
 
-/// Whether each of the lines comes to this.
-fn all_say(alloc: Global, lines: &[&str], wanted: Said) -> bool {
+/// Each of the lines is to come to this.
+fn all_say(rt: &impl Abort, alloc: Global, lines: &[&str], wanted: Said) {
     for line in lines {
-        if !says(alloc, line, wanted) {
-            return false;
-        }
+        assert!(rt; says(alloc, line, wanted), "{line}");
     }
-    true
 }
 
 /// Lines, and the numbers of their programs.
@@ -114,7 +112,7 @@ const NUMBERS: [(&str, Program, [u64; 4]); 11] = [
 ];
 
 /// Lines for large trees, and the numbers of their programs.
-const LARGE: [(&str, Program, [u64; 4]); 5] = [
+const LARGE: [(&str, Program, [u64; 4]); 7] = [
     ("weave --large", Program::Weave, [2, 64, 256, 1]),
     ("draw --large --pids 4160", Program::Draw, [2, 4160, 256, 1]),
     (
@@ -132,26 +130,32 @@ const LARGE: [(&str, Program, [u64; 4]); 5] = [
         Program::Race,
         [16, 4096, 64, 1],
     ),
+    (
+        "weave --actors 63 --large",
+        Program::Weave,
+        [63, 64, 256, 1],
+    ),
+    (
+        "race --large --seats 63",
+        Program::Race,
+        [63, 4096, 16384, 1],
+    ),
 ];
-
-/// Whether each line comes to its numbers.
-fn all_have_numbers(alloc: Global) -> bool {
-    for (line, program, numbers) in NUMBERS {
-        if !says(alloc, line, Said::Numbers(program, numbers)) {
-            return false;
-        }
-    }
-    for (line, program, numbers) in LARGE {
-        if !says(alloc, line, Said::Large(program, numbers)) {
-            return false;
-        }
-    }
-    true
-}
 
 #[test]
 fn numbers_of_options(rt: HostRuntime) {
-    assert!(rt; all_have_numbers(rt.alloc()));
+    for (line, program, numbers) in NUMBERS {
+        assert!(rt;
+            says(rt.alloc(), line, Said::Numbers(program, numbers)),
+            "{line}"
+        );
+    }
+    for (line, program, numbers) in LARGE {
+        assert!(rt;
+            says(rt.alloc(), line, Said::Large(program, numbers)),
+            "{line}"
+        );
+    }
 }
 
 /// Numbers that are none of 64 bits, words that are none, a flag with a value, and options that stand twice.
@@ -185,7 +189,7 @@ const REFUSED: [&str; 26] = [
 ];
 
 /// Numbers outside their ranges.
-const BAD_LIMITS: [&str; 24] = [
+const BAD_LIMITS: [&str; 27] = [
     "weave --actors 0",
     "weave --actors 17",
     "weave --actors 18446744073709551615",
@@ -209,19 +213,26 @@ const BAD_LIMITS: [&str; 24] = [
     "weave --large --rows 67108928",
     "draw --pids 4161 --large",
     "race --rows 0 --large",
-    "race --large --seats 17",
+    "weave --large --actors 64",
+    "draw --actors 0 --large",
+    "race --large --seats 64",
+    "race --seats 63",
 ];
 
-/// Words that ask for help.
-const HELP: [&str; 4] = ["--help", "help", "weave -h", "help script"];
+/// Words that ask for help or the version.
+const HELP: [&str; 6] = [
+    "--help",
+    "help",
+    "weave -h",
+    "help script",
+    "--version",
+    "-V",
+];
 
 #[test]
 fn refused_words(rt: HostRuntime) {
     let alloc = rt.alloc();
-    let right = [
-        all_say(alloc, &REFUSED, Said::Refused),
-        all_say(alloc, &BAD_LIMITS, Said::BadLimits),
-        all_say(alloc, &HELP, Said::Help),
-    ];
-    assert!(rt; right == [true; 3]);
+    all_say(&rt, alloc, &REFUSED, Said::Refused);
+    all_say(&rt, alloc, &BAD_LIMITS, Said::BadLimits);
+    all_say(&rt, alloc, &HELP, Said::Help);
 }

@@ -18,10 +18,10 @@ const CYCLES: u64 = 3;
 /// Numbers of seats and of keys that come and go: few keys, many, and the most for one seat.
 const SIZES: [(u64, u32); 5] = [(1, 1), (1, 440), (4, 3_000), (16, 1_000), (1, 12_199)];
 
-/// The same for keys that are updated: the most for one seat and for sixteen.
+/// Numbers of seats and of keys that are updated as well: the most for one seat and for sixteen.
 const UPDATED: [(u64, u32); 4] = [(1, 440), (4, 3_000), (1, 12_199), (16, 9_751)];
 
-/// The same for large trees, with the order in which the keys come and go; none where they are updated as well.
+/// Numbers of seats and of keys for large trees, with the order in which the keys come and go; none where they are updated as well.
 const LARGE: [(u64, u32, Option<Order>); 6] = [
     (4, 3_000, None),
     (16, 9_751, None),

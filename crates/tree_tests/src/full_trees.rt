@@ -54,7 +54,7 @@ fn filled_and_moved(alloc: Global, small: Limits, larger: Limits) -> Option<(u32
     Some((count, pairs.len()))
 }
 
-/// The same of a small tree and a larger one.
+/// How many keys a small tree takes, and how many a larger one that begins with these.
 fn small_and_larger(alloc: Global) -> Option<(u32, usize)> {
     let small = Limits::new(1, 64, 64, 1).ok()?;
     let larger = Limits::for_keys(1, u64::from(KEYS)).ok()?;
@@ -109,7 +109,7 @@ fn one_holds_back(tree: &Tree, seats: &mut Vec<BwSeat>) -> (u32, u32)
     (before, after)
 }
 
-/// The same in a small tree with two seats.
+/// How often it was done each time, in a small tree with two seats.
 fn held_back(alloc: Global) -> Option<(u32, u32)> {
     let limits = Limits::new(2, 64, 64, 1).ok()?;
     let (tree, mut seats) = opened(alloc, limits).ok()?;

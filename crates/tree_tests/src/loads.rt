@@ -32,7 +32,7 @@ fn load_both(
     [one, tree.load(seat, second).err()]
 }
 
-/// The same on the only seat of a tree of so many rows, with the pairs that the tree has then.
+/// Loads both lists on the only seat of a tree of so many rows: where they stop, and the pairs that the tree has then.
 fn loaded(
     alloc: Global,
     rows: u64,

@@ -48,9 +48,14 @@ fn limits_of_large_trees_are_proposed(rt: HostRuntime) {
         (1, 27_068_968, None),
         (16, 27_066_839, Some((4_194_304, 12_586_752))),
         (16, 27_066_840, None),
+        (17, 1_000, Some((576, 5_824))),
+        (63, 1_000, Some((1_600, 19_968))),
+        (63, 27_060_167, Some((4_194_304, 12_598_080))),
+        (63, 27_060_168, None),
         (0, 1, None),
-        (17, 1, None),
+        (64, 1, None),
         (1, u64::MAX, None),
+        (u64::MAX, u64::MAX, None),
     ] {
         assert!(rt;
             numbers(Limits::for_many_keys(actors, keys)) == limits,
@@ -92,6 +97,26 @@ fn limits_have_borders(rt: HostRuntime) {
 }
 
 #[test]
+fn actors_have_borders(rt: HostRuntime) {
+    for (actors, are) in [
+        (0, [false; 2]),
+        (1, [true; 2]),
+        (16, [true; 2]),
+        (17, [false, true]),
+        (63, [false, true]),
+        (64, [false; 2]),
+        (u64::MAX, [false; 2]),
+    ] {
+        let taken = [
+            Limits::new(actors, 64, 64, 1),
+            Limits::large(actors, 64, 64, 1),
+        ]
+        .map(|limits| numbers(limits) == Some((64, 64)));
+        assert!(rt; taken == are, "{actors}");
+    }
+}
+
+#[test]
 fn most_keys_have_limits(rt: HostRuntime) {
     for (actors, most) in [
         (0, None),
@@ -106,25 +131,21 @@ fn most_keys_have_limits(rt: HostRuntime) {
 }
 
 /// Whether the rows are enough for the longest chain of each PID, and for the spare rows of each seat.
-fn suffices(limits: &Limits) -> bool {
-    let chain = many_deltas(limits) as u64 + 1;
+fn suffices(limits: Limits) -> bool {
+    let chain = many_deltas(&limits) as u64 + 1;
     let spare = limits.actors.saturating_mul(MAX_SPARES as u64);
     limits.rows >= chain.saturating_mul(limits.pids).saturating_add(spare)
 }
 
-/// Whether they are for so many keys, in a tree of either kind for which limits are proposed.
+/// Whether they are for so many keys, in a tree of either kind that may have so many seats.
 fn all_suffice(actors: u64, keys: u64) -> bool {
-    [
-        Limits::for_keys(actors, keys),
-        Limits::for_many_keys(actors, keys),
-    ]
-    .iter()
-    .all(|limits| limits.as_ref().is_ok_and(suffices))
+    let large = Limits::for_many_keys(actors, keys).is_ok_and(suffices);
+    large && (actors > 16 || Limits::for_keys(actors, keys).is_ok_and(suffices))
 }
 
 #[test]
 fn rows_suffice_for_the_longest_chains(rt: HostRuntime) {
-    for actors in 1..=16u64 {
+    for actors in 1..=63u64 {
         for step in 0..100u64 {
             assert!(rt; all_suffice(actors, 96 * step), "{actors} {step}");
         }

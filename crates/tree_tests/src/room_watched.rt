@@ -69,7 +69,7 @@ fn filled(tree: &Tree, one: &mut BwSeat, other: &mut BwSeat) -> Option<[(u32, u3
     Some([opening, begun, full, tidied])
 }
 
-/// The same, once one seat has deleted the keys, as far as it wasn't refused, and both have tidied at each of them, twice.
+/// How many PIDs and rows are free once one seat has deleted the keys, as far as it wasn't refused, and both have tidied at each of them, twice.
 fn emptied(tree: &Tree, one: &mut BwSeat, other: &mut BwSeat) -> Option<(u32, u32)>
     requires own { IsSeatOf tree.now one.old }
     requires own_other { IsSeatOf tree.now other.old }

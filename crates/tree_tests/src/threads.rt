@@ -11,22 +11,27 @@ use std::alloc::Global;
 use std::thread::Threads;
 use workers::{Work, opened, work_in_threads};
 
-/// Inserts 1,000 keys from a number on, each followed by a lookup of it, and counts the replies that are right.
+/// Inserts so many keys from a number on, each followed by a lookup of it, and counts the replies that are right.
 #[derive(Drop)]
 struct Inserts {
     from: u32,
+    keys: u32,
     right: u32,
 }
 
 impl Inserts {
-    fn new(from: u32) -> Inserts {
-        Inserts { from, right: 0 }
+    fn new(from: u32, keys: u32) -> Inserts {
+        Inserts {
+            from,
+            keys,
+            right: 0,
+        }
     }
 }
 
 impl Work for Inserts {
     fn work(&mut self, tree: &Tree, seat: &mut BwSeat) {
-        for place in 0..1000u32 {
+        for place in 0..self.keys {
             let number = self.from.wrapping_add(place);
             if replies(tree, seat, insert(number), Reply::Inserted) {
                 self.right = self.right.saturating_add(1);
@@ -57,7 +62,7 @@ fn two_insert<R: Threads + Sync>(rt: &R, alloc: Global) -> bool {
     let Ok(limits) = Limits::new(2, 4096, 16384, 1) else {
         return false;
     };
-    let Ok(works) = vec![in alloc; Inserts::new(0), Inserts::new(1000)] else {
+    let Ok(works) = vec![in alloc; Inserts::new(0, 1000), Inserts::new(1000, 1000)] else {
         return false;
     };
     match done_at_once(rt, alloc, limits, works) {
@@ -71,6 +76,24 @@ fn two_insert<R: Threads + Sync>(rt: &R, alloc: Global) -> bool {
 #[test]
 fn two_threads_insert(rt: HostRuntime) {
     assert!(rt; two_insert(&rt, rt.alloc()));
+}
+
+/// Whether as many threads as a large tree takes insert 40 keys each.
+fn sixty_three_insert<R: Threads + Sync>(rt: &R, alloc: Global) -> Option<bool> {
+    let limits = Limits::for_many_keys(63, 63 * 40).ok()?;
+    let mut works = Vec::with_capacity(alloc, 63).ok()?;
+    for thread in 0..63u32 {
+        works.push(Inserts::new(thread * 40, 40)).ok()?;
+    }
+    let (works, pairs) = done_at_once(rt, alloc, limits, works)?;
+    let right = works.iter().all(|work| work.right == 80);
+    Some(right && are_numbers(pairs.as_slice(), 0, 63 * 40))
+}
+
+#[test]
+fn sixty_three_threads_insert(rt: HostRuntime) {
+    let inserted = sixty_three_insert(&rt, rt.alloc());
+    assert!(rt; inserted == Some(true), "{inserted:?}");
 }
 
 /// Whether the pairs have exactly what the client knows of its own keys.

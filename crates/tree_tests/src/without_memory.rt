@@ -198,7 +198,7 @@ fn wrong_and_wanted<R: Threads + Sync, A: Allocator + Send + Sync>(
     all.then_some((wrong(done.as_slice()), wanted))
 }
 
-/// The same on a new tree, which has its memory of this allocator.
+/// What `wrong_and_wanted` counts on a new tree, which has its memory of this allocator.
 fn counted<R: Threads + Sync, A: Allocator + Copy + Send + Sync>(
     rt: &R,
     alloc: Global,

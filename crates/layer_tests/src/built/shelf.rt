@@ -124,7 +124,7 @@ impl<'a> Shelf<'a> {
         self.tried(rt, page).expect(rt, "rows in order")
     }
 
-    /// The same; none where its records don't name the rows in which they stand.
+    /// The page of this shelf, as it was read; none where its records don't name the rows in which they stand.
     fn tried<R: Abort + AllocGlobal>(&self, rt: &R, page: &Held) -> Option<PageInHand<HeldRows<'a>>>
         requires { HasRowsOf self.now page.now }
         ensures { IfSome result (λ read. (chain_of read ≡ chain_of page.now) × IsReadPage (λ row content. found_in self.now row ≡ Some content) read) }

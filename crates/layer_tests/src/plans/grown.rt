@@ -100,7 +100,7 @@ pub(crate) fn with_terms<R: Abort + AllocGlobal>(
     }
 }
 
-/// The same, each in a base but the last one.
+/// The parent gets these terms, each in a base but the last one.
 pub(crate) fn with_each<R: Abort + AllocGlobal>(
     rt: &R,
     parent: &mut Held,

@@ -31,7 +31,7 @@ fn holds_at<R: Abort + AllocGlobal>(rt: &R, parent: &Held, page: &Held, place: u
     }
 }
 
-/// The same of such a page.
+/// What `holds_at` finds for a parent with sixteen terms, of which those at these places are held.
 fn holds<R: Abort + AllocGlobal>(rt: &R, places: &[u8], place: u8) -> Option<bool> {
     let page = leaf_of(rt, u32::from(place) + 10, at(place), 0);
     holds_at(rt, &sixteen(rt, places), &page, place)
