@@ -23,6 +23,7 @@ trap 'rm -rf "$folder"' EXIT
 # What calls malloc and free for the tree is an object of the toolchain's, which the archive takes along.
 archive=$(readlink -f -- "$archive")
 (cd "$folder" && ar x "$kit/c/liblibc_c.a" && ar x "$archive")
+$compiler -std=c99 -O2 -fPIC -Wall -Wextra -Werror -c -o "$folder/library.o" "$top/c/library.c"
 rm -f "$out/libbwtree.a"
 ar rcs "$out/libbwtree.a" "$folder"/*.o
 # The names have a version, so that a later library may have two of one name. The mark of the processor's level, x86-64-v2, is what glibc from 2.33 on

@@ -6,10 +6,15 @@
 #define BWTREE_HPP
 
 #include "bwtree.h"
+#include "bwtree_results.hpp"
+#include "bwtree_waits.h"
 #include "bwtree_walks.h"
 #include <atomic>
+#include <chrono>
+#include <cstddef>
 #include <cstdint>
 #include <cstring>
+#include <iterator>
 #include <memory>
 #include <optional>
 #include <stdexcept>
@@ -20,72 +25,17 @@
 
 namespace bw {
 
-// Why nothing was done: a status of bwtree.h from BWTREE_FULL on.
-class error : public std::runtime_error {
-public:
-    explicit error(uint32_t status) : std::runtime_error(bwtree_text(status)), status_(status) {}
-    uint32_t status() const noexcept { return status_; }
-
-private:
-    uint32_t status_;
-};
-
-// What a swap or a deletion by value found. It is true where the value was the expected one, and is the new one or none now; else `found` is the value that
-// the key has, if it has one.
-struct swapped {
-    bool done;
-    std::optional<std::string> found;
-    explicit operator bool() const noexcept { return done; }
-};
-
-// What an addition found. It is true where the number was added: to `old`, or to none where the key had no value. Else `found` is the key's value, which has
-// not eight bytes.
-struct added {
-    bool done;
-    std::optional<uint64_t> old;
-    std::optional<std::string> found;
-    explicit operator bool() const noexcept { return done; }
-};
-
-using pair = std::pair<std::string, std::string>;
-
-// The keys of a walk. Throws error(BWTREE_TOO_LONG) where a bound has more than 64 bytes.
-class range {
-public:
-    static range all() { return range(); }
-    static range from(std::string_view key) { return of(key, std::nullopt); }
-    static range below(std::string_view key) { return of({}, key); }
-    // The keys from one on, and below another one.
-    static range between(std::string_view from, std::string_view below) { return of(from, below); }
-    // The keys that begin with some bytes.
-    static range prefix(std::string_view bytes) {
-        range made;
-        if (uint32_t status = bwtree_prefix(bytes.data(), bytes.size(), &made.raw_)) throw error(status);
-        return made;
-    }
-
-private:
-    friend class seat;
-    range() = default;
-    static range of(std::string_view from, std::optional<std::string_view> below) {
-        range made;
-        const char *end = !below ? nullptr : below->empty() ? "" : below->data();
-        if (uint32_t status = bwtree_between(from.data(), from.size(), end, below ? below->size() : 0, &made.raw_)) throw error(status);
-        return made;
-    }
-    bwtree_range raw_ = {};
-};
-
 namespace detail {
 
 // The handle, which stays where it is; which of its seats are free, a bit each; how many keys it has; and what the closed tree has handed over, until it is
 // told.
 struct shared {
     ::bwtree handle = {};
-    std::atomic<uint32_t> free{0};
-    uint32_t all = 0;
+    std::atomic<uint64_t> free{0};
+    uint64_t all = 0;
     bwtree_count count = {};
     std::vector<bwtree_pair> left;
+    bwtree_limits limits = {};
     ~shared() { bwtree_close(&handle); }
 };
 
@@ -109,12 +59,13 @@ inline void must(uint32_t status) {
 // A seat of a tree, which it gets back when this goes.
 class seat {
 public:
-    seat(seat &&other) noexcept : shared_(std::move(other.shared_)), number_(other.number_) {}
+    seat(seat &&other) noexcept : shared_(std::move(other.shared_)), number_(other.number_), patience_(other.patience_) {}
     seat &operator=(seat &&other) noexcept {
         if (this != &other) {
             give_back();
             shared_ = std::move(other.shared_);
             number_ = other.number_;
+            patience_ = other.patience_;
         }
         return *this;
     }
@@ -122,57 +73,82 @@ public:
 
     uint32_t number() const noexcept { return number_; }
 
+    // How long a write waits while the tree is full, before it throws error(BWTREE_FULL): of a seat that was leased, not at all.
+    void set_patience(std::chrono::nanoseconds most) noexcept { patience_ = most; }
+    // What may become of a write that is full, as far as what is free tells: a hint, of which nothing is proved (bwtree_waits.h).
+    bwtree_full_hints full_hint() {
+        uint32_t hint = BWTREE_FULL_PASSED;
+        if (!shared_) throw error(BWTREE_NULL);
+        detail::must(bwtree_full_hint(handle(), number_, &shared_->limits, &hint));
+        return bwtree_full_hints(hint);
+    }
+
     // The value of a key.
-    std::optional<std::string> get(std::string_view key) {
+    [[nodiscard]] std::optional<std::string> get(std::string_view key) {
         bwtree_bytes value;
         return shown(done(bwtree_get(handle(), number_, key.data(), key.size(), &value), value), value, BWTREE_OK);
     }
-    // Gives a key a value where it has none: the value that it has, if it has one.
-    std::optional<std::string> insert(std::string_view key, std::string_view value) {
+    // The value of a key, in `into`, which the caller has: no memory is taken.
+    [[nodiscard]] std::optional<std::string_view> get(std::string_view key, bwtree_bytes &into) {
+        if (done(bwtree_get(handle(), number_, key.data(), key.size(), &into), into) != BWTREE_OK) return std::nullopt;
+        return detail::text(into);
+    }
+    // Whether a key has a value.
+    [[nodiscard]] bool contains(std::string_view key) {
+        bwtree_bytes value;
+        return get(key, value).has_value();
+    }
+    // Gives a key a value where it has none.
+    inserted insert(std::string_view key, std::string_view value) {
         bwtree_bytes old;
-        return shown(set(bwtree_insert(handle(), number_, key.data(), key.size(), value.data(), value.size(), &old), old), old, BWTREE_EXISTS);
+        uint32_t status = set(old, [&] { return bwtree_insert(handle(), number_, key.data(), key.size(), value.data(), value.size(), &old); });
+        return {status == BWTREE_OK, shown(status, old, BWTREE_EXISTS)};
     }
     // Gives a key a value: the one that it had before, if it had one.
     std::optional<std::string> upsert(std::string_view key, std::string_view value) {
         bwtree_bytes old;
-        return shown(set(bwtree_upsert(handle(), number_, key.data(), key.size(), value.data(), value.size(), &old), old), old, BWTREE_REPLACED);
+        auto call = [&] { return bwtree_upsert(handle(), number_, key.data(), key.size(), value.data(), value.size(), &old); };
+        return shown(set(old, call), old, BWTREE_REPLACED);
     }
     // Gives a key a value where it has one: the value that it had. It makes several calls, and takes effect atomically in the last one.
     std::optional<std::string> replace(std::string_view key, std::string_view value) {
         bwtree_bytes old;
-        return shown(done(bwtree_replace(handle(), number_, key.data(), key.size(), value.data(), value.size(), &old), old), old, BWTREE_REPLACED);
+        auto call = [&] { return bwtree_replace(handle(), number_, key.data(), key.size(), value.data(), value.size(), &old); };
+        return shown(written(old, call), old, BWTREE_REPLACED);
     }
     // Makes a key absent: the value that it had.
     std::optional<std::string> erase(std::string_view key) {
         bwtree_bytes old;
-        return shown(deleted(bwtree_delete(handle(), number_, key.data(), key.size(), &old), old), old, BWTREE_OK);
+        return shown(deleted(old, [&] { return bwtree_delete(handle(), number_, key.data(), key.size(), &old); }), old, BWTREE_OK);
     }
     // Makes a key absent where it has the expected value.
-    swapped erase_if(std::string_view key, std::string_view expected) {
+    compared erase_if(std::string_view key, std::string_view expected) {
         bwtree_bytes old;
-        return found(deleted(bwtree_delete_if(handle(), number_, key.data(), key.size(), expected.data(), expected.size(), &old), old), old);
+        auto call = [&] { return bwtree_delete_if(handle(), number_, key.data(), key.size(), expected.data(), expected.size(), &old); };
+        return found(deleted(old, call), old);
     }
     // Adds a number, modulo 2^64, to the one that a key's value of eight bytes is, the highest byte first; a key without a value gets the number.
     added add(std::string_view key, uint64_t number) {
         bwtree_bytes old;
         uint64_t was = 0;
         size_t at = 0;
-        uint32_t status = set(bwtree_add(handle(), number_, key.data(), key.size(), number, &old), old);
+        uint32_t status = set(old, [&] { return bwtree_add(handle(), number_, key.data(), key.size(), number, &old); });
         if (status == BWTREE_DIFFERS) return {false, std::nullopt, std::string(detail::text(old))};
         if (status == BWTREE_REPLACED && bwtree_read_u64(&old, &at, &was)) return {true, was, std::nullopt};
         return {true, std::nullopt, std::nullopt};
     }
     // Gives a key the value where it has the expected one.
-    swapped swap(std::string_view key, std::string_view expected, std::string_view value) {
+    compared compare_and_set(std::string_view key, std::string_view expected, std::string_view value) {
         bwtree_bytes old;
-        uint32_t status =
-            bwtree_swap(handle(), number_, key.data(), key.size(), expected.data(), expected.size(), value.data(), value.size(), &old);
-        return found(done(status, old), old);
+        auto call = [&] {
+            return bwtree_compare_and_set(handle(), number_, key.data(), key.size(), expected.data(), expected.size(), value.data(), value.size(), &old);
+        };
+        return found(written(old, call), old);
     }
     // Does what upkeep is due at the leaf of a key.
     void tidy(std::string_view key) {
         bwtree_bytes old;
-        done(bwtree_tidy(handle(), number_, key.data(), key.size()), old);
+        written(old, [&] { return bwtree_tidy(handle(), number_, key.data(), key.size()); });
     }
 
     // Calls each(key, value) for the pairs from a key on, keys ascending, until it answers false. Other threads may change the tree meanwhile: what
@@ -183,14 +159,18 @@ public:
     // The same backward, from the greatest key of a range down.
     template <class Each> void walk_back(const range &keys, Each each) { walked(keys, 1, each); }
 
+    // The pairs of a range for a loop, keys ascending, or from the greatest key down. The seat is used by the loop alone meanwhile.
+    [[nodiscard]] class pairs pairs(const range &keys = range::all());
+    [[nodiscard]] class pairs pairs_back(const range &keys = range::all());
+
     // The pair of the least key, of the greatest one, and of those next to a key: the greatest up to it and below it, the least from it on and above it.
     // The answer is atomic if the first page that is read has a pair; otherwise it is a walk's.
-    std::optional<pair> first() { return near_by(bwtree_ceiling, {}); }
-    std::optional<pair> last() { return near_by(bwtree_floor, std::string(BWTREE_MAX_LENGTH, '\377')); }
-    std::optional<pair> floor(std::string_view key) { return near_by(bwtree_floor, key); }
-    std::optional<pair> lower(std::string_view key) { return near_by(bwtree_lower, key); }
-    std::optional<pair> ceiling(std::string_view key) { return near_by(bwtree_ceiling, key); }
-    std::optional<pair> higher(std::string_view key) { return near_by(bwtree_higher, key); }
+    [[nodiscard]] std::optional<pair> first() { return near_by(bwtree_ceiling, {}); }
+    [[nodiscard]] std::optional<pair> last() { return near_by(bwtree_floor, std::string(BWTREE_MAX_LENGTH, '\377')); }
+    [[nodiscard]] std::optional<pair> floor(std::string_view key) { return near_by(bwtree_floor, key); }
+    [[nodiscard]] std::optional<pair> lower(std::string_view key) { return near_by(bwtree_lower, key); }
+    [[nodiscard]] std::optional<pair> ceiling(std::string_view key) { return near_by(bwtree_ceiling, key); }
+    [[nodiscard]] std::optional<pair> higher(std::string_view key) { return near_by(bwtree_higher, key); }
 
     // How many pages and records are free.
     bwtree_room free_room() {
@@ -201,11 +181,12 @@ public:
 
 private:
     friend class tree;
+    friend class pairs;
     seat(std::shared_ptr<detail::shared> shared, uint32_t number) : shared_(std::move(shared)), number_(number) {}
 
     const ::bwtree *handle() const noexcept { return shared_ ? &shared_->handle : nullptr; }
     void give_back() noexcept {
-        if (shared_) shared_->free.fetch_or(uint32_t(1) << number_);
+        if (shared_) shared_->free.fetch_or(uint64_t(1) << number_);
         shared_.reset();
     }
 
@@ -223,14 +204,28 @@ private:
         while (status == BWTREE_SPENT);
         return status;
     }
-    // What an operation that may set a key came to, and one that may delete it. It is counted.
-    uint32_t set(uint32_t status, bwtree_bytes &old) {
-        status = done(status, old);
+    // What a write came to. While it is FULL it is made again, until the seat's patience is at its end.
+    template <class Call> uint32_t written(bwtree_bytes &old, Call call) {
+        auto once = [&] {
+            uint32_t status = call();
+            return status == BWTREE_SPENT ? resumed(old, nullptr) : status;
+        };
+        uint32_t status = once();
+        if (status == BWTREE_FULL && patience_.count() > 0) {
+            bwtree_wait wait;
+            bwtree_wait_begin(&wait, uint64_t(patience_.count()));
+            while (status == BWTREE_FULL && bwtree_wait_again(&wait)) status = once();
+        }
+        return done(status, old);
+    }
+    // What a write that may set a key came to, and one that may delete it. It is counted.
+    template <class Call> uint32_t set(bwtree_bytes &old, Call call) {
+        uint32_t status = written(old, call);
         bwtree_count_set(&shared_->count, number_, status);
         return status;
     }
-    uint32_t deleted(uint32_t status, bwtree_bytes &old) {
-        status = done(status, old);
+    template <class Call> uint32_t deleted(bwtree_bytes &old, Call call) {
+        uint32_t status = written(old, call);
         bwtree_count_deleted(&shared_->count, number_, status);
         return status;
     }
@@ -240,7 +235,7 @@ private:
         return std::string(detail::text(old));
     }
     // What a call with an expected value found.
-    static swapped found(uint32_t status, const bwtree_bytes &old) { return {status == BWTREE_OK, shown(status, old, BWTREE_DIFFERS)}; }
+    static compared found(uint32_t status, const bwtree_bytes &old) { return {status == BWTREE_OK, shown(status, old, BWTREE_DIFFERS)}; }
 
     template <class Each> void walked(const range &keys, int backward, Each &each) {
         auto walk = std::make_unique<bwtree_walk>();
@@ -261,7 +256,54 @@ private:
 
     std::shared_ptr<detail::shared> shared_;
     uint32_t number_;
+    std::chrono::nanoseconds patience_{0};
 };
+
+// A walk for a loop: `for (auto [key, value] : seat.pairs())`. Keys and values last until the next step. Each step may throw as a walk does.
+class pairs {
+public:
+    class iterator {
+    public:
+        using iterator_category = std::input_iterator_tag;
+        using value_type = std::pair<std::string_view, std::string_view>;
+        using difference_type = std::ptrdiff_t;
+        using pointer = const value_type *;
+        using reference = value_type;
+        value_type operator*() const { return {detail::text(walk_->next_.key), detail::text(walk_->next_.value)}; }
+        iterator &operator++() {
+            if (!walk_->step()) walk_ = nullptr;
+            return *this;
+        }
+        void operator++(int) { ++*this; }
+        friend bool operator==(const iterator &one, const iterator &other) noexcept { return one.walk_ == other.walk_; }
+        friend bool operator!=(const iterator &one, const iterator &other) noexcept { return !(one == other); }
+
+    private:
+        friend class pairs;
+        explicit iterator(pairs *walk) : walk_(walk) {}
+        pairs *walk_;
+    };
+    iterator begin() { return iterator(step() ? this : nullptr); }
+    iterator end() noexcept { return iterator(nullptr); }
+
+private:
+    friend class seat;
+    pairs(class seat &seat, const range &keys, int backward) : seat_(seat), walk_(std::make_unique<bwtree_walk>()) {
+        detail::must(bwtree_walk_begin(walk_.get(), &keys.raw_, backward));
+    }
+    bool step() {
+        uint32_t status = bwtree_walk_next(seat_.handle(), seat_.number_, walk_.get(), &next_);
+        if (status == BWTREE_ABSENT) return false;
+        detail::must(status);
+        return true;
+    }
+    class seat &seat_;
+    std::unique_ptr<bwtree_walk> walk_;
+    bwtree_pair next_ = {};
+};
+
+inline class pairs seat::pairs(const range &keys) { return bw::pairs(*this, keys, 0); }
+inline class pairs seat::pairs_back(const range &keys) { return bw::pairs(*this, keys, 1); }
 
 class tree {
 public:
@@ -291,23 +333,24 @@ public:
     tree &operator=(tree &&) noexcept = default;
 
     // A seat, if one is free.
-    std::optional<seat> try_lease() {
+    [[nodiscard]] std::optional<seat> try_lease() {
         if (!shared_) throw error(BWTREE_CLOSED);
-        uint32_t free = shared_->free;
+        uint64_t free = shared_->free;
         while (free) {
-            uint32_t lowest = free & (~free + 1), number = 0;
+            uint64_t lowest = free & (~free + 1);
+            uint32_t number = 0;
             while (lowest >> number != 1) number++;
             if (shared_->free.compare_exchange_weak(free, free & ~lowest)) return seat(shared_, number);
         }
         return std::nullopt;
     }
     // A seat; throws error(BWTREE_BUSY) where none is free.
-    seat lease() {
+    [[nodiscard]] seat lease() {
         if (auto free = try_lease()) return std::move(*free);
         throw error(BWTREE_BUSY);
     }
     // How many keys the tree has: exact when no call is under way; otherwise it may lack some calls that are.
-    uint64_t size() const {
+    [[nodiscard]] uint64_t size() const {
         if (!shared_) throw error(BWTREE_CLOSED);
         return bwtree_counted(&shared_->count);
     }
@@ -318,7 +361,7 @@ public:
     }
     // Closes the tree, and hands its pairs over, keys ascending. Throws as close() does; error(BWTREE_NO_MEMORY), which leaves it open; and std::bad_alloc,
     // from which on the pairs wait for the next such call.
-    std::vector<pair> close_with_pairs() {
+    [[nodiscard]] std::vector<pair> close_with_pairs() {
         all_seats all(shared_);
         std::vector<bwtree_pair> &left = all.shared->left;
         if (left.empty()) {
@@ -347,7 +390,7 @@ private:
         std::shared_ptr<detail::shared> shared;
         explicit all_seats(std::shared_ptr<detail::shared> of) : shared(std::move(of)) {
             if (!shared) throw error(BWTREE_CLOSED);
-            uint32_t all = shared->all;
+            uint64_t all = shared->all;
             if (!shared->free.compare_exchange_strong(all, 0)) throw error(BWTREE_BUSY);
         }
         all_seats(const all_seats &) = delete;
@@ -355,7 +398,8 @@ private:
         ~all_seats() { shared->free.store(shared->all); }
     };
     void lend_all(const bwtree_limits &limits) {
-        shared_->all = uint32_t((uint64_t(1) << limits.actors) - 1);
+        shared_->limits = limits;
+        shared_->all = (uint64_t(1) << limits.actors) - 1;
         shared_->free = shared_->all;
     }
     std::shared_ptr<detail::shared> shared_;

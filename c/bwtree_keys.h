@@ -26,31 +26,31 @@ extern "C" {
 /* ---- Parts are put behind what the key has. OK, or TOO_LONG: the key is as it was. ---- */
 
 /* Puts bytes behind a key as they are, such as an end that needs no order. */
-static inline uint32_t bwtree_key_bytes(bwtree_bytes *key, const void *bytes, size_t length) {
+BWTREE_PRIVATE_ uint32_t bwtree_key_bytes(bwtree_bytes *key, const void *bytes, size_t length) {
     if (length > BWTREE_MAX_LENGTH - key->length) return BWTREE_TOO_LONG;
     if (length) memcpy(key->bytes + key->length, bytes, length);
     key->length += length;
     return BWTREE_OK;
 }
 
-static inline uint32_t bwtree_key_u64(bwtree_bytes *key, uint64_t number) {
+BWTREE_PRIVATE_ uint32_t bwtree_key_u64(bwtree_bytes *key, uint64_t number) {
     uint8_t bytes[8];
     for (int i = 0; i < 8; i++) bytes[i] = (uint8_t)(number >> (56 - 8 * i));
     return bwtree_key_bytes(key, bytes, 8);
 }
 
-static inline uint32_t bwtree_key_i64(bwtree_bytes *key, int64_t number) {
+BWTREE_PRIVATE_ uint32_t bwtree_key_i64(bwtree_bytes *key, int64_t number) {
     return bwtree_key_u64(key, (uint64_t)number ^ (uint64_t)1 << 63);
 }
 
-static inline uint32_t bwtree_key_f64(bwtree_bytes *key, double number) {
+BWTREE_PRIVATE_ uint32_t bwtree_key_f64(bwtree_bytes *key, double number) {
     uint64_t bits;
     memcpy(&bits, &number, 8);
     return bwtree_key_u64(key, bits >> 63 ? ~bits : bits ^ (uint64_t)1 << 63);
 }
 
 /* A text without its end: the keys whose text begins with these bytes begin with this one. */
-static inline uint32_t bwtree_key_text_start(bwtree_bytes *key, const void *text, size_t length) {
+BWTREE_PRIVATE_ uint32_t bwtree_key_text_start(bwtree_bytes *key, const void *text, size_t length) {
     bwtree_bytes longer = *key;
     const uint8_t *bytes = (const uint8_t *)text;
     for (size_t i = 0; i < length; i++)
@@ -59,7 +59,7 @@ static inline uint32_t bwtree_key_text_start(bwtree_bytes *key, const void *text
     return BWTREE_OK;
 }
 
-static inline uint32_t bwtree_key_text(bwtree_bytes *key, const void *text, size_t length) {
+BWTREE_PRIVATE_ uint32_t bwtree_key_text(bwtree_bytes *key, const void *text, size_t length) {
     bwtree_bytes longer = *key;
     if (bwtree_key_text_start(&longer, text, length) || bwtree_key_bytes(&longer, "\0", 2)) return BWTREE_TOO_LONG;
     *key = longer;
@@ -69,7 +69,7 @@ static inline uint32_t bwtree_key_text(bwtree_bytes *key, const void *text, size
 /* ---- Parts are read in the order in which they were put, from the place `at` on, which is set behind them. 1, or 0 where there is no such part: nothing
  * is written then. Also a value that bwtree_add made is read by bwtree_read_u64, from 0 on. ---- */
 
-static inline int bwtree_read_u64(const bwtree_bytes *key, size_t *at, uint64_t *number) {
+BWTREE_PRIVATE_ int bwtree_read_u64(const bwtree_bytes *key, size_t *at, uint64_t *number) {
     uint64_t read = 0;
     if (*at > key->length || key->length - *at < 8) return 0;
     for (int i = 0; i < 8; i++) read = read << 8 | key->bytes[*at + (size_t)i];
@@ -78,7 +78,7 @@ static inline int bwtree_read_u64(const bwtree_bytes *key, size_t *at, uint64_t 
     return 1;
 }
 
-static inline int bwtree_read_i64(const bwtree_bytes *key, size_t *at, int64_t *number) {
+BWTREE_PRIVATE_ int bwtree_read_i64(const bwtree_bytes *key, size_t *at, int64_t *number) {
     uint64_t read;
     if (!bwtree_read_u64(key, at, &read)) return 0;
     read ^= (uint64_t)1 << 63;
@@ -86,7 +86,7 @@ static inline int bwtree_read_i64(const bwtree_bytes *key, size_t *at, int64_t *
     return 1;
 }
 
-static inline int bwtree_read_f64(const bwtree_bytes *key, size_t *at, double *number) {
+BWTREE_PRIVATE_ int bwtree_read_f64(const bwtree_bytes *key, size_t *at, double *number) {
     uint64_t read;
     if (!bwtree_read_u64(key, at, &read)) return 0;
     read = read >> 63 ? read ^ (uint64_t)1 << 63 : ~read;
@@ -94,7 +94,7 @@ static inline int bwtree_read_f64(const bwtree_bytes *key, size_t *at, double *n
     return 1;
 }
 
-static inline int bwtree_read_text(const bwtree_bytes *key, size_t *at, bwtree_bytes *text) {
+BWTREE_PRIVATE_ int bwtree_read_text(const bwtree_bytes *key, size_t *at, bwtree_bytes *text) {
     bwtree_bytes read = {0, {0}};
     for (size_t i = *at; i < key->length; i++) {
         if (key->bytes[i]) {
@@ -117,7 +117,7 @@ static inline int bwtree_read_text(const bwtree_bytes *key, size_t *at, bwtree_b
 /* ---- The neighbours of a key among keys of at most 64 bytes. 1, or 0 where there is none: the key is as it was. ---- */
 
 /* The greatest key below: without a last 0; else with a last byte that is one less, and filled up with 255. */
-static inline int bwtree_key_before(bwtree_bytes *key) {
+BWTREE_PRIVATE_ int bwtree_key_before(bwtree_bytes *key) {
     if (!key->length) return 0;
     if (!key->bytes[key->length - 1]) {
         key->length--;
@@ -130,7 +130,7 @@ static inline int bwtree_key_before(bwtree_bytes *key) {
 }
 
 /* The least key that is above all that begin with this one: without its last bytes that are 255, and with a last byte that is one more. */
-static inline int bwtree_key_behind(bwtree_bytes *key) {
+BWTREE_PRIVATE_ int bwtree_key_behind(bwtree_bytes *key) {
     uint64_t length = key->length;
     while (length && key->bytes[length - 1] == 255) length--;
     if (!length) return 0;
@@ -140,7 +140,7 @@ static inline int bwtree_key_behind(bwtree_bytes *key) {
 }
 
 /* The least key above: with a 0 behind it, if there is room. */
-static inline int bwtree_key_after(bwtree_bytes *key) {
+BWTREE_PRIVATE_ int bwtree_key_after(bwtree_bytes *key) {
     return bwtree_key_bytes(key, "\0", 1) == BWTREE_OK || bwtree_key_behind(key);
 }
 

@@ -16,21 +16,21 @@ extern "C" {
 #endif
 
 /* What a call came to, once it is done. */
-static inline uint32_t bwtree_done_(const bwtree *tree, uint32_t seat, uint32_t status, bwtree_bytes *old) {
+BWTREE_PRIVATE_ uint32_t bwtree_done_(const bwtree *tree, uint32_t seat, uint32_t status, bwtree_bytes *old) {
     bwtree_page_pairs unused;
     while (status == BWTREE_SPENT) status = bwtree_resume(tree, seat, 1 << 16, old, &unused);
     return status;
 }
 
 /* A page from a key on, or backward, up to it. */
-static inline uint32_t bwtree_paged_(const bwtree *tree, uint32_t seat, const bwtree_bytes *at, int backward, bwtree_page_pairs *page) {
+BWTREE_PRIVATE_ uint32_t bwtree_paged_(const bwtree *tree, uint32_t seat, const bwtree_bytes *at, int backward, bwtree_page_pairs *page) {
     bwtree_bytes old, key = *at;
     uint32_t status = backward ? bwtree_back(tree, seat, key.bytes, key.length, page) : bwtree_page(tree, seat, key.bytes, key.length, page);
     while (status == BWTREE_SPENT) status = bwtree_resume(tree, seat, 1 << 16, &old, page);
     return status;
 }
 
-static inline int bwtree_compare_keys(const bwtree_bytes *one, const bwtree_bytes *other) {
+BWTREE_PRIVATE_ int bwtree_compare_keys(const bwtree_bytes *one, const bwtree_bytes *other) {
     size_t common = (size_t)(one->length < other->length ? one->length : other->length);
     int order = memcmp(one->bytes, other->bytes, common);
     return order ? order : one->length < other->length ? -1 : one->length > other->length;
@@ -46,7 +46,7 @@ typedef struct bwtree_range {
 } bwtree_range;
 
 /* The keys from one on, and below another one. Null is no bound. OK, TOO_LONG. */
-static inline uint32_t bwtree_between(const void *from, size_t from_length, const void *below, size_t below_length, bwtree_range *range) {
+BWTREE_PRIVATE_ uint32_t bwtree_between(const void *from, size_t from_length, const void *below, size_t below_length, bwtree_range *range) {
     bwtree_range set = {{0, {0}}, {0, {0}}, below != NULL};
     if (!range || (!from && from_length) || (!below && below_length)) return BWTREE_NULL;
     if (bwtree_key_bytes(&set.from, from, from_length) || bwtree_key_bytes(&set.below, below, below_length)) return BWTREE_TOO_LONG;
@@ -55,7 +55,7 @@ static inline uint32_t bwtree_between(const void *from, size_t from_length, cons
 }
 
 /* The keys that begin with some bytes. OK, TOO_LONG. */
-static inline uint32_t bwtree_prefix(const void *prefix, size_t length, bwtree_range *range) {
+BWTREE_PRIVATE_ uint32_t bwtree_prefix(const void *prefix, size_t length, bwtree_range *range) {
     uint32_t status = bwtree_between(prefix, length, NULL, 0, range);
     if (status != BWTREE_OK) return status;
     range->below = range->from;
@@ -74,7 +74,7 @@ typedef struct bwtree_walk {
 } bwtree_walk;
 
 /* Begins a walk over a range; backward, where that is 1: from its greatest key down. No call is made. OK. */
-static inline uint32_t bwtree_walk_begin(bwtree_walk *walk, const bwtree_range *range, int backward) {
+BWTREE_PRIVATE_ uint32_t bwtree_walk_begin(bwtree_walk *walk, const bwtree_range *range, int backward) {
     if (!walk || !range) return BWTREE_NULL;
     walk->range_ = *range;
     walk->page_.count = walk->shown_ = 0;
@@ -91,7 +91,7 @@ static inline uint32_t bwtree_walk_begin(bwtree_walk *walk, const bwtree_range *
 }
 
 /* The next pair of a walk. OK with `pair`; ABSENT at the end; what bwtree_page, or backward bwtree_back, answers else: the walk may go on then. */
-static inline uint32_t bwtree_walk_next(const bwtree *tree, uint32_t seat, bwtree_walk *walk, bwtree_pair *pair) {
+BWTREE_PRIVATE_ uint32_t bwtree_walk_next(const bwtree *tree, uint32_t seat, bwtree_walk *walk, bwtree_pair *pair) {
     const bwtree_pair *next;
     if (!walk || !pair) return BWTREE_NULL;
     while (walk->shown_ == walk->page_.count) {
@@ -115,7 +115,7 @@ static inline uint32_t bwtree_walk_next(const bwtree *tree, uint32_t seat, bwtre
 /* ---- Neighbours: OK with `pair`; ABSENT where there is none; else what bwtree_page or bwtree_back answers ---- */
 
 /* The pair of the least key from one on, or, backward, of the greatest key up to one. */
-static inline uint32_t bwtree_nearest_(const bwtree *tree, uint32_t seat, const bwtree_bytes *key, int backward, bwtree_pair *pair) {
+BWTREE_PRIVATE_ uint32_t bwtree_nearest_(const bwtree *tree, uint32_t seat, const bwtree_bytes *key, int backward, bwtree_pair *pair) {
     bwtree_page_pairs page;
     page.next = *key;
     do {
@@ -130,28 +130,28 @@ static inline uint32_t bwtree_nearest_(const bwtree *tree, uint32_t seat, const 
 }
 
 /* A key as the functions below have it: OK, NULL, TOO_LONG. */
-static inline uint32_t bwtree_near_(const bwtree *tree, const void *key, size_t length, const bwtree_pair *pair, bwtree_bytes *near_key) {
+BWTREE_PRIVATE_ uint32_t bwtree_near_(const bwtree *tree, const void *key, size_t length, const bwtree_pair *pair, bwtree_bytes *near_key) {
     near_key->length = 0;
     if (!tree || !pair || (!key && length)) return BWTREE_NULL;
     return bwtree_key_bytes(near_key, key, length);
 }
 
 /* The pair of the least key that isn't below a key. */
-static inline uint32_t bwtree_ceiling(const bwtree *tree, uint32_t seat, const void *key, size_t key_length, bwtree_pair *pair) {
+BWTREE_PRIVATE_ uint32_t bwtree_ceiling(const bwtree *tree, uint32_t seat, const void *key, size_t key_length, bwtree_pair *pair) {
     bwtree_bytes at;
     uint32_t status = bwtree_near_(tree, key, key_length, pair, &at);
     return status ? status : bwtree_nearest_(tree, seat, &at, 0, pair);
 }
 
 /* The pair of the greatest key that isn't above a key. */
-static inline uint32_t bwtree_floor(const bwtree *tree, uint32_t seat, const void *key, size_t key_length, bwtree_pair *pair) {
+BWTREE_PRIVATE_ uint32_t bwtree_floor(const bwtree *tree, uint32_t seat, const void *key, size_t key_length, bwtree_pair *pair) {
     bwtree_bytes at;
     uint32_t status = bwtree_near_(tree, key, key_length, pair, &at);
     return status ? status : bwtree_nearest_(tree, seat, &at, 1, pair);
 }
 
 /* The pair of the least key above a key. Where no key is above it, no call is made. */
-static inline uint32_t bwtree_higher(const bwtree *tree, uint32_t seat, const void *key, size_t key_length, bwtree_pair *pair) {
+BWTREE_PRIVATE_ uint32_t bwtree_higher(const bwtree *tree, uint32_t seat, const void *key, size_t key_length, bwtree_pair *pair) {
     bwtree_bytes at;
     uint32_t status = bwtree_near_(tree, key, key_length, pair, &at);
     if (status) return status;
@@ -159,7 +159,7 @@ static inline uint32_t bwtree_higher(const bwtree *tree, uint32_t seat, const vo
 }
 
 /* The pair of the greatest key below a key. Of the empty key no call is made. */
-static inline uint32_t bwtree_lower(const bwtree *tree, uint32_t seat, const void *key, size_t key_length, bwtree_pair *pair) {
+BWTREE_PRIVATE_ uint32_t bwtree_lower(const bwtree *tree, uint32_t seat, const void *key, size_t key_length, bwtree_pair *pair) {
     bwtree_bytes at;
     uint32_t status = bwtree_near_(tree, key, key_length, pair, &at);
     if (status) return status;
@@ -167,12 +167,12 @@ static inline uint32_t bwtree_lower(const bwtree *tree, uint32_t seat, const voi
 }
 
 /* The pair of the least key. */
-static inline uint32_t bwtree_first(const bwtree *tree, uint32_t seat, bwtree_pair *pair) {
+BWTREE_PRIVATE_ uint32_t bwtree_first(const bwtree *tree, uint32_t seat, bwtree_pair *pair) {
     return bwtree_ceiling(tree, seat, "", 0, pair);
 }
 
 /* The pair of the greatest key. */
-static inline uint32_t bwtree_last(const bwtree *tree, uint32_t seat, bwtree_pair *pair) {
+BWTREE_PRIVATE_ uint32_t bwtree_last(const bwtree *tree, uint32_t seat, bwtree_pair *pair) {
     uint8_t greatest[BWTREE_MAX_LENGTH];
     memset(greatest, 255, sizeof greatest);
     return bwtree_floor(tree, seat, greatest, sizeof greatest, pair);
@@ -180,9 +180,9 @@ static inline uint32_t bwtree_last(const bwtree *tree, uint32_t seat, bwtree_pai
 
 /* ---- Several calls ---- */
 
-/* Gives a key a value where it has one: by bwtree_get, and then bwtree_swap until one succeeds. It takes effect atomically, in its last call. TOO_LONG of the
- * value, before any call; REPLACED with `old`, ABSENT; else what these two answer. */
-static inline uint32_t bwtree_replace(const bwtree *tree, uint32_t seat, const void *key, size_t key_length, const void *value, size_t value_length,
+/* Gives a key a value where it has one: by bwtree_get, and then bwtree_compare_and_set until one succeeds. It takes effect atomically, in its last call.
+ * TOO_LONG of the value, before any call; REPLACED with `old`, ABSENT; else what these two answer. */
+BWTREE_PRIVATE_ uint32_t bwtree_replace(const bwtree *tree, uint32_t seat, const void *key, size_t key_length, const void *value, size_t value_length,
                                       bwtree_bytes *old) {
     bwtree_bytes expected, found;
     uint32_t status;
@@ -192,12 +192,30 @@ static inline uint32_t bwtree_replace(const bwtree *tree, uint32_t seat, const v
     if (status != BWTREE_OK) return status;
     do {
         expected = found;
-        status = bwtree_swap(tree, seat, key, key_length, expected.bytes, expected.length, value, value_length, &found);
+        status = bwtree_compare_and_set(tree, seat, key, key_length, expected.bytes, expected.length, value, value_length, &found);
         status = bwtree_done_(tree, seat, status, &found);
     } while (status == BWTREE_DIFFERS);
     if (status != BWTREE_OK) return status;
     *old = expected;
     return BWTREE_REPLACED;
+}
+
+/* Copies all pairs of a tree by a walk, keys ascending, `count` of them. Where a thread was ended inside a call, its seat is BUSY for good and the tree can't
+ * be closed: this moves its pairs to a new tree (bwtree_open_from), by another seat; the old one's memory stays. OK; NO_ROOM: `count`, and as many pairs as
+ * there is room for; else what bwtree_page answers. */
+BWTREE_PRIVATE_ uint32_t bwtree_copy_pairs(const bwtree *tree, uint32_t seat, bwtree_pair *pairs, size_t room, uint64_t *count) {
+    bwtree_page_pairs page;
+    uint64_t copied = 0;
+    if (!tree || !count || (!pairs && room)) return BWTREE_NULL;
+    page.next.length = 0;
+    do {
+        uint32_t status = bwtree_paged_(tree, seat, &page.next, 0, &page);
+        if (status != BWTREE_OK) return status;
+        for (uint64_t i = 0; i < page.count; i++, copied++)
+            if (copied < room) pairs[copied] = page.pairs[i];
+    } while (page.more);
+    *count = copied;
+    return copied > room ? (uint32_t)BWTREE_NO_ROOM : (uint32_t)BWTREE_OK;
 }
 
 /* A count of a tree's keys, which its seats keep, each in a cache line of its own. All bytes zero: 0, as for an empty tree. The thread that uses a seat passes
@@ -210,23 +228,23 @@ typedef struct bwtree_count {
 } bwtree_count;
 
 /* Counts so many more keys of a seat, as those that a tree is opened with. */
-static inline void bwtree_count_more(bwtree_count *count, uint32_t seat, int64_t more) {
+BWTREE_PRIVATE_ void bwtree_count_more(bwtree_count *count, uint32_t seat, int64_t more) {
     int64_t *keys = &count->seats_[seat % BWTREE_MAX_SEATS].keys;
     __atomic_store_n(keys, __atomic_load_n(keys, __ATOMIC_RELAXED) + more, __ATOMIC_RELAXED);
 }
 
 /* Counts an insert, an upsert or an add that answered this. */
-static inline void bwtree_count_set(bwtree_count *count, uint32_t seat, uint32_t status) {
+BWTREE_PRIVATE_ void bwtree_count_set(bwtree_count *count, uint32_t seat, uint32_t status) {
     if (status == BWTREE_OK) bwtree_count_more(count, seat, 1);
 }
 
 /* Counts a delete or a delete_if that answered this. */
-static inline void bwtree_count_deleted(bwtree_count *count, uint32_t seat, uint32_t status) {
+BWTREE_PRIVATE_ void bwtree_count_deleted(bwtree_count *count, uint32_t seat, uint32_t status) {
     if (status == BWTREE_OK) bwtree_count_more(count, seat, -1);
 }
 
 /* The sum over all seats, or 0 if operations under way make it negative. */
-static inline uint64_t bwtree_counted(const bwtree_count *count) {
+BWTREE_PRIVATE_ uint64_t bwtree_counted(const bwtree_count *count) {
     int64_t sum = 0;
     for (int seat = 0; seat < BWTREE_MAX_SEATS; seat++) sum += __atomic_load_n(&count->seats_[seat].keys, __ATOMIC_RELAXED);
     return sum < 0 ? 0 : (uint64_t)sum;

@@ -1,7 +1,7 @@
 // Package bwtree is an ordered map from byte strings to byte strings, in memory, for many goroutines, without locks: libbwtree by cgo.
 //
-// A Tree is shared by goroutines, and lends its seats, 1 to 16 of them. A Seat is where calls are made, by one goroutine at a time. Keys and values
-// have at most 64 bytes.
+// A Tree is shared by goroutines, and lends its seats, 1 to 16 of them, a large one 1 to 63. A Seat is where calls are made, by one goroutine
+// at a time. Keys and values have at most 64 bytes.
 //
 // The tree is linearizable (Herlihy and Wing), proved over all states of the tree: all calls form one sequential history of an ordered map, in which a
 // call that has returned precedes a call that begins afterwards, whatever goroutines and seats make the two. In a program's own proof, order between two
@@ -17,6 +17,7 @@ import "C"
 import (
 	"runtime"
 	"sync/atomic"
+	"time"
 	"unsafe"
 )
 
@@ -30,14 +31,17 @@ const steps = 1 << 16
 type Error uint32
 
 const (
-	Full      Error = C.BWTREE_FULL       // nothing was free for a change, and no key was changed
-	Closed    Error = C.BWTREE_CLOSED     // the tree is closed
-	Busy      Error = C.BWTREE_BUSY       // a seat is lent, or another call is inside it
-	TooLong   Error = C.BWTREE_TOO_LONG   // a key or a value has more than 64 bytes
-	BadLimits Error = C.BWTREE_BAD_LIMITS // a limit is outside its range
-	NoMemory  Error = C.BWTREE_NO_MEMORY  // malloc refused
-	BadOrder  Error = C.BWTREE_BAD_ORDER  // the keys of pairs don't ascend
-	Differs   Error = C.BWTREE_DIFFERS    // a value that a number was to be added to has not eight bytes
+	ErrFull      Error = C.BWTREE_FULL       // nothing was free for a change, and no key was changed
+	ErrClosed    Error = C.BWTREE_CLOSED     // the tree is closed
+	ErrBusy      Error = C.BWTREE_BUSY       // a seat is lent, or another call is inside it
+	ErrTooLong   Error = C.BWTREE_TOO_LONG   // a key or a value has more than 64 bytes
+	ErrBadLimits Error = C.BWTREE_BAD_LIMITS // a limit is outside its range
+	ErrNoMemory  Error = C.BWTREE_NO_MEMORY  // malloc refused
+	ErrBadOrder  Error = C.BWTREE_BAD_ORDER  // the keys of pairs don't ascend
+	ErrDiffers   Error = C.BWTREE_DIFFERS    // a value that a number was to be added to has not eight bytes
+
+	// the library that runs is of a version that doesn't go with that of bwtree.h, with which this package was built
+	ErrBadVersion Error = C.BWTREE_BAD_VERSION
 )
 
 func (e Error) Error() string {
@@ -54,15 +58,24 @@ func settled(status C.uint32_t) error {
 
 // Limits say how large a tree is.
 type Limits struct {
-	Actors uint64 // seats: 1 to 16
-	Pids   uint64 // pages: 64 to 4,096, of a large tree to 4,194,304, a multiple of 64
-	Rows   uint64 // records, of 4,096 bytes each: 64 to 16,384, of a large tree to 67,108,864, a multiple of 64
-	Large  bool   // whether it is a large tree, whose pages take fewer records
+	Actors  uint64 // seats: 1 to 16, of a large tree to 63
+	Pages   uint64 // pages: 64 to 4,096, of a large tree to 4,194,304, a multiple of 64
+	Records uint64 // records, of 4,096 bytes each: 64 to 16,384, of a large tree to 67,108,864, a multiple of 64
+	Large   bool   // whether it is a large tree, whose pages take fewer records
 }
 
 // shown are the limits that C shows.
 func shown(limits C.bwtree_limits) Limits {
-	return Limits{uint64(limits.actors), uint64(limits.pids), uint64(limits.rows), limits.large == 1}
+	return Limits{uint64(limits.actors), uint64(limits.pages), uint64(limits.records), limits.large == 1}
+}
+
+// raw are the limits as C has them.
+func (limits Limits) raw() C.bwtree_limits {
+	raw := C.bwtree_limits{actors: C.uint64_t(limits.Actors), pages: C.uint64_t(limits.Pages), records: C.uint64_t(limits.Records), epoch: 1}
+	if limits.Large {
+		raw.large = 1
+	}
+	return raw
 }
 
 // LimitsForKeys are for so many seats and so many different keys, all counted that the tree ever has.
@@ -85,7 +98,7 @@ func LimitsForManyKeys(seats, keys uint64) (Limits, error) {
 
 // Room says how many pages and records are free.
 type Room struct {
-	FreePids, FreeRows uint64
+	FreePages, FreeRecords uint64
 }
 
 // Pair is a key and its value.
@@ -97,6 +110,7 @@ type Pair struct {
 type Tree struct {
 	// the handle lies in C's memory, where it stays
 	handle *C.bwtree
+	limits Limits
 	// the numbers of the seats that are free
 	free chan uint32
 	// how many more keys each seat has set than deleted
@@ -113,7 +127,7 @@ type count struct {
 func given(text []byte) (C.bwtree_bytes, error) {
 	raw := C.bwtree_bytes{length: C.uint64_t(len(text))}
 	if len(text) > MaxLength {
-		return raw, TooLong
+		return raw, ErrTooLong
 	}
 	for i, b := range text {
 		raw.bytes[i] = C.uint8_t(b)
@@ -126,7 +140,7 @@ func Open(limits Limits) (*Tree, error) {
 	return OpenFrom(limits, nil)
 }
 
-// OpenFrom opens a tree with these pairs, whose keys ascend. It answers Full where they don't all fit.
+// OpenFrom opens a tree with these pairs, whose keys ascend. It answers ErrFull where they don't all fit.
 func OpenFrom(limits Limits, pairs []Pair) (*Tree, error) {
 	all := make([]C.bwtree_pair, len(pairs))
 	for i, pair := range pairs {
@@ -140,12 +154,9 @@ func OpenFrom(limits Limits, pairs []Pair) (*Tree, error) {
 	}
 	handle := (*C.bwtree)(C.calloc(1, C.sizeof_bwtree))
 	if handle == nil {
-		return nil, NoMemory
+		return nil, ErrNoMemory
 	}
-	raw := C.bwtree_limits{actors: C.uint64_t(limits.Actors), pids: C.uint64_t(limits.Pids), rows: C.uint64_t(limits.Rows), epoch: 1}
-	if limits.Large {
-		raw.large = 1
-	}
+	raw := limits.raw()
 	var first *C.bwtree_pair
 	if len(all) > 0 {
 		first = &all[0]
@@ -158,7 +169,7 @@ func OpenFrom(limits Limits, pairs []Pair) (*Tree, error) {
 		C.free(unsafe.Pointer(handle))
 		return nil, err
 	}
-	tree := &Tree{handle: handle, free: make(chan uint32, limits.Actors)}
+	tree := &Tree{handle: handle, limits: limits, free: make(chan uint32, limits.Actors)}
 	tree.counts[0].keys.Store(int64(len(all)))
 	for number := uint32(0); number < uint32(limits.Actors); number++ {
 		tree.free <- number
@@ -170,7 +181,7 @@ func OpenFrom(limits Limits, pairs []Pair) (*Tree, error) {
 	return tree, nil
 }
 
-// withAllSeats runs close while all seats are taken. It answers Busy where one is lent.
+// withAllSeats runs close while all seats are taken. It answers ErrBusy where one is lent.
 func (tree *Tree) withAllSeats(close func() error) error {
 	var taken []uint32
 	defer func() {
@@ -183,7 +194,7 @@ func (tree *Tree) withAllSeats(close func() error) error {
 		case number := <-tree.free:
 			taken = append(taken, number)
 		default:
-			return Busy
+			return ErrBusy
 		}
 	}
 	err := close()
@@ -203,7 +214,7 @@ func (tree *Tree) Len() int {
 	return int(sum)
 }
 
-// Close closes the tree and frees it. It answers Busy where a seat is lent, and Closed where the tree is closed.
+// Close closes the tree and frees it. It answers ErrBusy where a seat is lent, and ErrClosed where the tree is closed.
 func (tree *Tree) Close() error {
 	return tree.withAllSeats(func() error {
 		return settled(C.bwtree_close(tree.handle))
@@ -265,9 +276,25 @@ type Seat struct {
 	number uint32
 	// whether the number was given back, by the seat or a copy of it
 	released *atomic.Bool
+	// how long a write waits while the tree is full
+	patience time.Duration
+	// what the library writes, here so that no call allocates it
+	old  C.bwtree_bytes
+	page *C.bwtree_page_pairs
 }
 
-// Release gives the seat back to its tree. Other calls on it panic from then on; a second Release does nothing.
+// closed is a handle that was never opened: each call on it answers that the tree is closed.
+var closed = (*C.bwtree)(C.calloc(1, C.sizeof_bwtree))
+
+// handle is the tree's, or a closed one, once the seat was given back.
+func (seat *Seat) handle() *C.bwtree {
+	if seat.tree == nil {
+		return closed
+	}
+	return seat.tree.handle
+}
+
+// Release gives the seat back to its tree. Other calls on it answer ErrClosed from then on; a second Release does nothing.
 func (seat *Seat) Release() {
 	if tree := seat.tree; tree != nil {
 		seat.tree = nil
@@ -290,98 +317,117 @@ func some(bytes []byte) []byte {
 
 // taken is a copy of the bytes that the library wrote.
 func taken(bytes *C.bwtree_bytes) []byte {
-	return C.GoBytes(unsafe.Pointer(&bytes.bytes[0]), C.int(bytes.length))
+	text := make([]byte, bytes.length)
+	copy(text, (*[MaxLength]byte)(unsafe.Pointer(&bytes.bytes[0]))[:])
+	return text
 }
 
 // done resumes an operation until it is done, and says what it came to.
-func (seat *Seat) done(status C.uint32_t, old *C.bwtree_bytes) (C.uint32_t, error) {
+func (seat *Seat) done(status C.uint32_t) (C.uint32_t, error) {
 	for status == C.BWTREE_SPENT {
 		var page C.bwtree_page_pairs
-		status = C.bwtree_resume(seat.tree.handle, C.uint32_t(seat.number), steps, old, &page)
+		status = C.bwtree_resume(seat.handle(), C.uint32_t(seat.number), steps, &seat.old, &page)
 	}
 	runtime.KeepAlive(seat)
 	return status, settled(status)
 }
 
 // counted is what an operation came to that changes the number of keys by this where it is OK.
-func (seat *Seat) counted(status C.uint32_t, old *C.bwtree_bytes, more int64) (C.uint32_t, error) {
-	status, err := seat.done(status, old)
+func (seat *Seat) counted(status C.uint32_t, more int64) (C.uint32_t, error) {
+	status, err := seat.done(status)
 	if status == C.BWTREE_OK {
 		seat.tree.counts[seat.number].keys.Add(more)
 	}
 	return status, err
 }
 
-// shown is the value that goes with one of the statuses, of an operation that changes the number of keys by this where it is OK.
-func (seat *Seat) shown(status C.uint32_t, old *C.bwtree_bytes, more int64, withValue C.uint32_t) ([]byte, bool, error) {
-	status, err := seat.counted(status, old, more)
+// shown is the value that goes with one of the statuses.
+func (seat *Seat) shown(status C.uint32_t, err error, withValue C.uint32_t) ([]byte, bool, error) {
 	if err != nil || status != withValue {
 		return nil, false, err
 	}
-	return taken(old), true, nil
+	return taken(&seat.old), true, nil
 }
 
-// Get is the value of a key, and whether it has one.
-func (seat *Seat) Get(key []byte) ([]byte, bool, error) {
-	var value C.bwtree_bytes
-	k := some(key)
-	status := C.bwtree_get(seat.tree.handle, C.uint32_t(seat.number), unsafe.Pointer(&k[0]), C.size_t(len(key)), &value)
-	return seat.shown(status, &value, 0, C.BWTREE_OK)
-}
-
-// Insert gives a key a value where it has none; else it answers the value that the key has, and true.
-func (seat *Seat) Insert(key, value []byte) ([]byte, bool, error) {
-	var old C.bwtree_bytes
-	k := some(key)
-	v := some(value)
-	status := C.bwtree_insert(seat.tree.handle, C.uint32_t(seat.number), unsafe.Pointer(&k[0]), C.size_t(len(key)), unsafe.Pointer(&v[0]), C.size_t(len(value)), &old)
-	return seat.shown(status, &old, 1, C.BWTREE_EXISTS)
-}
-
-// Upsert gives a key a value. It answers the value that the key had before, and whether it had one.
-func (seat *Seat) Upsert(key, value []byte) ([]byte, bool, error) {
-	var old C.bwtree_bytes
-	k := some(key)
-	v := some(value)
-	status := C.bwtree_upsert(seat.tree.handle, C.uint32_t(seat.number), unsafe.Pointer(&k[0]), C.size_t(len(key)), unsafe.Pointer(&v[0]), C.size_t(len(value)), &old)
-	return seat.shown(status, &old, 1, C.BWTREE_REPLACED)
-}
-
-// Delete makes a key absent. It answers the value that the key had, and whether it had one.
-func (seat *Seat) Delete(key []byte) ([]byte, bool, error) {
-	var old C.bwtree_bytes
-	k := some(key)
-	status := C.bwtree_delete(seat.tree.handle, C.uint32_t(seat.number), unsafe.Pointer(&k[0]), C.size_t(len(key)), &old)
-	return seat.shown(status, &old, -1, C.BWTREE_OK)
-}
-
-// Swap gives a key the value where it has the expected one, and says whether it had; else found is the value that the key has, nil where it has none.
-func (seat *Seat) Swap(key, expected, value []byte) (swapped bool, found []byte, err error) {
-	var old C.bwtree_bytes
-	k := some(key)
-	e := some(expected)
-	v := some(value)
-	status := C.bwtree_swap(seat.tree.handle, C.uint32_t(seat.number), unsafe.Pointer(&k[0]), C.size_t(len(key)),
-		unsafe.Pointer(&e[0]), C.size_t(len(expected)), unsafe.Pointer(&v[0]), C.size_t(len(value)), &old)
-	status, err = seat.done(status, &old)
-	if err == nil && status == C.BWTREE_DIFFERS {
-		found = taken(&old)
-	}
+// compared is what a call with an expected value came to.
+func (seat *Seat) compared(status C.uint32_t, err error) (done bool, found []byte, _ error) {
+	found, _, err = seat.shown(status, err, C.BWTREE_DIFFERS)
 	return err == nil && status == C.BWTREE_OK, found, err
 }
 
-// Tidy does what upkeep is due at the leaf of a key; no value changes.
-func (seat *Seat) Tidy(key []byte) error {
-	var old C.bwtree_bytes
+// Get is the value of a key, and whether it has one. It answers ErrTooLong, or ErrClosed.
+func (seat *Seat) Get(key []byte) ([]byte, bool, error) {
 	k := some(key)
-	_, err := seat.done(C.bwtree_tidy(seat.tree.handle, C.uint32_t(seat.number), unsafe.Pointer(&k[0]), C.size_t(len(key))), &old)
+	status, err := seat.done(C.bwtree_get(seat.handle(), C.uint32_t(seat.number), unsafe.Pointer(&k[0]), C.size_t(len(key)), &seat.old))
+	return seat.shown(status, err, C.BWTREE_OK)
+}
+
+// Contains says whether a key has a value. It answers what Get does.
+func (seat *Seat) Contains(key []byte) (bool, error) {
+	k := some(key)
+	status, err := seat.done(C.bwtree_get(seat.handle(), C.uint32_t(seat.number), unsafe.Pointer(&k[0]), C.size_t(len(key)), &seat.old))
+	return err == nil && status == C.BWTREE_OK, err
+}
+
+// Insert gives a key a value where it has none, and says whether it did; else found is the value that the key has. As each write it answers ErrFull,
+// ErrTooLong or ErrClosed.
+func (seat *Seat) Insert(key, value []byte) (inserted bool, found []byte, err error) {
+	var status C.uint32_t
+	k, v := some(key), some(value)
+	for wait := (wait{}); wait.again(seat, err); {
+		status, err = seat.counted(C.bwtree_insert(seat.handle(), C.uint32_t(seat.number), unsafe.Pointer(&k[0]), C.size_t(len(key)),
+			unsafe.Pointer(&v[0]), C.size_t(len(value)), &seat.old), 1)
+	}
+	found, _, err = seat.shown(status, err, C.BWTREE_EXISTS)
+	return err == nil && status == C.BWTREE_OK, found, err
+}
+
+// Upsert gives a key a value. It answers the value that the key had before, and whether it had one.
+func (seat *Seat) Upsert(key, value []byte) (old []byte, found bool, err error) {
+	var status C.uint32_t
+	k, v := some(key), some(value)
+	for wait := (wait{}); wait.again(seat, err); {
+		status, err = seat.counted(C.bwtree_upsert(seat.handle(), C.uint32_t(seat.number), unsafe.Pointer(&k[0]), C.size_t(len(key)),
+			unsafe.Pointer(&v[0]), C.size_t(len(value)), &seat.old), 1)
+	}
+	return seat.shown(status, err, C.BWTREE_REPLACED)
+}
+
+// Delete makes a key absent. It answers the value that the key had, and whether it had one.
+func (seat *Seat) Delete(key []byte) (old []byte, found bool, err error) {
+	var status C.uint32_t
+	k := some(key)
+	for wait := (wait{}); wait.again(seat, err); {
+		status, err = seat.counted(C.bwtree_delete(seat.handle(), C.uint32_t(seat.number), unsafe.Pointer(&k[0]), C.size_t(len(key)), &seat.old), -1)
+	}
+	return seat.shown(status, err, C.BWTREE_OK)
+}
+
+// CompareAndSwap gives a key the value where it has the expected one, and says whether it had; else found is the value that the key has, nil where it has
+// none.
+func (seat *Seat) CompareAndSwap(key, expected, value []byte) (swapped bool, found []byte, err error) {
+	var status C.uint32_t
+	k, e, v := some(key), some(expected), some(value)
+	for wait := (wait{}); wait.again(seat, err); {
+		status, err = seat.done(C.bwtree_compare_and_set(seat.handle(), C.uint32_t(seat.number), unsafe.Pointer(&k[0]), C.size_t(len(key)),
+			unsafe.Pointer(&e[0]), C.size_t(len(expected)), unsafe.Pointer(&v[0]), C.size_t(len(value)), &seat.old))
+	}
+	return seat.compared(status, err)
+}
+
+// Tidy does what upkeep is due at the leaf of a key; no value changes.
+func (seat *Seat) Tidy(key []byte) (err error) {
+	k := some(key)
+	for wait := (wait{}); wait.again(seat, err); {
+		_, err = seat.done(C.bwtree_tidy(seat.handle(), C.uint32_t(seat.number), unsafe.Pointer(&k[0]), C.size_t(len(key))))
+	}
 	return err
 }
 
-// Room says how many pages and records are free.
+// Room says how many pages and records are free. It answers ErrClosed where the tree is closed.
 func (seat *Seat) Room() (Room, error) {
 	var room C.bwtree_room
-	err := settled(C.bwtree_free_room(seat.tree.handle, C.uint32_t(seat.number), &room))
+	err := settled(C.bwtree_free_room(seat.handle(), C.uint32_t(seat.number), &room))
 	runtime.KeepAlive(seat)
-	return Room{uint64(room.free_pids), uint64(room.free_rows)}, err
+	return Room{uint64(room.free_pages), uint64(room.free_records)}, err
 }

@@ -40,52 +40,83 @@ func TestAnswers(t *testing.T) {
 		return func(got []byte, found bool, err error) { t.Helper(); is(t, wanted, got, found, err) }
 	}
 	answer(nil)(seat.Get(a))
-	answer(nil)(seat.Insert(a, x))
-	answer(x)(other.Insert(a, y))
+	if inserted, found, err := seat.Insert(a, x); !inserted || found != nil || err != nil {
+		t.Fatal(inserted, found, err)
+	}
+	if inserted, found, err := other.Insert(a, y); inserted || !bytes.Equal(found, x) || err != nil {
+		t.Fatal(inserted, found, err)
+	}
 	answer(x)(seat.Upsert(a, y))
 	answer(nil)(seat.Upsert(nil, nil))
 	answer([]byte{})(other.Get(nil))
-	if swapped, found, err := seat.Swap(a, x, y); swapped || !bytes.Equal(found, y) || err != nil {
+	if swapped, found, err := seat.CompareAndSwap(a, x, y); swapped || !bytes.Equal(found, y) || err != nil {
 		t.Fatal(swapped, found, err)
 	}
-	if swapped, found, err := seat.Swap(a, y, x); !swapped || found != nil || err != nil {
+	if swapped, found, err := seat.CompareAndSwap(a, y, x); !swapped || found != nil || err != nil {
 		t.Fatal(swapped, found, err)
 	}
-	if swapped, found, err := seat.Swap([]byte("b"), y, x); swapped || found != nil || err != nil {
+	if swapped, found, err := seat.CompareAndSwap([]byte("b"), y, x); swapped || found != nil || err != nil {
 		t.Fatal(swapped, found, err)
 	}
 	if err := seat.Tidy(a); err != nil {
 		t.Fatal(err)
 	}
-	if room, err := seat.Room(); err != nil || room.FreeRows == 0 {
+	if room, err := seat.Room(); err != nil || room.FreeRecords == 0 {
 		t.Fatal(room, err)
 	}
 	answer(x)(other.Delete(a))
 	answer(nil)(other.Delete(a))
-	if _, _, err := seat.Get(make([]byte, 65)); !errors.Is(err, TooLong) {
+	if _, _, err := seat.Get(make([]byte, 65)); !errors.Is(err, ErrTooLong) {
 		t.Fatal(err)
 	}
-	if _, _, err := seat.Upsert(a, make([]byte, 65)); !errors.Is(err, TooLong) {
+	if _, _, err := seat.Upsert(a, make([]byte, 65)); !errors.Is(err, ErrTooLong) {
 		t.Fatal(err)
 	}
-	if err := seat.Walk(make([]byte, 65), nil); !errors.Is(err, TooLong) {
+	if err := seat.Walk(make([]byte, 65), nil); !errors.Is(err, ErrTooLong) {
 		t.Fatal(err)
 	}
 }
 
 func TestLimits(t *testing.T) {
-	if _, err := LimitsForKeys(17, 1); !errors.Is(err, BadLimits) {
+	if _, err := LimitsForKeys(17, 1); !errors.Is(err, ErrBadLimits) {
 		t.Fatal(err)
 	}
-	if _, err := Open(Limits{1, 63, 64, false}); !errors.Is(err, BadLimits) {
+	if _, err := LimitsForManyKeys(64, 1); !errors.Is(err, ErrBadLimits) {
 		t.Fatal(err)
+	}
+	if _, err := Open(Limits{1, 63, 64, false}); !errors.Is(err, ErrBadLimits) {
+		t.Fatal(err)
+	}
+}
+
+func TestMostSeats(t *testing.T) {
+	limits, err := LimitsForManyKeys(63, 100)
+	if err != nil {
+		t.Fatal(err)
+	}
+	tree, err := Open(limits)
+	if err != nil {
+		t.Fatal(err)
+	}
+	var seats []*Seat
+	for seat := tree.TrySeat(); seat != nil; seat = tree.TrySeat() {
+		seats = append(seats, seat)
+	}
+	for i, seat := range seats {
+		if inserted, _, err := seat.Insert([]byte{byte(i)}, nil); !inserted || err != nil {
+			t.Fatal(i, err)
+		}
+		seat.Release()
+	}
+	if len(seats) != 63 || tree.Len() != 63 || tree.Close() != nil {
+		t.Fatal(len(seats))
 	}
 }
 
 func TestLeases(t *testing.T) {
 	tree := opened(t, 1, 100)
 	seat := tree.Seat()
-	if tree.TrySeat() != nil || !errors.Is(tree.Close(), Busy) {
+	if tree.TrySeat() != nil || !errors.Is(tree.Close(), ErrBusy) {
 		t.Fatal("a seat is lent")
 	}
 	seat.Release()
@@ -93,7 +124,7 @@ func TestLeases(t *testing.T) {
 	if err := tree.Close(); err != nil {
 		t.Fatal(err)
 	}
-	if _, _, err := tree.Seat().Get(nil); !errors.Is(err, Closed) {
+	if _, _, err := tree.Seat().Get(nil); !errors.Is(err, ErrClosed) {
 		t.Fatal(err)
 	}
 }
@@ -125,7 +156,7 @@ func TestFull(t *testing.T) {
 	for i := 0; i < 100000 && err == nil; i++ {
 		_, _, err = seat.Insert([]byte(fmt.Sprint(i)), nil)
 	}
-	if !errors.Is(err, Full) {
+	if !errors.Is(err, ErrFull) {
 		t.Fatal(err)
 	}
 }
@@ -142,8 +173,8 @@ func TestGoroutines(t *testing.T) {
 			for i := 0; i < 900; i++ {
 				key, value := []byte(fmt.Sprintf("%d/%04d", g, i%300)), []byte(fmt.Sprint(i))
 				old, found, err := seat.Upsert(key, value)
-				// a write is told Full while another thread stands still inside an operation: it is made again until that thread goes on
-				for errors.Is(err, Full) {
+				// a write is told ErrFull while another thread stands still inside an operation: it is made again until that thread goes on
+				for errors.Is(err, ErrFull) {
 					runtime.Gosched()
 					old, found, err = seat.Upsert(key, value)
 				}
@@ -170,7 +201,7 @@ func TestGoroutines(t *testing.T) {
 }
 
 func TestPairs(t *testing.T) {
-	limits := Limits{Actors: 2, Pids: 64, Rows: 256}
+	limits := Limits{Actors: 2, Pages: 64, Records: 256}
 	var pairs []Pair
 	for i := byte(0); i < 60; i++ {
 		pairs = append(pairs, Pair{[]byte{i}, []byte{i, i}})
@@ -193,10 +224,10 @@ func TestPairs(t *testing.T) {
 	}
 	seat.Release()
 	pairs[0], pairs[1] = pairs[1], pairs[0]
-	if _, err := OpenFrom(limits, pairs); !errors.Is(err, BadOrder) {
+	if _, err := OpenFrom(limits, pairs); !errors.Is(err, ErrBadOrder) {
 		t.Fatal(err)
 	}
-	if _, err := OpenFrom(limits, []Pair{{nil, make([]byte, 65)}}); !errors.Is(err, TooLong) {
+	if _, err := OpenFrom(limits, []Pair{{nil, make([]byte, 65)}}); !errors.Is(err, ErrTooLong) {
 		t.Fatal(err)
 	}
 }
@@ -212,7 +243,7 @@ func TestCloseWithPairs(t *testing.T) {
 	if _, found, err := seat.Delete([]byte("007")); !found || err != nil {
 		t.Fatal(found, err)
 	}
-	if _, err := tree.CloseWithPairs(); !errors.Is(err, Busy) {
+	if _, err := tree.CloseWithPairs(); !errors.Is(err, ErrBusy) {
 		t.Fatal(err)
 	}
 	seat.Release()
@@ -229,7 +260,7 @@ func TestCloseWithPairs(t *testing.T) {
 			t.Fatal(n, pair)
 		}
 	}
-	if _, err := tree.CloseWithPairs(); !errors.Is(err, Closed) {
+	if _, err := tree.CloseWithPairs(); !errors.Is(err, ErrClosed) {
 		t.Fatal(err)
 	}
 	limits, err := LimitsForKeys(1, 500)

@@ -9,18 +9,37 @@ import (
 	"unsafe"
 )
 
-// turned is a page that a call has begun to fill.
-func (seat *Seat) turned(status C.uint32_t, page *C.bwtree_page_pairs) (pairs []Pair, next []byte, more bool, err error) {
-	var old C.bwtree_bytes
+// filled is the page that calls fill, made with the first one.
+func (seat *Seat) filled() *C.bwtree_page_pairs {
+	if seat.page == nil {
+		seat.page = new(C.bwtree_page_pairs)
+	}
+	return seat.page
+}
+
+// turned is a page that a call has begun to fill. All its keys and values lie in one slice.
+func (seat *Seat) turned(status C.uint32_t) (pairs []Pair, next []byte, more bool, err error) {
+	page := seat.page
 	for status == C.BWTREE_SPENT {
-		status = C.bwtree_resume(seat.tree.handle, C.uint32_t(seat.number), steps, &old, page)
+		status = C.bwtree_resume(seat.handle(), C.uint32_t(seat.number), steps, &seat.old, page)
 	}
 	runtime.KeepAlive(seat)
 	if err := settled(status); err != nil {
 		return nil, nil, false, err
 	}
+	size := 0
 	for i := range page.pairs[:page.count] {
-		pairs = append(pairs, Pair{taken(&page.pairs[i].key), taken(&page.pairs[i].value)})
+		size += int(page.pairs[i].key.length + page.pairs[i].value.length)
+	}
+	all := make([]byte, 0, size)
+	behind := func(bytes *C.bwtree_bytes) []byte {
+		at := len(all)
+		all = append(all, (*[MaxLength]byte)(unsafe.Pointer(&bytes.bytes[0]))[:bytes.length]...)
+		return all[at:len(all):len(all)]
+	}
+	pairs = make([]Pair, page.count)
+	for i := range pairs {
+		pairs[i] = Pair{behind(&page.pairs[i].key), behind(&page.pairs[i].value)}
 	}
 	if page.more != 0 {
 		next = taken(&page.next)
@@ -29,17 +48,19 @@ func (seat *Seat) turned(status C.uint32_t, page *C.bwtree_page_pairs) (pairs []
 }
 
 // Page is the pairs of one leaf from a key on, keys ascending, and where the next page begins, if there is more. A page may be empty and have more after it.
+// It answers ErrTooLong, or ErrClosed.
 func (seat *Seat) Page(from []byte) (pairs []Pair, next []byte, more bool, err error) {
-	var page C.bwtree_page_pairs
 	k := some(from)
-	return seat.turned(C.bwtree_page(seat.tree.handle, C.uint32_t(seat.number), unsafe.Pointer(&k[0]), C.size_t(len(from)), &page), &page)
+	page := seat.filled()
+	return seat.turned(C.bwtree_page(seat.handle(), C.uint32_t(seat.number), unsafe.Pointer(&k[0]), C.size_t(len(from)), page))
 }
 
-// Back is the pairs of the leaf that has a key, up to that key, keys ascending, and the key at which the next page backward goes on, if there is more.
+// Back is the pairs of the leaf that has a key, up to that key, keys ascending, and the key at which the next page backward goes on, if there is more. It
+// answers what Page does.
 func (seat *Seat) Back(upto []byte) (pairs []Pair, next []byte, more bool, err error) {
-	var page C.bwtree_page_pairs
 	k := some(upto)
-	return seat.turned(C.bwtree_back(seat.tree.handle, C.uint32_t(seat.number), unsafe.Pointer(&k[0]), C.size_t(len(upto)), &page), &page)
+	page := seat.filled()
+	return seat.turned(C.bwtree_back(seat.handle(), C.uint32_t(seat.number), unsafe.Pointer(&k[0]), C.size_t(len(upto)), page))
 }
 
 // A Range is the keys of a walk: from one on, and below another one. Below is nil where there is no bound.
@@ -60,10 +81,10 @@ func (seat *Seat) Walk(from []byte, each func(key, value []byte) bool) error {
 	return seat.WalkRange(Range{From: from}, each)
 }
 
-// WalkRange is Walk for the keys of a range. Where a bound has more than 64 bytes it answers TooLong.
+// WalkRange is Walk for the keys of a range. Where a bound has more than 64 bytes it answers ErrTooLong.
 func (seat *Seat) WalkRange(keys Range, each func(key, value []byte) bool) error {
 	if len(keys.Below) > MaxLength {
-		return TooLong
+		return ErrTooLong
 	}
 	from := keys.From
 	for more := true; more; {
@@ -84,7 +105,7 @@ func (seat *Seat) WalkRange(keys Range, each func(key, value []byte) bool) error
 // WalkBack is WalkRange from the greatest key of a range down.
 func (seat *Seat) WalkBack(keys Range, each func(key, value []byte) bool) error {
 	if len(keys.From) > MaxLength || len(keys.Below) > MaxLength {
-		return TooLong
+		return ErrTooLong
 	}
 	upto, more := greatest, true
 	if keys.Below != nil {
@@ -103,6 +124,21 @@ func (seat *Seat) WalkBack(keys Range, each func(key, value []byte) bool) error 
 		}
 	}
 	return nil
+}
+
+// All is the pairs of a range for a loop, keys ascending: from Go 1.23 on, for key, value := range seat.All(keys, &err). Where a page can't be read, the loop
+// ends, and err says why.
+func (seat *Seat) All(keys Range, err *error) func(yield func(key, value []byte) bool) {
+	return func(yield func(key, value []byte) bool) {
+		*err = seat.WalkRange(keys, yield)
+	}
+}
+
+// Backward is All from the greatest key of a range down.
+func (seat *Seat) Backward(keys Range, err *error) func(yield func(key, value []byte) bool) {
+	return func(yield func(key, value []byte) bool) {
+		*err = seat.WalkBack(keys, yield)
+	}
 }
 
 // nearest is the first pair of pages from a key on, or of pages backward up to it.
@@ -146,7 +182,7 @@ func (seat *Seat) Floor(key []byte) (Pair, bool, error) {
 // Higher is the pair of the least key above this one.
 func (seat *Seat) Higher(key []byte) (Pair, bool, error) {
 	if len(key) > MaxLength {
-		return Pair{}, false, TooLong
+		return Pair{}, false, ErrTooLong
 	}
 	if after := KeyAfter(key); after != nil {
 		return seat.Ceiling(after)
@@ -157,7 +193,7 @@ func (seat *Seat) Higher(key []byte) (Pair, bool, error) {
 // Lower is the pair of the greatest key below this one.
 func (seat *Seat) Lower(key []byte) (Pair, bool, error) {
 	if len(key) > MaxLength {
-		return Pair{}, false, TooLong
+		return Pair{}, false, ErrTooLong
 	}
 	if before, there := KeyBefore(key); there {
 		return seat.Floor(before)

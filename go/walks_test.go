@@ -40,7 +40,9 @@ func TestChanges(t *testing.T) {
 	}
 	answer(nil)(seat.Replace(a, x))
 	deletes(false, nil)(seat.DeleteIf(a, x))
-	answer(nil)(seat.Insert(a, x))
+	if inserted, found, err := seat.Insert(a, x); !inserted || found != nil || err != nil {
+		t.Fatal(inserted, found, err)
+	}
 	answer(x)(other.Replace(a, y))
 	deletes(false, y)(other.DeleteIf(a, x))
 	if tree.Len() != 1 {
@@ -54,7 +56,7 @@ func TestChanges(t *testing.T) {
 	adds(5, true)(other.Add(n, math.MaxUint64))
 	answer(AppendUint64(nil, 4))(seat.Get(n))
 	answer(AppendUint64(nil, 4))(seat.Upsert(n, a))
-	if _, _, err := seat.Add(n, 1); !errors.Is(err, Differs) || tree.Len() != 1 {
+	if _, _, err := seat.Add(n, 1); !errors.Is(err, ErrDiffers) || tree.Len() != 1 {
 		t.Fatal(err, tree.Len())
 	}
 	long := make([]byte, 65)
@@ -67,7 +69,7 @@ func TestChanges(t *testing.T) {
 	_, _, higher := seat.Higher(long)
 	ahead, behind := seat.WalkRange(Range{Below: long}, nil), seat.WalkBack(Range{From: long}, nil)
 	for _, err := range []error{adding, deleting, replacing, backing, floor, lower, higher, ahead, behind} {
-		if !errors.Is(err, TooLong) {
+		if !errors.Is(err, ErrTooLong) {
 			t.Fatal(err)
 		}
 	}
@@ -118,9 +120,9 @@ func TestWalks(t *testing.T) {
 	var sorted []string
 	for i := 0; i < 500; i++ {
 		key := drawn(draw)
-		if _, exists, err := seat.Insert(key, key); err != nil {
+		if inserted, _, err := seat.Insert(key, key); err != nil {
 			t.Fatal(err)
-		} else if !exists {
+		} else if inserted {
 			sorted = append(sorted, string(key))
 		}
 	}
@@ -172,7 +174,7 @@ func TestSumsAndCounts(t *testing.T) {
 			defer seat.Release()
 			again := func(call func() error) {
 				err := call()
-				for ; errors.Is(err, Full); err = call() {
+				for ; errors.Is(err, ErrFull); err = call() {
 				}
 				if err != nil {
 					t.Error(err)

@@ -9,141 +9,38 @@ The tree is linearizable (Herlihy and Wing), proved over all states of the tree:
 call that has returned precedes a call that begins afterwards, whatever threads and seats make the two. In a program's own proof, order between two
 seats comes from meeting or a note, because the language has no clock.
 
-The library is looked for where BWTREE_LIB says, a file or a folder, then beside this file, where a wheel has it, then where `./bwtree build` puts it, then
-where the system's loader looks.
+Where the library is looked for: bwtree_library.
 """
 
 import contextlib
 import ctypes
 import functools
-import os
 import queue
+import threading
+import time
 import weakref
 from collections.abc import Iterable, Iterator
+from enum import Enum
 from typing import Any, NamedTuple, NoReturn, Optional
 
+import bwtree_library as _lib
 import bwtree_walks
+from bwtree_library import MAX_LENGTH, __version__
 
-__all__ = ["Error", "Full", "Room", "Seat", "Swapped", "Tree", "MAX_LENGTH"]
+__all__ = ["Error", "Full", "FullHint", "Room", "Seat", "Compared", "Tree", "MAX_LENGTH", "__version__"]
 
-MAX_LENGTH = 64
-
-_OK, _ABSENT, _EXISTS, _REPLACED, _DIFFERS, _FULL, _SPENT, _NO_ROOM = range(8)
-_CLOSED, _NO_SEAT, _BUSY, _UNFINISHED, _IDLE, _TOO_LONG, _BAD_LIMITS, _NO_MEMORY, _OPEN = range(16, 25)
-_BAD_ORDER = 26
-_TEXTS = {
-    _FULL: "the tree is full",
-    _CLOSED: "the tree is closed",
-    _NO_SEAT: "the tree has no such seat",
-    _BUSY: "another call is inside the seat",
-    _UNFINISHED: "the seat has an unfinished operation",
-    _IDLE: "the seat has no unfinished operation",
-    _TOO_LONG: "a key or a value is longer than 64 bytes",
-    _BAD_LIMITS: "a limit is outside its range",
-    _NO_MEMORY: "no memory",
-    _OPEN: "the tree is open already",
-    _BAD_ORDER: "the keys don't ascend",
-}
 _STEPS = 1 << 16
 # how many more keys a tree has where an operation is OK
 _MORE = {"insert": 1, "upsert": 1, "add": 1, "delete": -1, "delete_if": -1}
 _NOTHING = object()
+_NO_PAIRS = (_lib.Pair * 0)()
 
 
-def _plain(text: bytes) -> bytes:
-    """A key or a value as bytes that nobody changes; raises TypeError for what has no bytes."""
-    return text if type(text) is bytes else bytes(memoryview(text))
-
-
-class _Tree(ctypes.Structure):
-    _fields_ = [("held", ctypes.c_uint64), ("at", ctypes.c_void_p)]
-
-
-class _Limits(ctypes.Structure):
-    _fields_ = [("actors", ctypes.c_uint64), ("pids", ctypes.c_uint64), ("rows", ctypes.c_uint64), ("epoch", ctypes.c_uint64),
-                ("large", ctypes.c_uint64)]
-
-
-class _Room(ctypes.Structure):
-    _fields_ = [("free_pids", ctypes.c_uint64), ("free_rows", ctypes.c_uint64)]
-
-
-class _Bytes(ctypes.Structure):
-    _fields_ = [("length", ctypes.c_uint64), ("bytes", ctypes.c_uint8 * MAX_LENGTH)]
-
-    @classmethod
-    def of(cls, text: bytes) -> "_Bytes":
-        text = _plain(text)
-        if len(text) > MAX_LENGTH:
-            raise ValueError(_TEXTS[_TOO_LONG])
-        return cls(len(text), (ctypes.c_uint8 * MAX_LENGTH)(*text))
-
-    def taken(self) -> bytes:
-        return bytes(self.bytes[: self.length])
-
-
-class _Pair(ctypes.Structure):
-    _fields_ = [("key", _Bytes), ("value", _Bytes)]
-
-
-class _Page(ctypes.Structure):
-    _fields_ = [("count", ctypes.c_uint64), ("more", ctypes.c_uint64), ("next", _Bytes), ("pairs", _Pair * 24)]
-
-
-assert [ctypes.sizeof(it) for it in (_Tree, _Limits, _Room, _Bytes, _Pair, _Page)] == [16, 40, 16, 72, 144, 3544]
-
-
-def _load() -> ctypes.CDLL:
-    """The library, with the declarations of bwtree.h."""
-    here = os.path.dirname(os.path.abspath(__file__))
-    beside, built = os.path.join(here, "libbwtree.so.0"), os.path.join(here, "..", "c", "out", "libbwtree.so.0")
-    built = beside if os.path.isfile(beside) else built
-    place = os.environ.get("BWTREE_LIB", built if os.path.isfile(built) else "libbwtree.so.0")
-    file = os.path.join(place, "libbwtree.so.0") if os.path.isdir(place) else place
-    try:
-        library = ctypes.CDLL(file)
-    except OSError as error:
-        looked = f"{os.path.normpath(built)}, and then {file} where the system's loader looks"
-        if "BWTREE_LIB" in os.environ:
-            looked = f"{file}, which BWTREE_LIB names"
-        advice = "Run ./bwtree build, or set BWTREE_LIB to libbwtree.so.0 or its folder"
-        raise ImportError(f"bwtree: the library was not loaded from {looked}: {error}. {advice}") from error
-    tree, seat, old, page = ctypes.POINTER(_Tree), ctypes.c_uint32, ctypes.POINTER(_Bytes), ctypes.POINTER(_Page)
-    text, size, count = ctypes.c_char_p, ctypes.c_size_t, ctypes.c_uint64
-    for name, kinds in {
-        "limits_for_keys": [count, count, ctypes.POINTER(_Limits)],
-        "limits_for_many_keys": [count, count, ctypes.POINTER(_Limits)],
-        "open": [ctypes.POINTER(_Limits), tree],
-        "open_from": [ctypes.POINTER(_Limits), ctypes.POINTER(_Pair), size, tree],
-        "close": [tree],
-        "close_pairs": [tree, ctypes.POINTER(_Pair), size, ctypes.POINTER(count)],
-        "get": [tree, seat, text, size, old],
-        "insert": [tree, seat, text, size, text, size, old],
-        "upsert": [tree, seat, text, size, text, size, old],
-        "delete": [tree, seat, text, size, old],
-        "delete_if": [tree, seat, text, size, text, size, old],
-        "swap": [tree, seat, text, size, text, size, text, size, old],
-        "add": [tree, seat, text, size, count, old],
-        "tidy": [tree, seat, text, size],
-        "page": [tree, seat, text, size, page],
-        "back": [tree, seat, text, size, page],
-        "resume": [tree, seat, ctypes.c_uint32, old, page],
-        "room": [tree, seat, ctypes.POINTER(_Room)],
-    }.items():
-        call = getattr(library, "bwtree_raw_" + name)
-        call.argtypes, call.restype = kinds, ctypes.c_uint32
-    return library
-
-
-_library = _load()
-_NO_PAIRS = (_Pair * 0)()
-
-
-def _resumed(handle: "ctypes._Pointer[_Tree]", seat: int, old: _Bytes, page: _Page) -> int:
+def _resumed(handle: "ctypes._Pointer[_lib.Tree]", seat: int, old: _lib.Bytes, page: _lib.Page) -> int:
     """What a seat's unfinished operation came to, once it is done."""
     while True:
-        status: int = _library.bwtree_raw_resume(handle, seat, _STEPS, ctypes.byref(old), ctypes.byref(page))
-        if status != _SPENT:
+        status: int = _lib.library.bwtree_raw_resume(handle, seat, _STEPS, ctypes.byref(old), ctypes.byref(page))
+        if status != _lib.SPENT:
             return status
 
 
@@ -151,7 +48,7 @@ class Error(Exception):
     """Nothing was done. `status` is the number that bwtree.h gives to the reason."""
 
     def __init__(self, status: int):
-        super().__init__(_TEXTS.get(status, f"status {status}"))
+        super().__init__(_lib.TEXTS.get(status, f"status {status}"))
         self.status = status
 
 
@@ -159,9 +56,36 @@ class Full(Error):
     """Nothing was free for a change, and no key was changed."""
 
 
-class Swapped(NamedTuple):
-    """What a swap or a deletion by value found: whether the value was the expected one, and is the new one or none now; else the value that the key has, if
-    it has one."""
+class FullHint(Enum):
+    """What may become of a write that raised Full. It is a hint, made from what is free a moment later: nothing is proved of it, and other calls change
+    it."""
+
+    PASSED = "a page and a record are free now"
+    FOR_NOW = "other seats hold records back: it passes once a stopped thread goes on, or an idle seat tidies"
+    FOR_GOOD = "the tree itself may have all pages or records: unless keys were just deleted, a larger tree is needed"
+
+
+def _hint(limits: _lib.Limits, room: "Room") -> FullHint:
+    """Records are enough from 9 for each page and 120 for each seat on, in a large tree 3 and 240."""
+    page, seat = (3, 240) if limits.large else (9, 120)
+    if room.free_pages and room.free_records:
+        return FullHint.PASSED
+    has_enough = limits.records >= page * limits.pages + seat * limits.actors
+    return FullHint.FOR_NOW if room.free_pages and has_enough else FullHint.FOR_GOOD
+
+
+def _pauses(patience: float) -> Iterator[None]:
+    """Goes on after a pause, a longer one each time, until so many seconds are over."""
+    end, pause = time.monotonic() + patience, 50e-6
+    while (left := end - time.monotonic()) > 0:
+        time.sleep(min(pause, left))
+        pause = min(2 * pause, 5e-3)
+        yield
+
+
+class Compared(NamedTuple):
+    """What a compare-and-set or a deletion by value found: whether the value was the expected one, and is the new one or none now; else the value that the key
+    has, if it has one."""
 
     done: bool
     found: Optional[bytes] = None
@@ -170,44 +94,49 @@ class Swapped(NamedTuple):
 class Room(NamedTuple):
     """How many pages and records are free."""
 
-    free_pids: int
-    free_rows: int
+    free_pages: int
+    free_records: int
 
 
 def _must(status: int) -> int:
     """A status of an operation that took place; else raises what says why there is none."""
-    if status == _FULL:
+    if status == _lib.FULL:
         raise Full(status)
-    if status == _TOO_LONG:
-        raise ValueError(_TEXTS[status])
-    if status > _SPENT:
+    if status == _lib.TOO_LONG:
+        raise ValueError(_lib.TEXTS[status])
+    if status > _lib.SPENT:
         raise Error(status)
     return status
 
 
 class Tree:
-    """A tree with so many seats, for so many different keys, all counted that it ever has; or with so many PIDs and rows. A large tree takes
-    up to 27 million keys, in some 1,900 bytes each. It has the given pairs, whose keys ascend; raises Full where they don't all fit."""
+    """A tree with so many seats, for so many different keys, all counted that it ever has; or with so many PIDs and records. It has 1 to 16 seats, a large
+    one 1 to 63. A large tree takes up to 27 million keys, in some 1,900 bytes each. It has the given pairs, whose keys ascend; raises Full where they
+    don't all fit."""
 
-    def __init__(self, seats: int = 4, keys: int = 1000, *, pids: Optional[int] = None, rows: Optional[int] = None, large: bool = False,
+    def __init__(self, seats: int = 4, keys: int = 1000, *, pages: Optional[int] = None, records: Optional[int] = None, large: bool = False,
                  pairs: Iterable[tuple[bytes, bytes]] = ()):
-        if not all(0 <= limit < 1 << 64 for limit in (seats, keys, pids or 0, rows or 0)):
-            raise Error(_BAD_LIMITS)
-        limits = _Limits(seats, pids or 0, rows or 0, 1, large)
-        if pids is None and rows is None:
-            propose = _library.bwtree_raw_limits_for_many_keys if large else _library.bwtree_raw_limits_for_keys
+        if not all(0 <= limit < 1 << 64 for limit in (seats, keys, pages or 0, records or 0)):
+            raise Error(_lib.BAD_LIMITS)
+        if (pages is None) != (records is None):
+            raise ValueError("pages and records are given both, or neither")
+        limits = _lib.Limits(seats, pages or 0, records or 0, 1, large)
+        if pages is None and records is None:
+            propose = _lib.library.bwtree_raw_limits_for_many_keys if large else _lib.library.bwtree_raw_limits_for_keys
             _must(propose(seats, keys, ctypes.byref(limits)))
-        self._handle = _Tree()
+        self._limits = limits
+        self._handle = _lib.Tree()
         self._free: "queue.SimpleQueue[int]" = queue.SimpleQueue()
         # what gives each lent seat back when nothing refers to it any more
         self._leases: "dict[int, weakref.ref[Seat]]" = {}
         self._seats = 0
+        self._local = threading.local()
         # what a closing hands over, until it is told; there is less room than pairs where nothing is
-        self._pairs: "ctypes.Array[_Pair]" = _NO_PAIRS
+        self._pairs: "ctypes.Array[_lib.Pair]" = _NO_PAIRS
         self._count = ctypes.c_uint64(1)
-        given = [_Pair(_Bytes.of(key), _Bytes.of(value)) for key, value in pairs]
-        status = _library.bwtree_raw_open_from(ctypes.byref(limits), (_Pair * max(len(given), 1))(*given), len(given), ctypes.byref(self._handle))
-        _must(_FULL if status == _SPENT else status)
+        given = [_lib.Pair(_lib.Bytes.of(key), _lib.Bytes.of(value)) for key, value in pairs]
+        status = _lib.library.bwtree_raw_open_from(ctypes.byref(limits), (_lib.Pair * max(len(given), 1))(*given), len(given), ctypes.byref(self._handle))
+        _must(_lib.FULL if status == _lib.SPENT else status)
         self._seats = seats
         # how many more keys each seat has set than deleted
         self._counts = [0] * seats
@@ -219,21 +148,30 @@ class Tree:
         """Leases a seat; waits for one where none is free, at most so many seconds, and then raises queue.Empty."""
         return Seat(self, timeout)
 
+    def local(self) -> "Seat":
+        """The calling thread's own seat: leased at the thread's first call, where it waits for one, and given back when the thread ends."""
+        seat: Optional[Seat] = getattr(self._local, "seat", None)
+        if seat is None or seat._tree is None:
+            seat = self._local.seat = self.seat()
+        return seat
+
     def count(self) -> int:
         """How many keys the tree has, without a walk: exact when no call is under way; otherwise it may lack some calls that are. A call that a signal's
         handler interrupts, as Ctrl-C does, may never be counted."""
         return max(0, sum(self._counts))
 
     @contextlib.contextmanager
-    def _all_seats(self) -> Iterator["ctypes._Pointer[_Tree]"]:
+    def _all_seats(self) -> Iterator["ctypes._Pointer[_lib.Tree]"]:
         """The handle, while all seats are taken. Raises Error where one is lent."""
         seats: list[Seat] = []
+        # the calling thread's own seat is given back
+        self._local.__dict__.pop("seat", None)
         try:
             while len(seats) < self._seats:
                 seats.append(Seat(self, 0))
         except queue.Empty:
             _give_back(seats)
-            raise Error(_BUSY) from None
+            raise Error(_lib.BUSY) from None
         try:
             yield ctypes.pointer(self._handle)
         finally:
@@ -242,7 +180,7 @@ class Tree:
     def close(self) -> None:
         """Closes the tree and frees it. Raises Error where a seat is lent or the tree is closed."""
         with self._all_seats() as handle:
-            _must(_library.bwtree_raw_close(handle))
+            _must(_lib.library.bwtree_raw_close(handle))
 
     def close_with_pairs(self) -> list[tuple[bytes, bytes]]:
         """Closes the tree and frees it: its pairs, keys ascending. Raises Error where a seat is lent, the tree is closed, or memory is refused.
@@ -250,10 +188,10 @@ class Tree:
         with self._all_seats() as handle:
             while self._count.value > len(self._pairs):
                 room = self._count.value
-                self._pairs = (_Pair * room)()
+                self._pairs = (_lib.Pair * room)()
                 self._count.value = room + 1
-                status = _library.bwtree_raw_close_pairs(handle, self._pairs, room, ctypes.byref(self._count))
-                if status != _NO_ROOM:
+                status = _lib.library.bwtree_raw_close_pairs(handle, self._pairs, room, ctypes.byref(self._count))
+                if status != _lib.NO_ROOM:
                     _must(status)
             pairs = [(pair.key.taken(), pair.value.taken()) for pair in self._pairs[: self._count.value]]
         self._pairs, self._count.value = _NO_PAIRS, 1
@@ -261,6 +199,9 @@ class Tree:
 
     def __reduce__(self) -> NoReturn:
         raise TypeError("a tree can't be copied or pickled")
+
+    def __repr__(self) -> str:
+        return f"<bwtree.Tree: {self.count()} keys, {self._free.qsize()} of {self._seats} seats free>"
 
     def __enter__(self) -> "Tree":
         return self
@@ -270,16 +211,19 @@ class Tree:
         try:
             self.close()
         except Error as error:
-            if kind is None and error.status != _CLOSED:
+            if kind is None and error.status != _lib.CLOSED:
                 raise
 
     def __del__(self) -> None:
         if hasattr(self, "_handle"):
-            _library.bwtree_raw_close(ctypes.byref(self._handle))
+            _lib.library.bwtree_raw_close(ctypes.byref(self._handle))
 
 
 class Seat(bwtree_walks.Walks):
     """A seat of a tree, for one thread at a time. It goes back to its tree by `close`, at the end of a `with`, or when nothing refers to it."""
+
+    #: how many seconds a write waits while the tree is full, before it raises Full
+    patience: float = 0.0
 
     _tree: Optional[Tree] = None
 
@@ -295,52 +239,62 @@ class Seat(bwtree_walks.Walks):
         tree._leases[self._number] = self._lease
         self._tree = tree
         # (an interrupt in the course of another one may have left an operation)
-        _resumed(ctypes.pointer(tree._handle), self._number, _Bytes(), _Page())
+        _resumed(ctypes.pointer(tree._handle), self._number, _lib.Bytes(), _lib.Page())
 
-    def _handle(self) -> "ctypes._Pointer[_Tree]":
+    def _handle(self) -> "ctypes._Pointer[_lib.Tree]":
         if self._tree is None:
-            raise Error(_CLOSED)
+            raise Error(_lib.CLOSED)
         return ctypes.pointer(self._tree._handle)
 
     def _run(self, name: str, *texts: bytes, numbers: tuple[int, ...] = ()) -> tuple[int, bytes]:
         """The status of an operation, and the value that goes with it, if one does."""
         words: list[object] = []
-        for text in map(_plain, texts):
+        for text in map(_lib.plain, texts):
             words += [text, len(text)]
-        old = _Bytes()
+        old = _lib.Bytes()
         more = () if name == "tidy" else (ctypes.byref(old),)
-        status = self._called(name, [*words, *numbers, *more], old)
-        if status == _OK and name in _MORE and self._tree is not None:
+        status = self._written(name, [*words, *numbers, *more], old)
+        if status == _lib.OK and name in _MORE and self._tree is not None:
             self._tree._counts[self._number] += _MORE[name]
         return status, old.taken()
 
-    def _called(self, name: str, words: list[object], old: _Bytes, page: Optional[_Page] = None) -> int:
+    def _written(self, name: str, words: list[object], old: _lib.Bytes) -> int:
+        """The status of an operation, which is made again while the tree is full, until the seat's patience is at its end."""
+        try:
+            return self._called(name, words, old)
+        except Full:
+            for _ in _pauses(self.patience):
+                with contextlib.suppress(Full):
+                    return self._called(name, words, old)
+            raise
+
+    def _called(self, name: str, words: list[object], old: _lib.Bytes, page: Optional[_lib.Page] = None) -> int:
         """The status of an operation. It runs to its end, also where that is interrupted: none is left in the seat."""
         handle = self._handle()
         try:
-            status: int = getattr(_library, "bwtree_raw_" + name)(handle, self._number, *words)
-            if status == _SPENT:
-                status = _resumed(handle, self._number, old, _Page() if page is None else page)
+            status: int = getattr(_lib.library, "bwtree_raw_" + name)(handle, self._number, *words)
+            if status == _lib.SPENT:
+                status = _resumed(handle, self._number, old, _lib.Page() if page is None else page)
         except BaseException:
-            _resumed(handle, self._number, _Bytes(), _Page())
+            _resumed(handle, self._number, _lib.Bytes(), _lib.Page())
             raise
         return _must(status)
 
     def _key(self, key: bytes) -> bytes:
-        key = _plain(key)
+        key = _lib.plain(key)
         if len(key) > MAX_LENGTH:
-            raise ValueError(_TEXTS[_TOO_LONG])
+            raise ValueError(_lib.TEXTS[_lib.TOO_LONG])
         return key
 
     def _page(self, at: bytes, reverse: bool) -> tuple[list[tuple[bytes, bytes]], Optional[bytes]]:
-        page = _Page()
-        self._called("back" if reverse else "page", [at, len(at), ctypes.byref(page)], _Bytes(), page)
+        page = _lib.Page()
+        self._called("back" if reverse else "page", [at, len(at), ctypes.byref(page)], _lib.Bytes(), page)
         pairs = [(pair.key.taken(), pair.value.taken()) for pair in page.pairs[: page.count]]
         return pairs, page.next.taken() if page.more else None
 
     def __getitem__(self, key: bytes) -> bytes:
         status, value = self._run("get", key)
-        if status == _ABSENT:
+        if status == _lib.ABSENT:
             raise KeyError(key)
         return value
 
@@ -348,11 +302,11 @@ class Seat(bwtree_walks.Walks):
         self._run("upsert", key, value)
 
     def __delitem__(self, key: bytes) -> None:
-        if self._run("delete", key)[0] == _ABSENT:
+        if self._run("delete", key)[0] == _lib.ABSENT:
             raise KeyError(key)
 
     def __contains__(self, key: object) -> bool:
-        return isinstance(key, (bytes, bytearray, memoryview)) and self._run("get", _plain(key))[0] == _OK
+        return isinstance(key, (bytes, bytearray, memoryview)) and self._run("get", _lib.plain(key))[0] == _lib.OK
 
     # Each of these is one operation on a key, whatever other threads do: the mapping's own are two.
     def pop(self, key: bytes, default: Any = _NOTHING) -> Any:
@@ -374,50 +328,50 @@ class Seat(bwtree_walks.Walks):
 
     def setdefault(self, key: bytes, default: Any = None) -> Any:
         old = self.get(key) if default is None else self.insert(key, default)
-        return _plain(default) if old is None else old
+        return _lib.plain(default) if old is None else old
 
     def insert(self, key: bytes, value: bytes) -> Optional[bytes]:
         """Gives a key a value where it has none: the value that it has, if it has one."""
         status, old = self._run("insert", key, value)
-        return old if status == _EXISTS else None
+        return old if status == _lib.EXISTS else None
 
     def upsert(self, key: bytes, value: bytes) -> Optional[bytes]:
         """Gives a key a value: the one that it had before, if it had one."""
         status, old = self._run("upsert", key, value)
-        return old if status == _REPLACED else None
+        return old if status == _lib.REPLACED else None
 
     def delete(self, key: bytes) -> Optional[bytes]:
         """Makes a key absent: the value that it had."""
         status, old = self._run("delete", key)
-        return old if status == _OK else None
+        return old if status == _lib.OK else None
 
-    def delete_if(self, key: bytes, expected: bytes) -> Swapped:
+    def delete_if(self, key: bytes, expected: bytes) -> Compared:
         """Makes a key absent where it has the expected value."""
         status, old = self._run("delete_if", key, expected)
-        return Swapped(status == _OK, old if status == _DIFFERS else None)
+        return Compared(status == _lib.OK, old if status == _lib.DIFFERS else None)
 
     def replace(self, key: bytes, value: bytes) -> Optional[bytes]:
         """Gives a key a value where it has one: the value that it had. It makes several calls, and takes effect atomically in the last one."""
         value, old = self._key(value), self.get(key)
         while old is not None:
-            swapped = self.swap(key, old, value)
-            if swapped.done:
+            compared = self.compare_and_set(key, old, value)
+            if compared.done:
                 break
-            old = swapped.found
+            old = compared.found
         return old
 
     def add(self, key: bytes, number: int) -> Optional[int]:
         """Adds a number, modulo 2^64, to the one that a key's value of eight bytes is, the highest byte first: the number before. A key without a value gets
         the number. Raises ValueError where the value has not eight bytes."""
         status, old = self._run("add", key, numbers=(number % (1 << 64),))
-        if status == _DIFFERS:
+        if status == _lib.DIFFERS:
             raise ValueError("the key's value has not eight bytes")
-        return int.from_bytes(old, "big") if status == _REPLACED else None
+        return int.from_bytes(old, "big") if status == _lib.REPLACED else None
 
-    def swap(self, key: bytes, expected: bytes, value: bytes) -> Swapped:
+    def compare_and_set(self, key: bytes, expected: bytes, value: bytes) -> Compared:
         """Gives a key the value where it has the expected one."""
         status, old = self._run("swap", key, expected, value)
-        return Swapped(status == _OK, old if status == _DIFFERS else None)
+        return Compared(status == _lib.OK, old if status == _lib.DIFFERS else None)
 
     def tidy(self, key: bytes) -> None:
         """Does what upkeep is due at the leaf of a key; no value changes."""
@@ -425,9 +379,15 @@ class Seat(bwtree_walks.Walks):
 
     def room(self) -> Room:
         """How many pages and records are free."""
-        room = _Room()
-        _must(_library.bwtree_raw_room(self._handle(), self._number, ctypes.byref(room)))
-        return Room(room.free_pids, room.free_rows)
+        room = _lib.Room()
+        _must(_lib.library.bwtree_raw_room(self._handle(), self._number, ctypes.byref(room)))
+        return Room(room.free_pages, room.free_records)
+
+    def full_hint(self) -> FullHint:
+        """What may become of a write that raised Full."""
+        room = self.room()
+        assert self._tree is not None
+        return _hint(self._tree._limits, room)
 
     def close(self) -> None:
         """Gives the seat back to its tree."""
@@ -436,6 +396,9 @@ class Seat(bwtree_walks.Walks):
 
     def __reduce__(self) -> NoReturn:
         raise TypeError("a seat can't be copied or pickled")
+
+    def __repr__(self) -> str:
+        return "<bwtree.Seat, given back>" if self._tree is None else f"<bwtree.Seat {self._number} of {self._tree!r}>"
 
     def __enter__(self) -> "Seat":
         return self

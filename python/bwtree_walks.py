@@ -1,8 +1,8 @@
 """What a seat of a tree does with pages: it is a mapping that is walked in both directions, and has the neighbours of a key."""
 
 import abc
-from collections.abc import ItemsView, Iterator, MutableMapping, ValuesView
-from typing import Optional
+from collections.abc import ItemsView, Iterator, Mapping, MutableMapping, ValuesView
+from typing import Optional, TypeVar
 
 import bwtree_keys
 
@@ -12,6 +12,7 @@ _MAX_LENGTH = 64
 _GREATEST = b"\xff" * _MAX_LENGTH
 
 _Pair = tuple[bytes, bytes]
+_Self = TypeVar("_Self", bound="Walks")
 
 
 class Walks(MutableMapping[bytes, bytes]):
@@ -89,6 +90,21 @@ class Walks(MutableMapping[bytes, bytes]):
     def __len__(self) -> int:
         """How many keys a walk over all of them meets."""
         return sum(1 for _ in self.pairs())
+
+    def __bool__(self) -> bool:
+        """Whether a walk meets a key."""
+        return self.first() is not None
+
+    # As of a dict: the pairs of both, those on the right where a key is in both.
+    def __or__(self, other: Mapping[bytes, bytes]) -> dict[bytes, bytes]:
+        return {**dict(self.pairs()), **other} if isinstance(other, Mapping) else NotImplemented
+
+    def __ror__(self, other: Mapping[bytes, bytes]) -> dict[bytes, bytes]:
+        return {**other, **dict(self.pairs())} if isinstance(other, Mapping) else NotImplemented
+
+    def __ior__(self: _Self, other: Mapping[bytes, bytes]) -> _Self:
+        self.update(other)
+        return self
 
     def items(self) -> "Items":
         return Items(self)

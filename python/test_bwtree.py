@@ -14,6 +14,7 @@ import unittest
 import unittest.mock
 
 import bwtree
+import bwtree_library
 
 
 class Calls(unittest.TestCase):
@@ -22,9 +23,9 @@ class Calls(unittest.TestCase):
         self.assertIsNone(it.insert(b"a", b"x"))
         self.assertEqual(other.insert(b"a", b"y"), b"x")
         self.assertEqual(it.upsert(b"a", b"z"), b"x")
-        self.assertEqual(it.swap(b"a", b"x", b"w"), (False, b"z"))
-        self.assertEqual(it.swap(b"a", b"z", b"w"), (True, None))
-        self.assertEqual(it.swap(b"c", b"z", b"w"), (False, None))
+        self.assertEqual(it.compare_and_set(b"a", b"x", b"w"), (False, b"z"))
+        self.assertEqual(it.compare_and_set(b"a", b"z", b"w"), (True, None))
+        self.assertEqual(it.compare_and_set(b"c", b"z", b"w"), (False, None))
         it[b"b\0"] = b""
         it.tidy(b"a")
         self.assertEqual(list(it.items()), [(b"a", b"w"), (b"b\0", b"")])
@@ -41,7 +42,7 @@ class Calls(unittest.TestCase):
                 call()
         it[b"k" * 64] = b"v" * 64
         self.assertEqual(it.pop(b"k" * 64), b"v" * 64)
-        self.assertGreater(it.room().free_rows, 0)
+        self.assertGreater(it.room().free_records, 0)
 
     def as_a_mapping(self, it):
         it.update({b"a": b"x", b"b": b"y"})
@@ -68,11 +69,45 @@ class Calls(unittest.TestCase):
             self.as_a_mapping(seat)
 
     def test_limits(self):
-        for limits in ({"seats": 17}, {"seats": 0}, {"keys": 10**30}, {"pids": 63, "rows": 64}, {"pids": 64},
-                       {"seats": 2**64 + 1, "pids": 64, "rows": 64}, {"pids": 2**64 + 64, "rows": 64}):
+        for limits in ({"seats": 17}, {"seats": 64, "large": True}, {"seats": 0}, {"keys": 10**30}, {"pages": 63, "records": 64},
+                       {"pages": 64, "records": 0},
+                       {"seats": 2**64 + 1, "pages": 64, "records": 64}, {"pages": 2**64 + 64, "records": 64}):
             with self.assertRaises(bwtree.Error) as raised:
                 bwtree.Tree(**limits)
             self.assertEqual((raised.exception.status, str(raised.exception)), (22, "a limit is outside its range"))
+
+        for half in ({"pages": 64}, {"records": 64}):
+            with self.assertRaisesRegex(ValueError, "pages and records"):
+                bwtree.Tree(**half)
+
+    def test_as_a_dict(self):
+        with bwtree.Tree(seats=1, keys=100) as tree, tree.seat() as seat:
+            self.assertFalse(seat)
+            seat |= {b"a": b"x", b"b": b"y"}
+            self.assertTrue(seat)
+            self.assertEqual((seat | {b"a": b"z"}, {b"a": b"z"} | seat), ({b"a": b"z", b"b": b"y"}, {b"a": b"x", b"b": b"y"}))
+            self.assertEqual((list(reversed(seat)), list(reversed(seat.values()))), ([b"b", b"a"], [b"y", b"x"]))
+            with self.assertRaises(TypeError):
+                seat | 5
+            self.assertEqual(repr(seat), "<bwtree.Seat 0 of <bwtree.Tree: 2 keys, 0 of 1 seats free>>")
+        self.assertEqual(repr(seat), "<bwtree.Seat, given back>")
+
+    def test_local(self):
+        """Each thread has a seat of its own, which goes back when the thread ends."""
+        with bwtree.Tree(seats=2, keys=100) as tree:
+            mine, others = tree.local(), []
+
+            def use():
+                others.append(tree.local() is not mine and tree.local() is tree.local() and tree.local().upsert(b"a", b"x"))
+
+            for _ in range(3):
+                thread = threading.Thread(target=use)
+                thread.start()
+                thread.join()
+            self.assertEqual((tree.local() is mine, others, mine[b"a"]), (True, [None, b"x", b"x"], b"x"))
+            mine.close()
+            self.assertEqual(tree.local()[b"a"], b"x")
+            del mine
 
     def test_large(self):
         with bwtree.Tree(seats=1, keys=20000, large=True) as tree, tree.seat() as seat:
@@ -81,6 +116,17 @@ class Calls(unittest.TestCase):
             self.assertEqual(seat[(7).to_bytes(4, "big")], b"x")
         with self.assertRaises(bwtree.Error):
             bwtree.Tree(seats=1, keys=20000)
+
+    def test_most_seats(self):
+        with bwtree.Tree(seats=63, keys=100, large=True) as tree:
+            seats = [tree.seat(timeout=1) for _ in range(63)]
+            for i, seat in enumerate(seats):
+                seat[bytes([i])] = b"x"
+            with self.assertRaises(queue.Empty):
+                tree.seat(timeout=0)
+            for seat in seats:
+                seat.close()
+            self.assertEqual(tree.count(), 63)
 
     def test_pairs(self):
         pairs = [(i.to_bytes(2, "big"), bytes([i])) for i in range(100)]
@@ -92,7 +138,7 @@ class Calls(unittest.TestCase):
         with self.assertRaises(ValueError):
             bwtree.Tree(pairs=[(b"k" * 65, b"")])
         with self.assertRaises(bwtree.Full):
-            bwtree.Tree(seats=1, pids=64, rows=64, pairs=[(i.to_bytes(2, "big"), b"") for i in range(4000)])
+            bwtree.Tree(seats=1, pages=64, records=64, pairs=[(i.to_bytes(2, "big"), b"") for i in range(4000)])
 
     def test_close_with_pairs(self):
         tree = bwtree.Tree(seats=2, keys=500)
@@ -119,7 +165,7 @@ class Calls(unittest.TestCase):
         answers = []
 
         def interrupted(name, ends=True):
-            real = getattr(bwtree._library, name)
+            real = getattr(bwtree_library.library, name)
 
             def call(*words):
                 answers.append(real(*words))
@@ -127,7 +173,7 @@ class Calls(unittest.TestCase):
                     raise KeyboardInterrupt
                 return answers[-1]
 
-            return unittest.mock.patch.object(bwtree._library, name, call)
+            return unittest.mock.patch.object(bwtree_library.library, name, call)
 
         tree = bwtree.Tree(seats=1, keys=10, pairs=[(b"a", b"x"), (b"b", b"y")])
         for _ in range(2):
@@ -144,9 +190,39 @@ class Calls(unittest.TestCase):
         self.assertEqual(answers, [0, 0])
 
     def test_full(self):
-        with bwtree.Tree(seats=1, pids=64, rows=64) as tree, tree.seat() as seat, self.assertRaises(bwtree.Full):
+        with bwtree.Tree(seats=1, pages=64, records=64) as tree, tree.seat() as seat, self.assertRaises(bwtree.Full):
             for i in range(100000):
                 seat[i.to_bytes(4, "big")] = b""
+
+
+    def test_patience(self):
+        """A write waits as long as its seat's patience lasts: in vain where the tree is full for good."""
+        with bwtree.Tree(seats=1, pages=64, records=704) as tree, tree.seat() as seat:
+            self.assertEqual(seat.full_hint(), bwtree.FullHint.PASSED)
+            with self.assertRaises(bwtree.Full):
+                for i in range(100000):
+                    seat[(i * 2654435761 % 2**32).to_bytes(4, "big")] = b""
+            seat.patience, begin = 0.03, time.monotonic()
+            with self.assertRaises(bwtree.Full):
+                seat[(i * 2654435761 % 2**32).to_bytes(4, "big")] = b""
+            self.assertGreaterEqual(time.monotonic() - begin, 0.03)
+            self.assertEqual(seat.full_hint(), bwtree.FullHint.FOR_GOOD)
+
+    def test_waits(self):
+        """A write that is full for a moment is done once there is room."""
+        real, answers = bwtree_library.library.bwtree_raw_upsert, [5, 5, 5]
+        with bwtree.Tree(seats=1, keys=10) as tree, tree.seat() as seat:
+            with unittest.mock.patch.object(bwtree_library.library, "bwtree_raw_upsert", lambda *words: answers.pop() if answers else real(*words)):
+                with self.assertRaises(bwtree.Full):
+                    seat[b"a"] = b"x"
+                seat.patience = 20
+                seat[b"a"] = b"y"
+            self.assertEqual((answers, seat[b"a"], tree.count()), ([], b"y", 1))
+
+    def test_hints(self):
+        for limits, room, hint in (((1, 64, 704, 1, 0), (1, 1), "PASSED"), ((1, 64, 704, 1, 0), (0, 1), "FOR_GOOD"), ((1, 64, 704, 1, 0), (1, 0), "FOR_NOW"),
+                                   ((1, 64, 640, 1, 0), (1, 0), "FOR_GOOD"), ((1, 64, 448, 1, 1), (1, 0), "FOR_NOW"), ((1, 64, 384, 1, 1), (1, 0), "FOR_GOOD")):
+            self.assertEqual(bwtree._hint(bwtree_library.Limits(*limits), bwtree.Room(*room)).name, hint)
 
 
 class Loading(unittest.TestCase):
@@ -154,7 +230,7 @@ class Loading(unittest.TestCase):
         """The module says where it looked for the library, and what to set."""
         nowhere = os.path.join(os.path.dirname(os.path.abspath(__file__)), "nowhere")
         with unittest.mock.patch.dict(os.environ, {"BWTREE_LIB": nowhere}), self.assertRaises(ImportError) as raised:
-            bwtree._load()
+            bwtree_library.load()
         for word in (nowhere, "BWTREE_LIB", "./bwtree build"):
             self.assertIn(word, str(raised.exception))
 

@@ -44,6 +44,14 @@ static void layout(void) {
     CHECK(sizeof(bwtree_bytes) == 72 && sizeof(bwtree_pair) == 144 && sizeof(bwtree_page_pairs) == 8 + 8 + 72 + 24 * 144);
 }
 
+/* The library is of the header's version, and goes with the versions that it has nothing less than. */
+static void version(void) {
+    static const char *const others[] = {"0.1.1", "0.2.99", "0.3.0", "1.2.0", "", "0", "0.2", "0.2.", "0.2.0.", "0.2.0.0", " 0.2.0", "0.2.0 ", "0..0", "0.2.00000", "-0.2.0", "0x0.2.0"};
+    CHECK(!strcmp(bwtree_version(), BWTREE_VERSION) && bwtree_goes_with(BWTREE_VERSION) == 1 && bwtree_goes_with("0.2.0") == 1);
+    CHECK(bwtree_goes_with(NULL) == 0);
+    for (size_t i = 0; i < sizeof others / sizeof *others; i++) CHECK(bwtree_goes_with(others[i]) == 0);
+}
+
 /* All calls on a seat that isn't to be had answer this, and write nothing. */
 static void all_answer(const bwtree *tree, uint32_t seat, uint32_t status) {
     bwtree_bytes old, was;
@@ -56,7 +64,7 @@ static void all_answer(const bwtree *tree, uint32_t seat, uint32_t status) {
     CHECK(bwtree_upsert(tree, seat, "a", 1, "x", 1, &old) == status);
     CHECK(bwtree_delete(tree, seat, "a", 1, &old) == status);
     CHECK(bwtree_delete_if(tree, seat, "a", 1, "x", 1, &old) == status);
-    CHECK(bwtree_swap(tree, seat, "a", 1, "x", 1, "y", 1, &old) == status);
+    CHECK(bwtree_compare_and_set(tree, seat, "a", 1, "x", 1, "y", 1, &old) == status);
     CHECK(bwtree_add(tree, seat, "a", 1, 1, &old) == status);
     CHECK(bwtree_tidy(tree, seat, "a", 1) == status);
     CHECK(bwtree_page(tree, seat, "", 0, &page) == status);
@@ -64,7 +72,7 @@ static void all_answer(const bwtree *tree, uint32_t seat, uint32_t status) {
     CHECK(bwtree_resume(tree, seat, 1, &old, &page) == status);
     CHECK(bwtree_is_idle(tree, seat) == status);
     CHECK(bwtree_free_room(tree, seat, &room) == status);
-    CHECK(!memcmp(&old, &was, sizeof old) && room.free_pids == 7 && room.free_rows == 7);
+    CHECK(!memcmp(&old, &was, sizeof old) && room.free_pages == 7 && room.free_records == 7);
     for (size_t i = 0; i < sizeof page; i++) CHECK(((uint8_t *)&page)[i] == 0x55);
 }
 
@@ -74,17 +82,17 @@ static void limits(void) {
     CHECK(bwtree_limits_for_keys(0, 1, &limits) == BWTREE_BAD_LIMITS);
     CHECK(bwtree_limits_for_keys(17, 1, &limits) == BWTREE_BAD_LIMITS);
     CHECK(bwtree_limits_for_keys(1, 1000000000, &limits) == BWTREE_BAD_LIMITS);
-    CHECK(limits.actors == 1 && limits.pids == 2 && limits.rows == 3 && limits.epoch == 4 && limits.large == 5);
+    CHECK(limits.actors == 1 && limits.pages == 2 && limits.records == 3 && limits.epoch == 4 && limits.large == 5);
     CHECK(bwtree_limits_for_keys(3, 1000, &limits) == BWTREE_OK && limits.actors == 3 && limits.epoch == 1);
-    CHECK(limits.pids % 64 == 0 && limits.pids >= 64 && limits.rows % 64 == 0 && limits.rows >= 64);
-    CHECK(limits.large == 0 && bwtree_limits_for_many_keys(17, 1, &limits) == BWTREE_BAD_LIMITS);
+    CHECK(limits.pages % 64 == 0 && limits.pages >= 64 && limits.records % 64 == 0 && limits.records >= 64);
+    CHECK(limits.large == 0 && bwtree_limits_for_many_keys(64, 1, &limits) == BWTREE_BAD_LIMITS);
     CHECK(bwtree_limits_for_many_keys(2, 1000000000, &limits) == BWTREE_BAD_LIMITS && limits.actors == 3);
     CHECK(bwtree_limits_for_many_keys(2, 1000, &limits) == BWTREE_OK && limits.actors == 2 && limits.large == 1);
     CHECK(bwtree_open(&limits, &tree) == BWTREE_OK && bwtree_close(&tree) == BWTREE_OK);
     static const bwtree_limits bad[] = {{0, 64, 64, 1, 0},   {17, 64, 64, 1, 0},    {1, 0, 64, 1, 0},  {1, 65, 64, 1, 0},
                                         {1, 4160, 64, 1, 0}, {1, 64, 16448, 1, 0},  {1, 64, 63, 1, 0}, {1, 64, 64, 0, 0},
                                         {1, 64, 0, 1, 0},    {1, 64, 64, UINT64_MAX, 0}, {UINT64_MAX, 64, 64, 1, 0}, {1, 64, 64, 1, 2},
-                                        {1, 4194368, 64, 1, 1}, {1, 64, 67108928, 1, 1}, {1, 4160, 63, 1, 1}, {17, 64, 64, 1, 1}};
+                                        {1, 4194368, 64, 1, 1}, {1, 64, 67108928, 1, 1}, {1, 4160, 63, 1, 1}, {64, 64, 64, 1, 1}};
     for (size_t i = 0; i < sizeof bad / sizeof *bad; i++) CHECK(bwtree_open(&bad[i], &tree) == BWTREE_BAD_LIMITS);
     all_answer(&tree, 0, BWTREE_CLOSED);
     CHECK(bwtree_close(&tree) == BWTREE_CLOSED);
@@ -104,15 +112,15 @@ static void nulls(const bwtree *tree) {
     CHECK(bwtree_upsert(tree, 0, NULL, 1, "x", 1, &old) == BWTREE_NULL && bwtree_upsert(tree, 0, "a", 1, NULL, 1, &old) == BWTREE_NULL);
     CHECK(bwtree_upsert(tree, 0, "a", 1, "x", 1, NULL) == BWTREE_NULL);
     CHECK(bwtree_delete(tree, 0, NULL, 1, &old) == BWTREE_NULL && bwtree_delete(tree, 0, "a", 1, NULL) == BWTREE_NULL);
-    CHECK(bwtree_swap(tree, 0, NULL, 1, "x", 1, "y", 1, &old) == BWTREE_NULL && bwtree_swap(tree, 0, "a", 1, NULL, 1, "y", 1, &old) == BWTREE_NULL);
-    CHECK(bwtree_swap(tree, 0, "a", 1, "x", 1, NULL, 1, &old) == BWTREE_NULL && bwtree_swap(tree, 0, "a", 1, "x", 1, "y", 1, NULL) == BWTREE_NULL);
+    CHECK(bwtree_compare_and_set(tree, 0, NULL, 1, "x", 1, "y", 1, &old) == BWTREE_NULL && bwtree_compare_and_set(tree, 0, "a", 1, NULL, 1, "y", 1, &old) == BWTREE_NULL);
+    CHECK(bwtree_compare_and_set(tree, 0, "a", 1, "x", 1, NULL, 1, &old) == BWTREE_NULL && bwtree_compare_and_set(tree, 0, "a", 1, "x", 1, "y", 1, NULL) == BWTREE_NULL);
     CHECK(bwtree_tidy(tree, 0, NULL, 1) == BWTREE_NULL && bwtree_page(tree, 0, NULL, 1, &page) == BWTREE_NULL);
     CHECK(bwtree_page(tree, 0, "", 0, NULL) == BWTREE_NULL && bwtree_resume(tree, 0, 1, NULL, &page) == BWTREE_NULL);
     CHECK(bwtree_resume(tree, 0, 1, &old, NULL) == BWTREE_NULL && bwtree_free_room(tree, 0, NULL) == BWTREE_NULL);
     CHECK(bwtree_free_room(tree, 0, &room) == BWTREE_OK);
     /* null for no bytes is the empty key, and the empty value */
     CHECK(bwtree_insert(tree, 0, NULL, 0, NULL, 0, &old) == BWTREE_OK && bwtree_get(tree, 0, NULL, 0, &old) == BWTREE_OK && old.length == 0);
-    CHECK(bwtree_swap(tree, 0, NULL, 0, NULL, 0, "x", 1, &old) == BWTREE_OK && bwtree_page(tree, 0, NULL, 0, &page) == BWTREE_OK && page.count == 1);
+    CHECK(bwtree_compare_and_set(tree, 0, NULL, 0, NULL, 0, "x", 1, &old) == BWTREE_OK && bwtree_page(tree, 0, NULL, 0, &page) == BWTREE_OK && page.count == 1);
     CHECK(bwtree_tidy(tree, 0, NULL, 0) == BWTREE_OK && bwtree_delete(tree, 0, NULL, 0, &old) == BWTREE_OK && is(&old, "x"));
 }
 
@@ -127,8 +135,8 @@ static void lengths(const bwtree *tree) {
     CHECK(bwtree_insert(tree, 0, long_text, 65, "", 0, &old) == BWTREE_TOO_LONG && bwtree_insert(tree, 0, "a", 1, long_text, 65, &old) == BWTREE_TOO_LONG);
     CHECK(bwtree_upsert(tree, 0, long_text, 65, "", 0, &old) == BWTREE_TOO_LONG && bwtree_upsert(tree, 0, "a", 1, long_text, 65, &old) == BWTREE_TOO_LONG);
     CHECK(bwtree_delete(tree, 0, long_text, 65, &old) == BWTREE_TOO_LONG && bwtree_tidy(tree, 0, long_text, 65) == BWTREE_TOO_LONG);
-    CHECK(bwtree_swap(tree, 0, long_text, 65, "", 0, "", 0, &old) == BWTREE_TOO_LONG && bwtree_swap(tree, 0, "a", 1, long_text, 65, "", 0, &old) == BWTREE_TOO_LONG);
-    CHECK(bwtree_swap(tree, 0, "a", 1, "", 0, long_text, 65, &old) == BWTREE_TOO_LONG && bwtree_page(tree, 0, long_text, 65, &page) == BWTREE_TOO_LONG);
+    CHECK(bwtree_compare_and_set(tree, 0, long_text, 65, "", 0, "", 0, &old) == BWTREE_TOO_LONG && bwtree_compare_and_set(tree, 0, "a", 1, long_text, 65, "", 0, &old) == BWTREE_TOO_LONG);
+    CHECK(bwtree_compare_and_set(tree, 0, "a", 1, "", 0, long_text, 65, &old) == BWTREE_TOO_LONG && bwtree_page(tree, 0, long_text, 65, &page) == BWTREE_TOO_LONG);
     CHECK(old.length == 3 && bwtree_is_idle(tree, 0) == BWTREE_OK);
 }
 
@@ -144,17 +152,17 @@ static void answers(void) {
     all_answer(&tree, 2, BWTREE_NO_SEAT);
     all_answer(&tree, UINT32_MAX, BWTREE_NO_SEAT);
     CHECK(bwtree_is_idle(&tree, 1) == BWTREE_OK && bwtree_free_room(&tree, 0, &before) == BWTREE_OK);
-    CHECK(before.free_pids > 0 && before.free_pids < limits.pids && before.free_rows > 0 && before.free_rows < limits.rows);
+    CHECK(before.free_pages > 0 && before.free_pages < limits.pages && before.free_records > 0 && before.free_records < limits.records);
     CHECK(bwtree_get(&tree, 0, "a", 1, &old) == BWTREE_ABSENT);
     CHECK(bwtree_insert(&tree, 0, "a", 1, "x", 1, &old) == BWTREE_OK);
-    CHECK(bwtree_free_room(&tree, 1, &after) == BWTREE_OK && after.free_pids <= before.free_pids && after.free_rows < before.free_rows);
+    CHECK(bwtree_free_room(&tree, 1, &after) == BWTREE_OK && after.free_pages <= before.free_pages && after.free_records < before.free_records);
     CHECK(bwtree_insert(&tree, 1, "a", 1, "y", 1, &old) == BWTREE_EXISTS && is(&old, "x"));
     CHECK(bwtree_get(&tree, 1, "a", 1, &old) == BWTREE_OK && is(&old, "x"));
     CHECK(bwtree_upsert(&tree, 0, "a", 1, "yy", 2, &old) == BWTREE_REPLACED && is(&old, "x"));
     CHECK(bwtree_upsert(&tree, 0, "b", 1, "", 0, &old) == BWTREE_OK);
-    CHECK(bwtree_swap(&tree, 0, "a", 1, "x", 1, "z", 1, &old) == BWTREE_DIFFERS && is(&old, "yy"));
-    CHECK(bwtree_swap(&tree, 0, "a", 1, "yy", 2, "z", 1, &old) == BWTREE_OK);
-    CHECK(bwtree_swap(&tree, 0, "c", 1, "yy", 2, "z", 1, &old) == BWTREE_ABSENT);
+    CHECK(bwtree_compare_and_set(&tree, 0, "a", 1, "x", 1, "z", 1, &old) == BWTREE_DIFFERS && is(&old, "yy"));
+    CHECK(bwtree_compare_and_set(&tree, 0, "a", 1, "yy", 2, "z", 1, &old) == BWTREE_OK);
+    CHECK(bwtree_compare_and_set(&tree, 0, "c", 1, "yy", 2, "z", 1, &old) == BWTREE_ABSENT);
     CHECK(bwtree_tidy(&tree, 1, "a", 1) == BWTREE_OK);
     CHECK(bwtree_page(&tree, 0, "", 0, &page) == BWTREE_OK && page.count == 2 && page.more == 0);
     CHECK(is(&page.pairs[0].key, "a") && is(&page.pairs[0].value, "z") && is(&page.pairs[1].key, "b") && is(&page.pairs[1].value, ""));
@@ -181,7 +189,7 @@ static void answers(void) {
     limits.actors = 3;
     CHECK(bwtree_open(&limits, &tree) == BWTREE_OK && bwtree_get(&tree, 2, "a", 1, &old) == BWTREE_ABSENT && bwtree_close(&tree) == BWTREE_OK);
     CHECK(earlier.held_ == was.held_);
-    for (uint32_t status = 0; status <= BWTREE_BAD_ORDER; status++)
+    for (uint32_t status = 0; status <= BWTREE_BAD_VERSION; status++)
         CHECK(!strcmp(bwtree_text(status), "no status") == (status > BWTREE_NO_ROOM && status < BWTREE_CLOSED));
 }
 
@@ -239,7 +247,7 @@ static void loads(void) {
         snprintf(key, sizeof key, "%03d", i);
         CHECK(is(&again[i].key, key) && is(&again[i].value, key + 1));
     }
-    limits.pids = limits.rows = 64;
+    limits.pages = limits.records = 64;
     CHECK(bwtree_open_from(&limits, all, 400, &small) == BWTREE_FULL && !memcmp(&was, &small, sizeof was));
 }
 
@@ -290,11 +298,12 @@ static void most_seats(void) {
     for (int is_large = 0; is_large < 2; is_large++) {
         bwtree *tree = &trees[2 * is_large], *later = tree + 1;
         uint64_t count = 0;
-        CHECK((is_large ? bwtree_limits_for_many_keys : bwtree_limits_for_keys)(BWTREE_MAX_SEATS, 100, &limits) == BWTREE_OK);
-        CHECK(bwtree_open(&limits, tree) == BWTREE_OK && bwtree_is_idle(tree, BWTREE_MAX_SEATS) == BWTREE_NO_SEAT);
-        for (uint8_t seat = 0; seat < BWTREE_MAX_SEATS; seat++) CHECK(bwtree_insert(tree, seat, &seat, 1, "x", 1, &old) == BWTREE_OK);
-        CHECK(bwtree_close_pairs(tree, all, BWTREE_MAX_SEATS, &count) == BWTREE_OK && count == BWTREE_MAX_SEATS);
-        for (uint8_t seat = 0; seat < BWTREE_MAX_SEATS; seat++) CHECK(all[seat].key.length == 1 && all[seat].key.bytes[0] == seat && is(&all[seat].value, "x"));
+        uint8_t most = is_large ? BWTREE_MAX_SEATS : BWTREE_MAX_SMALL_SEATS;
+        CHECK((is_large ? bwtree_limits_for_many_keys : bwtree_limits_for_keys)(most, 100, &limits) == BWTREE_OK);
+        CHECK(bwtree_open(&limits, tree) == BWTREE_OK && bwtree_is_idle(tree, most) == BWTREE_NO_SEAT);
+        for (uint8_t seat = 0; seat < most; seat++) CHECK(bwtree_insert(tree, seat, &seat, 1, "x", 1, &old) == BWTREE_OK);
+        CHECK(bwtree_close_pairs(tree, all, most, &count) == BWTREE_OK && count == most);
+        for (uint8_t seat = 0; seat < most; seat++) CHECK(all[seat].key.length == 1 && all[seat].key.bytes[0] == seat && is(&all[seat].value, "x"));
         CHECK(bwtree_open_from(&limits, all, count, later) == BWTREE_OK && bwtree_close(later) == BWTREE_OK);
     }
 }
@@ -443,7 +452,7 @@ static void raise_counter(struct own *own) {
     memcpy(&count, old.bytes, 8);
     next = count + 1;
     uint32_t status;
-    UNTIL_ROOM(status, bwtree_swap(own->tree, own->seat, "counter", 7, &count, 8, &next, 8, &old));
+    UNTIL_ROOM(status, bwtree_compare_and_set(own->tree, own->seat, "counter", 7, &count, 8, &next, 8, &old));
     CHECK(status == BWTREE_OK || status == BWTREE_DIFFERS);
     own->raised += status == BWTREE_OK;
 }
@@ -545,6 +554,7 @@ static void threads(void) {
 
 static void *all(void *unused) {
     layout();
+    version();
     limits();
     answers();
     loads();

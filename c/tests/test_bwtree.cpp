@@ -1,5 +1,6 @@
 // Tests of bwtree.hpp: what it answers and throws, leases, a tree that is moved, and threads.
 #include "bwtree.hpp"
+#include <chrono>
 #include <cstdio>
 #include <cstdlib>
 #include <malloc.h>
@@ -47,16 +48,16 @@ static void answers() {
     auto one = tree.lease(), other = tree.lease();
     const std::string longer(65, 'k');
     CHECK(one.number() == 0 && other.number() == 1);
-    CHECK(!one.get("a") && !one.insert("a", "x") && *other.insert("a", "y") == "x" && *one.upsert("a", "z") == "x" && !one.upsert("", ""));
-    auto lost = one.swap("a", "x", "w");
-    CHECK(!lost && *lost.found == "z" && one.swap("a", "z", "w") && *other.get("a") == "w" && one.get("")->empty());
-    CHECK(!one.swap("b", "x", "w") && !one.swap("b", "x", "w").found && *one.erase("a") == "w" && !one.erase("a"));
+    CHECK(!one.get("a") && one.insert("a", "x") && !other.insert("a", "y") && other.insert("a", "y").found == "x" && *one.upsert("a", "z") == "x" && !one.upsert("", ""));
+    auto lost = one.compare_and_set("a", "x", "w");
+    CHECK(!lost && *lost.found == "z" && one.compare_and_set("a", "z", "w") && *other.get("a") == "w" && one.get("")->empty());
+    CHECK(!one.compare_and_set("b", "x", "w") && !one.compare_and_set("b", "x", "w").found && *one.erase("a") == "w" && !one.erase("a"));
     one.tidy("a");
-    CHECK(one.free_room().free_rows > 0);
-    CHECK(thrown([&] { one.get(longer); }) == BWTREE_TOO_LONG && thrown([&] { one.upsert("a", longer); }) == BWTREE_TOO_LONG);
+    CHECK(one.free_room().free_records > 0);
+    CHECK(thrown([&] { (void)one.get(longer); }) == BWTREE_TOO_LONG && thrown([&] { one.upsert("a", longer); }) == BWTREE_TOO_LONG);
     CHECK(thrown([&] { one.walk(longer, [](auto, auto) { return true; }); }) == BWTREE_TOO_LONG);
     CHECK(thrown([] { bw::tree::for_keys(17, 1); }) == BWTREE_BAD_LIMITS);
-    CHECK(thrown([] { bw::tree::for_many_keys(17, 1); }) == BWTREE_BAD_LIMITS && !bw::tree::for_many_keys(1, 100).lease().get("a"));
+    CHECK(thrown([] { bw::tree::for_many_keys(64, 1); }) == BWTREE_BAD_LIMITS && !bw::tree::for_many_keys(1, 100).lease().get("a"));
     CHECK(thrown([] { bw::tree(bwtree_limits{1, 63, 64, 1, 0}); }) == BWTREE_BAD_LIMITS);
 }
 
@@ -71,11 +72,11 @@ static void loads() {
     auto tree = bw::tree::from(limits, pairs);
     {
         auto seat = tree.lease();
-        CHECK(thrown([&] { tree.close_with_pairs(); }) == BWTREE_BUSY && *seat.erase("b") == "");
+        CHECK(thrown([&] { (void)tree.close_with_pairs(); }) == BWTREE_BUSY && *seat.erase("b") == "");
     }
     pairs.erase(pairs.begin() + 1);
-    CHECK(tree.close_with_pairs() == pairs && thrown([&] { tree.close_with_pairs(); }) == BWTREE_CLOSED);
-    CHECK(thrown([&] { tree.lease().get("a"); }) == BWTREE_CLOSED && bw::tree::for_keys(1, 100).close_with_pairs().empty());
+    CHECK(tree.close_with_pairs() == pairs && thrown([&] { (void)tree.close_with_pairs(); }) == BWTREE_CLOSED);
+    CHECK(thrown([&] { (void)tree.lease().get("a"); }) == BWTREE_CLOSED && bw::tree::for_keys(1, 100).close_with_pairs().empty());
     pairs[0].second = std::string(65, 'v');
     CHECK(thrown([&] { bw::tree::from(limits, pairs); }) == BWTREE_TOO_LONG);
 }
@@ -96,7 +97,7 @@ static void refusals() {
         } catch (const std::bad_alloc &) {
             CHECK(growths == 0 && moved.close_with_pairs() == pairs);
         }
-        CHECK(thrown([&] { moved.close_with_pairs(); }) == BWTREE_CLOSED);
+        CHECK(thrown([&] { (void)moved.close_with_pairs(); }) == BWTREE_CLOSED);
     }
     CHECK(refused > 4);
 }
@@ -123,7 +124,7 @@ static void ends() {
         tree = bw::tree(limits);
         seat = tree.lease();
         bw::tree(limits).close();
-        bw::tree(limits).close_with_pairs();
+        (void)bw::tree(limits).close_with_pairs();
     }
     CHECK(held() < before + (size_t(1) << 18));
 }
@@ -133,14 +134,14 @@ static void leases() {
     {
         auto seat = tree.lease();
         seat.insert("a", "x");
-        CHECK(!tree.try_lease() && thrown([&] { tree.lease(); }) == BWTREE_BUSY && thrown([&] { tree.close(); }) == BWTREE_BUSY);
+        CHECK(!tree.try_lease() && thrown([&] { (void)tree.lease(); }) == BWTREE_BUSY && thrown([&] { tree.close(); }) == BWTREE_BUSY);
         auto moved = std::move(seat);
-        CHECK(*moved.get("a") == "x" && thrown([&] { seat.get("a"); }) == BWTREE_NULL);
+        CHECK(*moved.get("a") == "x" && thrown([&] { (void)seat.get("a"); }) == BWTREE_NULL);
     }
     auto moved = std::move(tree);
-    CHECK(thrown([&] { tree.lease(); }) == BWTREE_CLOSED && *moved.lease().get("a") == "x");
+    CHECK(thrown([&] { (void)tree.lease(); }) == BWTREE_CLOSED && *moved.lease().get("a") == "x");
     moved.close();
-    CHECK(thrown([&] { moved.lease().get("a"); }) == BWTREE_CLOSED && thrown([&] { moved.close(); }) == BWTREE_CLOSED);
+    CHECK(thrown([&] { (void)moved.lease().get("a"); }) == BWTREE_CLOSED && thrown([&] { moved.close(); }) == BWTREE_CLOSED);
     // a seat outlives its tree's object
     std::optional<bw::seat> last;
     {
@@ -182,14 +183,45 @@ static void threads() {
     for (int t = 0; t < 8; t++) std::thread([&tree] { CHECK(tree.lease().get("0/0")); }).join();
 }
 
+// As many seats as a large tree lends at most.
+static void most_seats() {
+    auto tree = bw::tree::for_many_keys(BWTREE_MAX_SEATS, 100);
+    {
+        std::vector<bw::seat> seats;
+        while (auto seat = tree.try_lease()) seats.push_back(std::move(*seat));
+        CHECK(seats.size() == BWTREE_MAX_SEATS && seats.back().number() == BWTREE_MAX_SEATS - 1);
+        for (auto &seat : seats) CHECK(seat.insert(std::string(1, char(seat.number())), "x"));
+        CHECK(thrown([&] { tree.close(); }) == BWTREE_BUSY);
+    }
+    CHECK(tree.size() == BWTREE_MAX_SEATS && *tree.lease().get(std::string(1, char(BWTREE_MAX_SEATS - 1))) == "x");
+    tree.close();
+}
+
+// A write waits as long as its seat's patience lasts: in vain where the tree is full for good.
+static void waits() {
+    auto tree = bw::tree(bwtree_limits{1, 64, 704, 1, 0});
+    auto seat = tree.lease();
+    uint32_t i = 0;
+    CHECK(seat.full_hint() == BWTREE_FULL_PASSED);
+    while (!thrown([&] { seat.insert(std::to_string(i * 2654435761u), "x"); })) i++;
+    auto begin = std::chrono::steady_clock::now();
+    seat.set_patience(std::chrono::milliseconds(30));
+    auto next = std::move(seat);
+    CHECK(thrown([&] { next.insert(std::to_string(i * 2654435761u), "x"); }) == BWTREE_FULL && next.full_hint() == BWTREE_FULL_FOR_GOOD);
+    CHECK(std::chrono::steady_clock::now() - begin >= std::chrono::milliseconds(30));
+    CHECK(thrown([&] { (void)seat.full_hint(); }) == BWTREE_NULL && next.get(std::to_string(0)) == "x");
+}
+
 int main() {
     answers();
+    waits();
     loads();
     ends();
 #if HAS_OWN_NEW
     refusals();
 #endif
     leases();
+    most_seats();
     threads();
     puts("passed");
 }

@@ -56,7 +56,7 @@ static void call(const bwtree *tree) {
         uint32_t seat = i % 2;
         CHECK(bwtree_upsert(tree, seat, key, length, key, length, &old) <= BWTREE_REPLACED);
         CHECK(bwtree_get(tree, seat, key, length, &old) == BWTREE_OK);
-        CHECK(bwtree_swap(tree, seat, key, length, "x", 1, "y", 1, &old) == BWTREE_DIFFERS);
+        CHECK(bwtree_compare_and_set(tree, seat, key, length, "x", 1, "y", 1, &old) == BWTREE_DIFFERS);
         if (i % 3 == 0) CHECK(bwtree_delete(tree, seat, key, length, &old) == BWTREE_OK);
         if (i % 5 == 0) CHECK(bwtree_insert(tree, seat, key, length, key, length, &old) <= BWTREE_EXISTS);
         CHECK(bwtree_tidy(tree, seat, key, length) == BWTREE_OK);

@@ -24,7 +24,7 @@ static void answers() {
     auto tree = bw::tree::for_keys(2, 100);
     auto one = tree.lease(), other = tree.lease();
     const std::string longer(65, 'k');
-    CHECK(!one.replace("a", "x") && !one.get("a") && !one.insert("a", "x") && *other.replace("a", "y") == "x" && *one.get("a") == "y");
+    CHECK(!one.replace("a", "x") && !one.get("a") && one.insert("a", "x") && *other.replace("a", "y") == "x" && *one.get("a") == "y");
     CHECK(!one.erase_if("a", "x") && *one.erase_if("a", "x").found == "y" && !one.erase_if("b", "x").found && tree.size() == 1);
     CHECK(other.erase_if("a", "y") && !other.get("a") && tree.size() == 0);
     auto first = one.add("n", 5), second = other.add("n", UINT64_MAX);
@@ -32,11 +32,11 @@ static void answers() {
     one.upsert("n", "text");
     auto third = one.add("n", 1);
     CHECK(!third && !third.old && *third.found == "text");
-    CHECK(thrown([&] { one.add(longer, 1); }) == BWTREE_TOO_LONG && thrown([&] { one.erase_if("a", longer); }) == BWTREE_TOO_LONG);
-    CHECK(thrown([&] { one.floor(longer); }) == BWTREE_TOO_LONG && thrown([&] { one.replace("n", longer); }) == BWTREE_TOO_LONG);
+    CHECK(thrown([&] { one.add(longer, 1); }) == BWTREE_TOO_LONG && thrown([&] { (void)one.erase_if("a", longer); }) == BWTREE_TOO_LONG);
+    CHECK(thrown([&] { (void)one.floor(longer); }) == BWTREE_TOO_LONG && thrown([&] { one.replace("n", longer); }) == BWTREE_TOO_LONG);
     CHECK(thrown([&] { bw::range::below(longer); }) == BWTREE_TOO_LONG && thrown([&] { bw::range::prefix(longer); }) == BWTREE_TOO_LONG);
     auto moved = std::move(one);
-    CHECK(thrown([&] { one.add("a", 1); }) == BWTREE_NULL && thrown([&] { one.last(); }) == BWTREE_NULL && moved.last()->first == "n");
+    CHECK(thrown([&] { one.add("a", 1); }) == BWTREE_NULL && thrown([&] { (void)one.last(); }) == BWTREE_NULL && moved.last()->first == "n");
 }
 
 static pairs shown(bw::seat &seat, const bw::range &range, bool back) {
@@ -60,7 +60,7 @@ static void walks() {
     CHECK(!seat.first() && !seat.last());
     for (int i = 0; i < 600; i++) {
         std::string key = drawn();
-        CHECK(!seat.insert(key, key + "v") == model.emplace(key, key + "v").second);
+        CHECK(bool(seat.insert(key, key + "v")) == model.emplace(key, key + "v").second);
     }
     auto is = [&](const std::optional<bw::pair> &found, auto place, bool none) {
         return none ? !found : found && found->first == place->first && found->second == place->second;
@@ -131,7 +131,30 @@ static void counts() {
     CHECK(given.size() == 2 && given.lease().erase("a") && given.size() == 1);
 }
 
+// Loops over pairs, and lookups that take no memory.
+static void loops() {
+    auto tree = bw::tree::for_keys(1, 1000);
+    auto seat = tree.lease();
+    std::string forward, backward;
+    for (auto [key, value] : seat.pairs()) CHECK(key == value && key.empty());
+    for (char c = 'a'; c <= 'z'; c++)
+        for (char d = 'a'; d <= 'e'; d++) seat.upsert(std::string{c, d}, std::string(1, c));
+    for (auto [key, value] : seat.pairs()) {
+        CHECK(key.substr(0, 1) == value);
+        forward += key;
+    }
+    CHECK(forward.size() == 26 * 5 * 2 && forward.substr(0, 4) == "aaab" && forward.substr(256) == "zdze");
+    for (auto [key, value] : seat.pairs_back(bw::range::between("b", "d"))) backward += key;
+    CHECK(backward == "cecdcccbcabebdbcbbba");
+    auto two = seat.pairs(bw::range::prefix("c"));
+    auto at = two.begin();
+    CHECK((*at).first == "ca" && (*++at).first == "cb" && at != two.end() && two.end() == two.end());
+    bwtree_bytes bytes;
+    CHECK(seat.contains("aa") && !seat.contains("a") && seat.get("zz", bytes) == std::nullopt && seat.get("ze", bytes) == "z");
+}
+
 int main() {
+    loops();
     answers();
     walks();
     keys();

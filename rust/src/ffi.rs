@@ -1,4 +1,5 @@
 //! The declarations of c/bwtree.h.
+use std::ffi::{c_char, c_int};
 use std::mem::{align_of, size_of};
 
 pub(crate) const OK: u32 = 0;
@@ -12,6 +13,7 @@ pub(crate) const TOO_LONG: u32 = 21;
 pub(crate) const BAD_LIMITS: u32 = 22;
 pub(crate) const NO_MEMORY: u32 = 23;
 pub(crate) const BAD_ORDER: u32 = 26;
+pub(crate) const BAD_VERSION: u32 = 27;
 
 #[repr(C)]
 pub(crate) struct RawTree {
@@ -23,16 +25,16 @@ pub(crate) struct RawTree {
 #[derive(Default)]
 pub(crate) struct RawLimits {
     pub actors: u64,
-    pub pids: u64,
-    pub rows: u64,
+    pub pages: u64,
+    pub records: u64,
     pub epoch: u64,
     pub large: u64,
 }
 
 #[repr(C)]
 pub(crate) struct RawRoom {
-    pub free_pids: u64,
-    pub free_rows: u64,
+    pub free_pages: u64,
+    pub free_records: u64,
 }
 
 #[repr(C)]
@@ -83,6 +85,7 @@ impl RawPage {
 }
 
 extern "C" {
+    fn bwtree_goes_with(version: *const c_char) -> c_int;
     pub(crate) fn bwtree_raw_limits_for_keys(actors: u64, keys: u64, limits: *mut RawLimits) -> u32;
     pub(crate) fn bwtree_raw_limits_for_many_keys(actors: u64, keys: u64, limits: *mut RawLimits) -> u32;
     pub(crate) fn bwtree_raw_open(limits: *const RawLimits, tree: *mut RawTree) -> u32;
@@ -139,3 +142,10 @@ extern "C" {
 
 const _: () = assert!(size_of::<RawTree>() == 16 && size_of::<RawLimits>() == 40 && size_of::<RawRoom>() == 16);
 const _: () = assert!(size_of::<RawBytes>() == 72 && size_of::<RawPair>() == 144 && size_of::<RawPage>() == 3544 && align_of::<RawPage>() == 8);
+
+/// Whether the library goes with this version of the crate.
+pub(crate) fn goes_with_this() -> bool {
+    const VERSION: &str = concat!(env!("CARGO_PKG_VERSION"), "\0");
+    // SAFETY: the text ends with a zero, and is only read.
+    unsafe { bwtree_goes_with(VERSION.as_ptr().cast()) == 1 }
+}

@@ -46,21 +46,37 @@ impl<'tree> Seat<'tree> {
     }
 
     /// The pair of the least key. As with the functions below, the answer is atomic if the first page that is read has a pair; otherwise it is a walk's.
+    ///
+    /// # Errors
+    ///
+    /// None: no key is too long.
     pub fn first(&mut self) -> Result<Option<Pair>> {
         self.pairs().next().transpose()
     }
 
     /// The pair of the greatest key.
+    ///
+    /// # Errors
+    ///
+    /// None: no key is too long.
     pub fn last(&mut self) -> Result<Option<Pair>> {
         self.pairs().next_back().transpose()
     }
 
     /// The pair of the least key that isn't below this one.
+    ///
+    /// # Errors
+    ///
+    /// [`Error::TooLong`].
     pub fn ceiling(&mut self, key: &[u8]) -> Result<Option<Pair>> {
         self.pairs_from(key).next().transpose()
     }
 
     /// The pair of the least key above this one.
+    ///
+    /// # Errors
+    ///
+    /// [`Error::TooLong`].
     pub fn higher(&mut self, key: &[u8]) -> Result<Option<Pair>> {
         match after(key)? {
             Some(from) => self.ceiling(&from),
@@ -69,11 +85,19 @@ impl<'tree> Seat<'tree> {
     }
 
     /// The pair of the greatest key that isn't above this one.
+    ///
+    /// # Errors
+    ///
+    /// [`Error::TooLong`].
     pub fn floor(&mut self, key: &[u8]) -> Result<Option<Pair>> {
         Pairs::between(self, &[], Some(place_behind(key)), is_long(key)).next_back().transpose()
     }
 
     /// The pair of the greatest key below this one.
+    ///
+    /// # Errors
+    ///
+    /// [`Error::TooLong`].
     pub fn lower(&mut self, key: &[u8]) -> Result<Option<Pair>> {
         Pairs::between(self, &[], Some(key.to_vec()), is_long(key)).next_back().transpose()
     }
@@ -89,6 +113,22 @@ struct End {
 impl End {
     fn at(key: Option<Vec<u8>>) -> End {
         End { page: Box::new(RawPage::EMPTY), shown: 0, next: key.and_then(|key| RawBytes::of(&key)) }
+    }
+}
+
+impl<'seat, 'tree> IntoIterator for &'seat mut Seat<'tree> {
+    type Item = Result<Pair>;
+    type IntoIter = Pairs<'seat, 'tree>;
+
+    /// All pairs, keys ascending.
+    fn into_iter(self) -> Pairs<'seat, 'tree> {
+        self.pairs()
+    }
+}
+
+impl std::fmt::Debug for Pairs<'_, '_> {
+    fn fmt(&self, f: &mut std::fmt::Formatter<'_>) -> std::fmt::Result {
+        f.debug_struct("Pairs").field("from", &self.from).field("below", &self.below).finish_non_exhaustive()
     }
 }
 

@@ -1,4 +1,5 @@
-use bwtree::{Error, Limits, Pairs, Seat, Swap, Tree};
+use bwtree::{CompareAndSet, Error, FullHint, Limits, Pairs, Room, Seat, Tree};
+use std::time::{Duration, Instant};
 
 #[test]
 fn calls_are_answered() {
@@ -8,16 +9,16 @@ fn calls_are_answered() {
     assert_eq!(seat.insert(b"a", b"x"), Ok(None));
     assert_eq!(other.insert(b"a", b"y"), Ok(Some(b"x".to_vec())));
     assert_eq!(seat.upsert(b"a", b"z"), Ok(Some(b"x".to_vec())));
-    assert_eq!(seat.swap(b"a", b"x", b"w"), Ok(Swap::Differs(b"z".to_vec())));
-    assert_eq!(seat.swap(b"a", b"z", b"w"), Ok(Swap::Swapped));
-    assert_eq!(seat.swap(b"b", b"z", b"w"), Ok(Swap::Absent));
+    assert_eq!(seat.compare_and_set(b"a", b"x", b"w"), Ok(CompareAndSet::Differs(b"z".to_vec())));
+    assert_eq!(seat.compare_and_set(b"a", b"z", b"w"), Ok(CompareAndSet::Set));
+    assert_eq!(seat.compare_and_set(b"b", b"z", b"w"), Ok(CompareAndSet::Absent));
     assert_eq!(seat.tidy(b"a"), Ok(()));
     assert_eq!(other.get(b"a"), Ok(Some(b"w".to_vec())));
     assert_eq!(seat.delete(b"a"), Ok(Some(b"w".to_vec())));
     assert_eq!(seat.delete(b"a"), Ok(None));
     assert_eq!(seat.upsert(b"", b""), Ok(None));
     assert_eq!(seat.get(b""), Ok(Some(Vec::new())));
-    assert!(seat.room().free_rows > 0);
+    assert!(seat.room().free_records > 0);
 }
 
 #[test]
@@ -34,9 +35,10 @@ fn lengths_are_tested() {
 #[test]
 fn limits_are_tested() {
     assert_eq!(Limits::for_keys(17, 1), Err(Error::BadLimits));
-    assert_eq!(Tree::open(Limits { actors: 1, pids: 63, rows: 64, large: false }).err(), Some(Error::BadLimits));
-    assert_eq!(Tree::open(Limits { actors: 0, pids: 64, rows: 64, large: false }).err(), Some(Error::BadLimits));
-    assert_eq!(Tree::open(Limits { actors: u64::MAX, pids: 64, rows: 64, large: false }).err(), Some(Error::BadLimits));
+    assert_eq!(Limits::for_many_keys(64, 1), Err(Error::BadLimits));
+    assert_eq!(Tree::open(Limits { actors: 1, pages: 63, records: 64, large: false }).err(), Some(Error::BadLimits));
+    assert_eq!(Tree::open(Limits { actors: 0, pages: 64, records: 64, large: false }).err(), Some(Error::BadLimits));
+    assert_eq!(Tree::open(Limits { actors: u64::MAX, pages: 64, records: 64, large: false }).err(), Some(Error::BadLimits));
 }
 
 #[test]
@@ -51,15 +53,27 @@ fn a_large_tree_takes_more_keys() {
 }
 
 #[test]
+fn a_large_tree_lends_63_seats() {
+    let tree = Tree::for_many_keys(63, 100).unwrap();
+    let mut seats: Vec<_> = (0..63).map(|_| tree.seat().unwrap()).collect();
+    assert!(tree.seat().is_none());
+    for (seat, key) in seats.iter_mut().zip(0u8..) {
+        assert_eq!(seat.insert(&[key], b"x"), Ok(None));
+    }
+    drop(seats);
+    assert_eq!((tree.len(), tree.seat().unwrap().get(&[62])), (63, Ok(Some(b"x".to_vec()))));
+}
+
+#[test]
 fn trees_are_opened_with_pairs() {
-    let limits = Limits { actors: 2, pids: 64, rows: 256, large: false };
+    let limits = Limits { actors: 2, pages: 64, records: 256, large: false };
     let pairs: Vec<(Vec<u8>, Vec<u8>)> = (0..60u8).map(|i| (vec![i], vec![i, i])).collect();
     let tree = Tree::open_from(limits, pairs.iter().map(|(key, value)| (key, value))).unwrap();
     assert_eq!(tree.seat().unwrap().pairs_from(b"").collect::<Result<Vec<_>, _>>(), Ok(pairs.clone()));
     assert_eq!(Tree::open_from(limits, pairs.iter().rev().map(|(key, value)| (key, value))).err(), Some(Error::BadOrder));
     assert_eq!(Tree::open_from(limits, [(b"a", [0; 65])]).err(), Some(Error::TooLong));
     let many = (0..4000u32).map(|i| (i.to_be_bytes(), b""));
-    assert_eq!(Tree::open_from(Limits { rows: 64, ..limits }, many).err(), Some(Error::Full));
+    assert_eq!(Tree::open_from(Limits { records: 64, ..limits }, many).err(), Some(Error::Full));
     assert_eq!(Tree::open_from(limits, [(b"", b""); 0]).unwrap().seat().unwrap().get(b""), Ok(None));
 }
 
@@ -91,7 +105,7 @@ fn seats_are_lent() {
 
 #[test]
 fn a_small_tree_is_full() {
-    let tree = Tree::open(Limits { actors: 1, pids: 64, rows: 64, large: false }).unwrap();
+    let tree = Tree::open(Limits { actors: 1, pages: 64, records: 64, large: false }).unwrap();
     let mut seat = tree.seat().unwrap();
     let error = (0..100_000u32).find_map(|i| seat.insert(&i.to_be_bytes(), b"").err());
     assert_eq!(error, Some(Error::Full));
@@ -147,4 +161,33 @@ fn types_cross_threads() {
     is_sent::<Seat<'static>>();
     is_sent::<Pairs<'static, 'static>>();
     <Seat<'static> as IsNotShared<_>>::told();
+}
+
+/// A write waits as long as its seat's patience lasts: in vain where the tree is full for good.
+#[test]
+fn writes_wait_while_the_tree_is_full() {
+    let tree = Tree::open(Limits { actors: 1, pages: 64, records: 704, large: false }).unwrap();
+    let mut seat = tree.seat().unwrap();
+    assert_eq!(seat.full_hint(), FullHint::Passed);
+    let mut keys = (0..100_000u32).map(|i| i.wrapping_mul(2_654_435_761).to_be_bytes());
+    let key = keys.find(|key| seat.insert(key, b"") == Err(Error::Full)).unwrap();
+    seat.set_patience(Duration::from_millis(30));
+    let begin = Instant::now();
+    assert_eq!(seat.insert(&key, b""), Err(Error::Full));
+    assert!(begin.elapsed() >= Duration::from_millis(30));
+    assert_eq!(seat.full_hint(), FullHint::ForGood);
+}
+
+#[test]
+fn hints_are_of_limits_and_room() {
+    let hint = |actors, records, large, free_pages, free_records| {
+        FullHint::of(&Limits { actors, pages: 64, records, large }, &Room { free_pages, free_records })
+    };
+    assert_eq!(hint(1, 704, false, 1, 1), FullHint::Passed);
+    assert_eq!(hint(1, 704, false, 0, 1), FullHint::ForGood);
+    assert_eq!(hint(1, 704, false, 1, 0), FullHint::ForNow);
+    assert_eq!(hint(1, 640, false, 1, 0), FullHint::ForGood);
+    assert_eq!(hint(2, 768, false, 60, 0), FullHint::ForGood);
+    assert_eq!(hint(1, 448, true, 1, 0), FullHint::ForNow);
+    assert_eq!(hint(1, 384, true, 1, 0), FullHint::ForGood);
 }

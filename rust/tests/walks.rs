@@ -146,6 +146,28 @@ fn sums_and_counts_are_exact_at_rest() {
     let mut seat = tree.seat().unwrap();
     assert_eq!(seat.get(b"sum"), Ok(Some(keys::of(4 * 999 * 1_000 / 2u64))));
     assert_eq!(tree.len(), seat.pairs().rev().count());
-    let given = Tree::open_from(Limits { actors: 1, pids: 64, rows: 256, large: false }, [(b"a", b"x"), (b"b", b"y")]).unwrap();
+    let given = Tree::open_from(Limits { actors: 1, pages: 64, records: 256, large: false }, [(b"a", b"x"), (b"b", b"y")]).unwrap();
     assert_eq!((given.seat().unwrap().delete(b"a"), given.len()), (Ok(Some(b"x".to_vec())), 1));
+}
+
+#[test]
+fn seats_are_walked_by_loops() {
+    let tree = std::sync::Arc::new(Tree::for_keys(2, 100).unwrap());
+    let mut seat = Tree::seat_of(&tree).unwrap();
+    let kept = std::sync::Arc::downgrade(&tree);
+    drop(tree);
+    let thread = std::thread::spawn(move || {
+        assert_eq!(
+            (seat.upsert(b"b", b"y"), seat.upsert(b"a", b"x"), seat.contains_key(b"a"), seat.contains_key(b"c")),
+            (Ok(None), Ok(None), Ok(true), Ok(false))
+        );
+        let mut keys = Vec::new();
+        for pair in &mut seat {
+            keys.push(pair.unwrap().0);
+        }
+        assert_eq!(format!("{:?}", seat.pairs()), "Pairs { from: [], below: None, .. }");
+        keys
+    });
+    assert_eq!(thread.join().unwrap(), [b"a", b"b"]);
+    assert!(kept.upgrade().is_none());
 }

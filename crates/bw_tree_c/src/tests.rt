@@ -121,24 +121,28 @@ fn told_of_handles(alloc: Global) -> [u32; 14] {
 }
 
 /// What openings of large trees answer, and of limits of neither kind.
-fn told_of_large(alloc: Global) -> [u32; 5] {
+fn told_of_large(alloc: Global) -> [u32; 7] {
     let mut tree = TreeHandle::unopened();
     let mut limits = no_limits();
+    let mut old = no_bytes();
     let told = [
-        bwtree_raw_limits_for_many_keys(17, 100, &mut limits),
-        bwtree_raw_limits_for_many_keys(2, 100, &mut limits),
+        bwtree_raw_limits_for_many_keys(64, 100, &mut limits),
+        bwtree_raw_limits_for_many_keys(63, 100, &mut limits),
         bwtree_raw_open(alloc, &limits, &mut tree),
+        bwtree_raw_get(&tree, 62, b"a", &mut old),
+        bwtree_raw_get(&tree, 63, b"a", &mut old),
         bwtree_raw_close(&tree),
     ];
     limits.large = 2;
-    let [first, second, third, fourth] = told;
+    let [first, second, third, fourth, fifth, sixth] = told;
     let last = bwtree_raw_open(alloc, &limits, &mut tree);
-    [first, second, third, fourth, last]
+    [first, second, third, fourth, fifth, sixth, last]
 }
 
 #[test]
 fn large_trees_are_opened(rt: HostRuntime) {
-    assert!(rt; told_of_large(rt.alloc()) == [BAD_LIMITS, OK, OK, OK, BAD_LIMITS]);
+    let wanted = [BAD_LIMITS, OK, OK, ABSENT, NO_SEAT, OK, BAD_LIMITS];
+    assert!(rt; told_of_large(rt.alloc()) == wanted);
 }
 
 #[test]

@@ -1,0 +1,225 @@
+//! A seat, and the calls on it.
+use crate::ffi::*;
+use crate::{settled, Add, CompareAndSet, DeleteIf, Error, Result, Tree, MAX_LENGTH, STEPS};
+use std::cell::Cell;
+use std::marker::PhantomData;
+use std::ops::Deref;
+use std::sync::atomic::Ordering::{Relaxed, SeqCst};
+use std::sync::Arc;
+use std::time::Duration;
+
+/// The value that goes with one of the statuses.
+fn shown(status: u32, old: &RawBytes, with_value: u32) -> Option<Vec<u8>> {
+    (status == with_value).then(|| old.as_slice().to_vec())
+}
+
+/// A seat's tree: lent to it, or a share of its own.
+#[derive(Debug)]
+pub(crate) enum Share<'tree> {
+    Lent(&'tree Tree),
+    Kept(Arc<Tree>),
+}
+
+impl Deref for Share<'_> {
+    type Target = Tree;
+
+    fn deref(&self) -> &Tree {
+        match self {
+            Share::Lent(tree) => tree,
+            Share::Kept(tree) => tree,
+        }
+    }
+}
+
+/// A seat of a tree, where one thread at a time calls it: it is `Send`, and not `Sync`.
+#[derive(Debug)]
+pub struct Seat<'tree> {
+    pub(crate) tree: Share<'tree>,
+    pub(crate) number: u32,
+    pub(crate) patience: Duration,
+    alone: PhantomData<Cell<()>>,
+}
+
+impl<'tree> Seat<'tree> {
+    /// A seat whose number was leased.
+    pub(crate) fn new(tree: Share<'tree>, number: u32) -> Seat<'tree> {
+        Seat { tree, number, patience: Duration::ZERO, alone: PhantomData }
+    }
+}
+
+impl Drop for Seat<'_> {
+    fn drop(&mut self) {
+        self.tree.free.fetch_or(1 << self.number, SeqCst);
+    }
+}
+
+impl Seat<'_> {
+    pub(crate) fn handle(&self) -> *const RawTree {
+        &*self.tree.handle
+    }
+
+    /// What an operation came to; it is resumed until it is done.
+    pub(crate) fn done(&mut self, mut status: u32, old: &mut RawBytes) -> Result<u32> {
+        if status == SPENT {
+            let mut page = Box::new(RawPage::EMPTY);
+            while status == SPENT {
+                status = unsafe { bwtree_raw_resume(self.handle(), self.number, STEPS, old, &mut *page) };
+            }
+        }
+        settled(status)
+    }
+
+    /// What a write came to that changes the number of keys by this where it is OK.
+    fn counted(&mut self, more: i64, old: &mut RawBytes, call: impl Fn(*const RawTree, u32, &mut RawBytes) -> u32) -> Result<u32> {
+        let status = self.written(old, call)?;
+        if status == OK {
+            self.tree.counts[self.number as usize].0.fetch_add(more, Relaxed);
+        }
+        Ok(status)
+    }
+
+    /// The value of a key.
+    ///
+    /// # Errors
+    ///
+    /// [`Error::TooLong`].
+    pub fn get(&mut self, key: &[u8]) -> Result<Option<Vec<u8>>> {
+        let mut value = RawBytes::EMPTY;
+        let status = unsafe { bwtree_raw_get(self.handle(), self.number, key.as_ptr(), key.len(), &mut value) };
+        Ok(shown(self.done(status, &mut value)?, &value, OK))
+    }
+
+    /// Whether a key has a value.
+    ///
+    /// # Errors
+    ///
+    /// [`Error::TooLong`].
+    pub fn contains_key(&mut self, key: &[u8]) -> Result<bool> {
+        let mut value = RawBytes::EMPTY;
+        // SAFETY: the slice and `value` live as long as the call.
+        let status = unsafe { bwtree_raw_get(self.handle(), self.number, key.as_ptr(), key.len(), &mut value) };
+        Ok(self.done(status, &mut value)? == OK)
+    }
+
+    /// Gives a key a value where it has none: the value that it has, if it has one.
+    ///
+    /// # Errors
+    ///
+    /// [`Error::TooLong`]; [`Error::Full`] where nothing was free for the change, and no key was changed.
+    pub fn insert(&mut self, key: &[u8], value: &[u8]) -> Result<Option<Vec<u8>>> {
+        let mut old = RawBytes::EMPTY;
+        // SAFETY: the slices and `old` live as long as the call.
+        let status = self.counted(1, &mut old, |tree, seat, old| unsafe {
+            bwtree_raw_insert(tree, seat, key.as_ptr(), key.len(), value.as_ptr(), value.len(), old)
+        })?;
+        Ok(shown(status, &old, EXISTS))
+    }
+
+    /// Gives a key a value: the one that it had before, if it had one.
+    ///
+    /// # Errors
+    ///
+    /// [`Error::TooLong`]; [`Error::Full`] where nothing was free for the change, and no key was changed.
+    pub fn upsert(&mut self, key: &[u8], value: &[u8]) -> Result<Option<Vec<u8>>> {
+        let mut old = RawBytes::EMPTY;
+        // SAFETY: the slices and `old` live as long as the call.
+        let status = self.counted(1, &mut old, |tree, seat, old| unsafe {
+            bwtree_raw_upsert(tree, seat, key.as_ptr(), key.len(), value.as_ptr(), value.len(), old)
+        })?;
+        Ok(shown(status, &old, REPLACED))
+    }
+
+    /// Gives a key a value where it has one: the value that it had. It makes several calls, and takes effect atomically in the last one.
+    ///
+    /// # Errors
+    ///
+    /// [`Error::TooLong`]; [`Error::Full`] where nothing was free for the change, and no key was changed.
+    pub fn replace(&mut self, key: &[u8], value: &[u8]) -> Result<Option<Vec<u8>>> {
+        if value.len() > MAX_LENGTH {
+            return Err(Error::TooLong);
+        }
+        let mut old = self.get(key)?;
+        while let Some(expected) = old {
+            old = match self.compare_and_set(key, &expected, value)? {
+                CompareAndSet::Set => return Ok(Some(expected)),
+                CompareAndSet::Differs(found) => Some(found),
+                CompareAndSet::Absent => None,
+            }
+        }
+        Ok(None)
+    }
+
+    /// Makes a key absent: the value that it had.
+    ///
+    /// # Errors
+    ///
+    /// [`Error::TooLong`]; [`Error::Full`] where nothing was free for the change, and no key was changed.
+    pub fn delete(&mut self, key: &[u8]) -> Result<Option<Vec<u8>>> {
+        let mut old = RawBytes::EMPTY;
+        // SAFETY: the slice and `old` live as long as the call.
+        let status = self.counted(-1, &mut old, |tree, seat, old| unsafe { bwtree_raw_delete(tree, seat, key.as_ptr(), key.len(), old) })?;
+        Ok(shown(status, &old, OK))
+    }
+
+    /// Makes a key absent where it has the expected value.
+    ///
+    /// # Errors
+    ///
+    /// [`Error::TooLong`]; [`Error::Full`] where nothing was free for the change, and no key was changed.
+    pub fn delete_if(&mut self, key: &[u8], expected: &[u8]) -> Result<DeleteIf> {
+        let mut old = RawBytes::EMPTY;
+        // SAFETY: the slices and `old` live as long as the call.
+        let status = self.counted(-1, &mut old, |tree, seat, old| unsafe {
+            bwtree_raw_delete_if(tree, seat, key.as_ptr(), key.len(), expected.as_ptr(), expected.len(), old)
+        })?;
+        Ok(match status {
+            OK => DeleteIf::Deleted,
+            DIFFERS => DeleteIf::Differs(old.as_slice().to_vec()),
+            _ => DeleteIf::Absent,
+        })
+    }
+
+    /// Adds a number, modulo 2^64, to the one that a key's value of eight bytes is, the highest byte first; a key without a value gets the number.
+    ///
+    /// # Errors
+    ///
+    /// [`Error::TooLong`]; [`Error::Full`] where nothing was free for the change, and no key was changed.
+    pub fn add(&mut self, key: &[u8], number: u64) -> Result<Add> {
+        let mut old = RawBytes::EMPTY;
+        // SAFETY: the slice and `old` live as long as the call.
+        let status = self.counted(1, &mut old, |tree, seat, old| unsafe { bwtree_raw_add(tree, seat, key.as_ptr(), key.len(), number, old) })?;
+        Ok(match (status, old.as_slice().try_into()) {
+            (REPLACED, Ok(bytes)) => Add::Added(u64::from_be_bytes(bytes)),
+            (OK, _) => Add::Set,
+            _ => Add::Differs(old.as_slice().to_vec()),
+        })
+    }
+
+    /// Gives a key the value where it has the expected one.
+    ///
+    /// # Errors
+    ///
+    /// [`Error::TooLong`]; [`Error::Full`] where nothing was free for the change, and no key was changed.
+    pub fn compare_and_set(&mut self, key: &[u8], expected: &[u8], value: &[u8]) -> Result<CompareAndSet> {
+        let mut old = RawBytes::EMPTY;
+        // SAFETY: the slices and `old` live as long as the call.
+        let status = self.written(&mut old, |tree, seat, old| unsafe {
+            bwtree_raw_swap(tree, seat, key.as_ptr(), key.len(), expected.as_ptr(), expected.len(), value.as_ptr(), value.len(), old)
+        })?;
+        Ok(match status {
+            OK => CompareAndSet::Set,
+            DIFFERS => CompareAndSet::Differs(old.as_slice().to_vec()),
+            _ => CompareAndSet::Absent,
+        })
+    }
+
+    /// Does what upkeep is due at the leaf of a key; no value changes.
+    ///
+    /// # Errors
+    ///
+    /// [`Error::TooLong`]; [`Error::Full`] where nothing was free for the change, and no key was changed.
+    pub fn tidy(&mut self, key: &[u8]) -> Result<()> {
+        // SAFETY: the slice lives as long as the call.
+        self.written(&mut { RawBytes::EMPTY }, |tree, seat, _| unsafe { bwtree_raw_tidy(tree, seat, key.as_ptr(), key.len()) }).map(drop)
+    }
+}
