@@ -2,7 +2,7 @@
 # The tree by its C library beside other maps in memory, each that is installed: bench/peers.sh [KEYS [MILLISECONDS [ROUNDS]]]. All do the same work in
 # turn: lookups of drawn keys of 16 bytes (20,000), half lookups and half upserts of 8 bytes, and scans of 100 pairs, by 1, 2 and 4 threads, for so many
 # milliseconds (500) in each of so many rounds (3). The tree is there as a large one and, with up to 20,000 keys, as a small one, too. Figures are medians of the rounds;
-# a ratio is to the large tree in the same round.
+# a ratio is to the large tree in the same round. Where PEERS_CSV names a file, the medians are written there, too, and bench/plot.py draws them.
 # The others: std::map under a shared_mutex, TBB (libtbb-dev), LMDB (liblmdb-dev), RocksDB (librocksdb-dev), JDK's ConcurrentSkipListMap (javac, java).
 set -eu
 top=$(CDPATH='' cd -- "$(dirname -- "$0")/.." && pwd)

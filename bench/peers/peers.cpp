@@ -30,6 +30,16 @@ static void crossings() {
     bwtree_close(&tree);
 }
 
+// Where PEERS_CSV names a file, the medians go there, too, for bench/plot.py.
+static FILE *figures() {
+    const char *name = getenv("PEERS_CSV");
+    if (!name) return nullptr;
+    FILE *file = fopen(name, "w");
+    must(file, "PEERS_CSV can't be written");
+    must(fprintf(file, "work,threads,map,operations\n") > 0, "PEERS_CSV can't be written");
+    return file;
+}
+
 static double median(std::vector<double> all) {
     std::sort(all.begin(), all.end());
     return all[all.size() / 2];
@@ -62,6 +72,7 @@ int main(int count, char **words) {
     must(large->full == 0 && (!small || small->full == 0), "a tree is too small for the keys");
     static const char *const NAMES[] = {"lookups", "half upserts", "scans of 100"};
     std::vector<std::string> table;
+    FILE *csv = figures();
     for (auto &peer : peers) table.push_back(std::string("| ") + peer->name());
     for (Kind kind : {LOOKUPS, HALF_UPSERTS, SCANS})
         for (int threads : {1, 2, 4}) {
@@ -75,11 +86,13 @@ int main(int count, char **words) {
                 auto [least, greatest] = std::minmax_element(ratios[i].begin(), ratios[i].end());
                 printf("%s, %d thread%s, %s: %.0f a second, %.2f times (%.2f to %.2f)\n", NAMES[kind], threads, threads == 1 ? "" : "s", peers[i]->name(),
                        median(rates[i]), median(ratios[i]), *least, *greatest);
+                if (csv) fprintf(csv, "%s,%d,\"%s\",%.0f\n", NAMES[kind], threads, peers[i]->name(), median(rates[i]));
                 char figure[32];
                 snprintf(figure, sizeof figure, i ? "%.1f" : "%.0f", median(i ? ratios[i] : rates[i]));
                 table[i] += std::string(threads == 1 ? " | " : " / ") + figure;
             }
             fflush(stdout);
+            must(!csv || fflush(csv) == 0, "PEERS_CSV can't be written");
         }
     printf("| how many times as fast as the large tree | %s | %s | %s |\n|---|---|---|---|\n", NAMES[LOOKUPS], NAMES[HALF_UPSERTS], NAMES[SCANS]);
     for (auto &row : table) printf("%s |\n", row.c_str());
