@@ -135,7 +135,7 @@ static uint32_t call(struct thread *t, enum operation operation, uint32_t seat, 
     case UPSERT: return bwtree_upsert(&tree, seat, key->bytes, key->length, value->bytes, value->length, old);
     case DELETE: return bwtree_delete(&tree, seat, key->bytes, key->length, old);
     case DELETE_IF: return bwtree_delete_if(&tree, seat, key->bytes, key->length, expected->bytes, expected->length, old);
-    case SWAP: return bwtree_swap(&tree, seat, key->bytes, key->length, expected->bytes, expected->length, value->bytes, value->length, old);
+    case SWAP: return bwtree_compare_and_set(&tree, seat, key->bytes, key->length, expected->bytes, expected->length, value->bytes, value->length, old);
     case ADD: return bwtree_add(&tree, seat, key->bytes, key->length, number_of(value), old);
     case BACK: return bwtree_back(&tree, seat, key->bytes, key->length, &t->page);
     case TIDY: return bwtree_tidy(&tree, seat, key->bytes, key->length);
