@@ -13,10 +13,10 @@ overflow_cast-result g c =
     let word = c.word.ensures.word in
     omega arith
 
-pub returns-then-kind-eq1-clause-next : goal.returns-then-kind-eq1-clause-next
-returns-then-kind-eq1-clause-next g c = let content = c.args.self.now.content in sym (next_there (words_of content) content c.keeps_spelling.ensures (sym c.kind.ensures ∙ c.if-kind-eq1.true))
+pub returns-then-kind-eq-BASE-clause-next : goal.returns-then-kind-eq-BASE-clause-next
+returns-then-kind-eq-BASE-clause-next g c = let content = c.args.self.now.content in sym (next_there (words_of content) content c.keeps_spelling.ensures (sym c.kind.ensures ∙ c.if-kind-eq-BASE.true))
 
 pub returns-clause-next : goal.returns-clause-next
 returns-clause-next g c =
     let content = c.args.self.now.content in
-    ap Some c.word.ensures.word ∙ sym (next_word (words_of content) content c.keeps_spelling.ensures (λ e. c.if-kind-eq1.false (c.kind.ensures ∙ e)))
+    ap Some c.word.ensures.word ∙ sym (next_word (words_of content) content c.keeps_spelling.ensures (λ e. c.if-kind-eq-BASE.false (c.kind.ensures ∙ e)))

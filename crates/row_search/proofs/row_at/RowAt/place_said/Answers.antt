@@ -1,4 +1,4 @@
-use Rattle.std.proofs.Common.{◌≡◌, true, false, List, sym, subst, ◌∙◌}
+use Rattle.std.proofs.Common.{◌≡◌, false, List, sym, subst, ◌∙◌}
 use Rattle.std.specs.Prelude.{IfOk, IfErr}
 use Rattle.row_search.proofs.Words.{Item, AreItems, IsAt, IsGap, is_term}
 use Rattle.row_search.proofs.SaidItems.{are_one, at_it, before_it, behind_it, standing}

@@ -1,4 +1,4 @@
-use Rattle.std.proofs.Common.{◌≡◌, ◌<◌, ◌+◌, ◌%◌, true, false, List, length, get_or, take, drop, sym, subst, ◌∙◌}
+use Rattle.std.proofs.Common.{◌≡◌, ◌<◌, ◌+◌, ◌%◌, false, List, length, get_or, take, drop, sym, subst, ◌∙◌}
 use Rattle.row_search.proofs.Words.{Item, held_mark, text_size, words_of, IsText, is_term}
 use Rattle.row_search.proofs.ItemReads.{key_text}
 use Rattle.row_search.proofs.SaidItems.{one_text, standing}
