@@ -1,4 +1,5 @@
-//! Compact rows as `Rows` of `row_search`: each word of a row of `record_slots` is computed by at most three looks at the compact row.
+//! Compact rows as `Rows` of `row_search`: each word of a row of `record_slots` is computed from the first word of the compact row and at most two
+//! others, which are looked at.
 ghost use Rattle.std.specs.Prelude.{◌≡◌, ◌≢◌, ◌<◌, ◌≤◌, ◌+◌, ◌/◌, ◌%◌, ℕ, length, slice_index};
 ghost use Rattle.deltas.specs.declared.record.Record.{Record};
 ghost use Rattle.record_slots.specs.Spelling.{words_of};
@@ -55,30 +56,13 @@ impl<R: CompactRows> Rows for Spread<R> {
     ghost has = { λ spread pass row content. R.has spread.rows pass row content };
 
     fn look(&self, pass: &mut R::Pass, row: u32, at: usize) -> u64 {
-        look_spread(&self.rows, pass, row, at)
+        self.rows.keeps_spelling(pass);
+        let first = first_look(&self.rows, pass, row);
+        look_spread(&self.rows, pass, row, first, at)
     }
 }
 
-/// Word `at` of the row of `record_slots` that spells the record which was read in this compact row, and stays.
-pub fn look_spread<R: CompactRows>(rows: &R, pass: &mut R::Pass, row: u32, at: usize) -> u64
-    requires has { (content : Record) × R.has rows.now pass.old row content }
-    requires within { at < ROW_WORDS }
-    ensures same { pass.new ≡ pass.old }
-    ensures word { (content : Record) → R.has rows.now pass.old row content → result ≡ slice_index (words_of content) at }
-{
-    rows.keeps_spelling(pass);
-    words_are_seen();
-    let first = first_look(rows, pass, row);
-    if at < 2 {
-        return header_seen(first, at);
-    }
-    if at < 21 {
-        return keys_look(rows, pass, row, first, at);
-    }
-    items_look(rows, pass, row, first, at - FIRST_ITEM)
-}
-
-/// The first word.
+/// The first word of a compact row in which a record was read, and stays.
 fn first_look<R: CompactRows>(rows: &R, pass: &mut R::Pass, row: u32) -> u64
     requires has { (content : Record) × R.has rows.now pass.old row content }
     requires spelt { (content : Record) → R.has rows.now pass.old row content → IsCompact content (compact_words content) }
@@ -86,6 +70,32 @@ fn first_look<R: CompactRows>(rows: &R, pass: &mut R::Pass, row: u32) -> u64
     ensures word { (content : Record) → R.has rows.now pass.old row content → result ≡ slice_index (compact_words content) 0 }
 {
     rows.look(pass, row, 0)
+}
+
+/// Word `at` of the row of `record_slots` that spells the record which was read in this compact row, and stays; by the first word of the
+/// compact row.
+pub fn look_spread<R: CompactRows>(
+    rows: &R,
+    pass: &mut R::Pass,
+    row: u32,
+    first: u64,
+    at: usize,
+) -> u64
+    requires has { (content : Record) × R.has rows.now pass.old row content }
+    requires first { (content : Record) → R.has rows.now pass.old row content → first ≡ slice_index (compact_words content) 0 }
+    requires within { at < ROW_WORDS }
+    ensures same { pass.new ≡ pass.old }
+    ensures word { (content : Record) → R.has rows.now pass.old row content → result ≡ slice_index (words_of content) at }
+{
+    rows.keeps_spelling(pass);
+    words_are_seen();
+    if at < 2 {
+        return header_seen(first, at);
+    }
+    if at < 21 {
+        return keys_look(rows, pass, row, first, at);
+    }
+    items_look(rows, pass, row, first, at - FIRST_ITEM)
 }
 
 /// The first two words of the row of `record_slots`, by the first compact word.

@@ -93,6 +93,6 @@ fn look_compact<A: Allocator>(tree: &Tree<A>, desk: &mut Desk, row: u32, at: usi
     ensures word { (content : Record) → Stands tree.now.limits tree.now.table desk.old.place.table_id desk.old.number desk.old.place.me row content
         → result ≡ slice_index (words_of content) at }
 {
-    look_word(tree, desk, row, 0);
-    look_spread(tree, desk, row, at)
+    let first = look_word(tree, desk, row, 0);
+    look_spread(tree, desk, row, first, at)
 }

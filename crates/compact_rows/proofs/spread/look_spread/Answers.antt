@@ -1,17 +1,15 @@
-use Rattle.std.proofs.Common.{◌≡◌, ◌≤◌, ◌∙◌, sym, subst, arith}
+use Rattle.std.proofs.Common.{◌≤◌, ◌∙◌, arith}
 use Rattle.compact_rows.specs.Spelling.{compact_words}
 use Rattle.compact_rows.proofs.Spreading.{at_items}
 use Rattle.compact_rows.proofs.spread.look_spread.Goals as goal
 
 pub returns-then-at-lt21-clause-word : goal.returns-then-at-lt21-clause-word
 returns-then-at-lt21-clause-word g c content h =
-    let there = subst (λ p. g.R.CompactRows.has c.args.rows.now p c.args.row content) (sym c.first_look-first.ensures.same) h in
-    c.keys_look.ensures.word content there ∙ c.words_are_seen.ensures content (compact_words content) (c.keeps_spelling.ensures c.args.row content h) c.args.at c.requires.within
+    c.keys_look.ensures.word content h ∙ c.words_are_seen.ensures content (compact_words content) (c.keeps_spelling.ensures c.args.row content h) c.args.at c.requires.within
 
 pub returns-clause-word : goal.returns-clause-word
 returns-clause-word g c content h =
-    let there = subst (λ p. g.R.CompactRows.has c.args.rows.now p c.args.row content) (sym c.first_look-first.ensures.same) h in
     let high : 21 ≤ c.args.at = omega (arith, c.if-at-lt21.false) in
-    c.items_look.ensures.word content there
+    c.items_look.ensures.word content h
     ∙ at_items (compact_words content) c.args.at high
     ∙ c.words_are_seen.ensures content (compact_words content) (c.keeps_spelling.ensures c.args.row content h) c.args.at c.requires.within
