@@ -37,58 +37,25 @@ pub record TakesOut (limits : Limits) (k now : Knowledge) (plan : Plan) (end : O
 module _ (k : Knowledge) where
   split_limbo : (o : OwnPage) (page row : ℕ) → (split_off o page row k).limbo ≡ k.limbo
   split_limbo Other page row = refl
-  split_limbo Empty page row = refl
-  split_limbo (Ready base) page row = refl
-  split_limbo Gone page row = refl
+  split_limbo other page row = refl
 
   linked_limbo : (content : Record) (old row : ℕ) → (linked_over (Written content) old row k).limbo ≡ limbo_over content old k
-  linked_limbo (kind.Base page) old row = refl
-  linked_limbo (kind.Put put) old row = refl
-  linked_limbo (kind.Delete delete) old row = refl
   linked_limbo (kind.Split split) old row = split_limbo (k.own.pages split.page) split.page row
-  linked_limbo (kind.Term term) old row = refl
-  linked_limbo (kind.Hold hold) old row = refl
-  linked_limbo (kind.Remove remove) old row = refl
-  linked_limbo (kind.Merge merge) old row = refl
-  linked_limbo (kind.Unterm unterm) old row = refl
+  linked_limbo other old row = refl
 
   -- a taking takes nothing out
   number_limbo : (taking : Taking) (told : Answer Record) → (learn k (wanted_number taking) told).limbo ≡ k.limbo
   number_limbo (Bits Pid word whole) answer.Start = refl
-  number_limbo (Bits Pid word whole) (answer.Number n) = refl
-  number_limbo (Bits Pid word whole) (answer.Content content) = refl
-  number_limbo (Bits Pid word whole) (answer.Whether b) = refl
-  number_limbo (Bits Pid word whole) answer.Done = refl
   number_limbo (Bits Row word whole) answer.Start = refl
-  number_limbo (Bits Row word whole) (answer.Number n) = refl
-  number_limbo (Bits Row word whole) (answer.Content content) = refl
-  number_limbo (Bits Row word whole) (answer.Whether b) = refl
-  number_limbo (Bits Row word whole) answer.Done = refl
-  number_limbo (Take Pid number whole) answer.Start = refl
-  number_limbo (Take Pid number whole) (answer.Number n) = refl
-  number_limbo (Take Pid number whole) (answer.Content content) = refl
   number_limbo (Take Pid number whole) (answer.Whether true) = refl
-  number_limbo (Take Pid number whole) (answer.Whether false) = refl
-  number_limbo (Take Pid number whole) answer.Done = refl
-  number_limbo (Take Row number whole) answer.Start = refl
-  number_limbo (Take Row number whole) (answer.Number n) = refl
-  number_limbo (Take Row number whole) (answer.Content content) = refl
   number_limbo (Take Row number whole) (answer.Whether true) = refl
-  number_limbo (Take Row number whole) (answer.Whether false) = refl
-  number_limbo (Take Row number whole) answer.Done = refl
+  number_limbo taking told = refl
 
   module _ (limits : Limits) where
     fresh_over : (content : Record) (page old new : ℕ) → 0 < page → 0 < old → 0 < new → Fits limits k (step.Exchange page old new) (answer.Whether true)
         → IsFreshOver limits k content old
     fresh_over (kind.Base base) page old new p o n fits = over_fresh k limits page old new p o n fits
-    fresh_over (kind.Put put) page old new p o n fits = tt
-    fresh_over (kind.Delete delete) page old new p o n fits = tt
-    fresh_over (kind.Split split) page old new p o n fits = tt
-    fresh_over (kind.Term term) page old new p o n fits = tt
-    fresh_over (kind.Hold hold) page old new p o n fits = tt
-    fresh_over (kind.Remove remove) page old new p o n fits = tt
-    fresh_over (kind.Merge merge) page old new p o n fits = tt
-    fresh_over (kind.Unterm unterm) page old new p o n fits = tt
+    fresh_over other page old new p o n fits = tt
 
     -- a record was linked over a page's newest row
     linked_outs : (page old new : ℕ) (content : Record) → 0 < page → 0 < old → 0 < new → k.own.rows new ≡ Written content → Fits limits k (step.Exchange page old new) (answer.Whether true)
@@ -98,8 +65,7 @@ module _ (k : Knowledge) where
     module _ (plan : Plan) (spares : Spares) where
       taking_outs : (now : Knowledge) → now.limbo ≡ k.limbo → (state : State) (found : Found) → TakesOut limits k now plan (moved_by limits plan spares state found).end
       taking_outs now same state (Not taking) = record { limbo = same; fresh = tt }
-      taking_outs now same state (Taken kind number) = record { limbo = same; fresh = tt }
-      taking_outs now same state (Full which) = record { limbo = same; fresh = tt }
+      taking_outs now same state other = record { limbo = same; fresh = tt }
 
       -- what a change takes out where it goes on so
       abbrev pub TakesOutTo : State → Answer Record → Type 0
@@ -122,9 +88,7 @@ won_outs k limits (Unlink pid head unterm removal) spares row target ready place
 -- it lost
 lost_outs : (k : Knowledge) (limits : Limits) (plan : Plan) (spares : Spares) → TakesOutTo k limits plan spares state.Link (answer.Whether false)
 lost_outs k limits (Install pid head content) spares = record { limbo = refl; fresh = tt }
-lost_outs k limits (Split pid plan) spares = record { limbo = refl; fresh = tt }
-lost_outs k limits (Root left root) spares = record { limbo = refl; fresh = tt }
-lost_outs k limits (Unlink pid head unterm removal) spares = record { limbo = refl; fresh = tt }
+lost_outs k limits other spares = record { limbo = refl; fresh = tt }
 
 module _ (actor : ℕ) (limits : Limits) (k : Knowledge) (spares : Spares) where
   abbrev change : Plan → State → Change
@@ -142,14 +106,12 @@ module _ (actor : ℕ) (limits : Limits) (k : Knowledge) (spares : Spares) where
   cleared_outs : (plan : Plan) (told : Answer Record) → clears plan ≡ true → IsTarget limits plan → Shows actor (change plan state.Clear) spares k
       → Fits limits k (wanted_at plan spares state.Clear) told
       → TakesOutTo k limits plan spares state.Clear told
-  cleared_outs (Install pid head content) told is target h fits = cc
-  cleared_outs (Split pid plan) told is target h fits = cc
-  cleared_outs (Root left root) told is target h fits = cc
   cleared_outs (Unlink pid head unterm removal) told is target h fits =
       let page = target.1.0 in
       let is_told = clear_went k limits unterm.child removal told page target.2 h.stands.1 h.may.links.1 fits in
       let fresh = clear_fresh k limits unterm.child removal page target.2 h.stands.1 (rw is_told at fits) in
       rw (is_told, cleared_learnt k unterm.child removal page h.stands.1) (record { limbo = refl; fresh = (page, target.1.1, fresh.0, fresh.1) })
+  cleared_outs other told is target h fits = cc
 
   outs_at : (plan : Plan) (state : State) (told : Answer Record) → IsSoundChange (change plan state) spares → IsTarget limits plan
       → Shows actor (change plan state) spares k → Fits limits k (wanted_at plan spares state) told

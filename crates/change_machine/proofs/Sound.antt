@@ -62,16 +62,9 @@ found_of limits (Bits kind word whole) (answer.Number zero) = go (ltb (suc word)
     go false true = tt
     go false false = refl
 found_of limits (Bits kind word whole) (answer.Number (suc bits)) = refl
-found_of limits (Bits kind word whole) answer.Start = tt
-found_of limits (Bits kind word whole) (answer.Content content) = tt
-found_of limits (Bits kind word whole) (answer.Whether b) = tt
-found_of limits (Bits kind word whole) answer.Done = tt
 found_of limits (Take kind number whole) (answer.Whether true) = refl
 found_of limits (Take kind number whole) (answer.Whether false) = refl
-found_of limits (Take kind number whole) answer.Start = tt
-found_of limits (Take kind number whole) (answer.Content content) = tt
-found_of limits (Take kind number whole) (answer.Number n) = tt
-found_of limits (Take kind number whole) answer.Done = tt
+found_of limits other others = tt
 
 -- what a taking finds is there
 found_sound : (limits : Limits) (k : Knowledge) (taking : Taking) (told : Answer Record) → Fits limits k (wanted_number taking) told
@@ -85,23 +78,14 @@ found_sound limits k (Bits kind word whole) (answer.Number zero) fits sound = go
     go false is false = let some = some_numbers limits kind in omega (arith, some)
 found_sound limits k (Bits Pid word whole) (answer.Number (suc bits)) fits sound = lowest_below limits.pids word bits fits
 found_sound limits k (Bits Row word whole) (answer.Number (suc bits)) fits sound = lowest_below limits.rows word bits fits
-found_sound limits k (Bits kind word whole) answer.Start fits sound = tt
-found_sound limits k (Bits kind word whole) (answer.Content content) fits sound = tt
-found_sound limits k (Bits kind word whole) (answer.Whether b) fits sound = tt
-found_sound limits k (Bits kind word whole) answer.Done fits sound = tt
 found_sound limits k (Take Pid number whole) (answer.Whether true) fits sound = (fits.some, fits.below)
 found_sound limits k (Take Row number whole) (answer.Whether true) fits sound = (fits.some, fits.below)
 found_sound limits k (Take kind number whole) (answer.Whether false) fits sound = omega (arith, sound)
-found_sound limits k (Take kind number whole) answer.Start fits sound = tt
-found_sound limits k (Take kind number whole) (answer.Content content) fits sound = tt
-found_sound limits k (Take kind number whole) (answer.Number n) fits sound = tt
-found_sound limits k (Take kind number whole) answer.Done fits sound = tt
+found_sound limits k other others fits sound = tt
 
 two_at_most : (plan : Plan) → rows_needed plan ≤ 2
 two_at_most (Install pid head content) = omega arith
-two_at_most (Split pid plan) = omega arith
-two_at_most (Root left root) = omega arith
-two_at_most (Unlink pid head unterm removal) = omega arith
+two_at_most other = omega arith
 
 module _ (limits : Limits) (plan : Plan) where
   -- a number that was taken is a spare that there is

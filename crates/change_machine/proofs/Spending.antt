@@ -50,10 +50,8 @@ fewer_missing plan spares Row number missing =
 
 -- a change that clears a page has no new one
 clears_apart : (plan : Plan) (pid : Option ℕ) → clears plan ≡ true → IsApart plan pid
-clears_apart (Install page head content) pid is = tt
 clears_apart (Split page plan) pid is = cc
-clears_apart (Root left root) pid is = tt
-clears_apart (Unlink page head unterm removal) pid is = tt
+clears_apart other pid is = tt
 
 -- a taking goes over all words twice at most
 few_left : (limits : Limits) (word : ℕ) (whole : Bool) → (if whole then suc (most_words limits) - word else most_reads limits - word) ≤ most_reads limits
@@ -84,9 +82,7 @@ few_missing plan spares = let one = one_pid (needs_pid plan) spares.pid in let t
 
     two_rows : (plan : Plan) → rows_needed plan ≤ 2
     two_rows (Install pid head content) = omega arith
-    two_rows (Split pid plan) = omega arith
-    two_rows (Root left root) = omega arith
-    two_rows (Unlink pid head unterm removal) = omega arith
+    two_rows other = omega arith
 
 -- how many steps a change takes at most from its first state on
 pub left_first : (limits : Limits) (after : ℕ) (plan : Plan) (spares : Spares)
@@ -100,9 +96,7 @@ left_first limits after plan spares = at_first (needs_pid plan && not (is_some s
 
     at_place : (plan : Plan) → steps_left_at limits after plan spares (after_taking plan) ≤ 4
     at_place (Install pid head content) = omega arith
-    at_place (Split pid plan) = omega arith
-    at_place (Root left root) = omega arith
-    at_place (Unlink pid head unterm removal) = omega arith
+    at_place other = omega arith
 
     at_first : (pid : Bool) → (needs_pid plan && not (is_some spares.pid)) ≡ pid → (row : Bool) → ltb (length spares.rows) (rows_needed plan) ≡ row
         → steps_left_at limits after plan spares
@@ -227,24 +221,12 @@ module _ (limits : Limits) (plan : Plan) (spares : Spares) (after : ℕ) (r : Re
   takes (Bits kind word whole) (answer.Number zero) k fits sound missing h far = empty_word kind word whole sound h
   takes (Bits Pid word whole) (answer.Number (suc bits)) k fits sound missing h far = some_word Pid word whole bits sound fits h
   takes (Bits Row word whole) (answer.Number (suc bits)) k fits sound missing h far = some_word Row word whole bits sound fits h
-  takes (Bits Pid word whole) answer.Start k fits sound missing h far = absurd fits
-  takes (Bits Row word whole) answer.Start k fits sound missing h far = absurd fits
-  takes (Bits Pid word whole) (answer.Content content) k fits sound missing h far = absurd fits
-  takes (Bits Row word whole) (answer.Content content) k fits sound missing h far = absurd fits
-  takes (Bits Pid word whole) (answer.Whether b) k fits sound missing h far = absurd fits
-  takes (Bits Row word whole) (answer.Whether b) k fits sound missing h far = absurd fits
-  takes (Bits Pid word whole) answer.Done k fits sound missing h far = absurd fits
-  takes (Bits Row word whole) answer.Done k fits sound missing h far = absurd fits
   takes (Take kind number whole) (answer.Whether true) k fits sound missing h far = took kind number whole missing h.0 far
   takes (Take kind number whole) (answer.Whether false) k fits sound missing h far = missed kind number whole h.0 h.1
-  takes (Take Pid number whole) answer.Start k fits sound missing h far = absurd fits
-  takes (Take Row number whole) answer.Start k fits sound missing h far = absurd fits
-  takes (Take Pid number whole) (answer.Content content) k fits sound missing h far = absurd fits
-  takes (Take Row number whole) (answer.Content content) k fits sound missing h far = absurd fits
-  takes (Take Pid number whole) (answer.Number n) k fits sound missing h far = absurd fits
-  takes (Take Row number whole) (answer.Number n) k fits sound missing h far = absurd fits
-  takes (Take Pid number whole) answer.Done k fits sound missing h far = absurd fits
-  takes (Take Row number whole) answer.Done k fits sound missing h far = absurd fits
+  takes (Bits Pid word whole) told k fits sound missing h far = absurd fits
+  takes (Bits Row word whole) told k fits sound missing h far = absurd fits
+  takes (Take Pid number whole) told k fits sound missing h far = absurd fits
+  takes (Take Row number whole) told k fits sound missing h far = absurd fits
 
   -- the new page isn't the slot that decides
   slot_apart : (plan : Plan) → needs_pid plan ≡ true → IsApart plan (Some (pid_of spares)) → 0 < pid_of spares → slot_of plan ≢ pid_of spares
@@ -265,15 +247,11 @@ module _ (limits : Limits) (plan : Plan) (spares : Spares) (after : ℕ) (r : Re
       at_next : (other : Plan) → WasHead (recall r (wanted_at plan spares state.Ready) told) (slot_of plan) (head_of plan)
           → RecallsAt (recall r (wanted_at plan spares state.Ready) told) plan (after_ready other)
       at_next (Install pid head content) h = h
-      at_next (Split pid plan) h = h
-      at_next (Root left root) h = h
-      at_next (Unlink pid head unterm removal) h = h
+      at_next other h = h
 
       less : (other : Plan) → steps_left_at limits after plan spares (after_ready other) < 3
       less (Install pid head content) = omega arith
-      less (Split pid plan) = omega arith
-      less (Root left root) = omega arith
-      less (Unlink pid head unterm removal) = omega arith
+      less other = omega arith
 
   decided : (won : Bool) → WasHead r (slot_of plan) (head_of plan) → SpendsSo state.Link (answer.Whether won) (decided_by plan spares won)
   decided true h = won (clears plan) refl

@@ -70,12 +70,7 @@ stays_in : (task : Task) (spares : Spares) (limbo : Limbo) (k : Knowledge) (swee
     → asked_by sweep (wanted_at spares state) ≢ Some step.Leave → is_leaving state ≡ false
 stays_in task spares limbo k None (Leave reply lacks) holds stays = absurd (stays refl)
 stays_in task spares limbo k (Some sweep) (Leave reply lacks) holds stays = let first = holds.first in cc
-stays_in task spares limbo k sweep Begun holds stays = refl
-stays_in task spares limbo k sweep Epoch holds stays = refl
-stays_in task spares limbo k sweep (Enter epoch) holds stays = refl
-stays_in task spares limbo k sweep (Read round) holds stays = refl
-stays_in task spares limbo k sweep (Write round) holds stays = refl
-stays_in task spares limbo k sweep (Change now then) holds stays = refl
+stays_in task spares limbo k sweep other holds stays = refl
 
 -- a step with its answer
 module _ (limits : Limits) (actor : ℕ) (k : Knowledge) (r : Recalled) (had has : Hand) (old : UnderWay) (new : Op) (a : Answer Record)

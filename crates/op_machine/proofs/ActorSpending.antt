@@ -17,13 +17,10 @@ spent_last limits r last asked a left rest e spent = subst (λ w. IsSpentLast li
 
 -- a state that has asked for Leave has a step left
 leaves : (limits : Limits) (r : Recalled) (spares : Spares) (state : State) → wanted_at spares state ≡ Some step.Leave → 0 < left_at limits r spares state
-leaves limits r spares (Leave reply lacks) e = omega arith
-leaves limits r spares (Read round) e = omega arith
-leaves limits r spares (Write round) e = omega arith
-leaves limits r spares (Change now then) e = omega arith
 leaves limits r spares Begun e = cc
 leaves limits r spares Epoch e = cc
 leaves limits r spares (Enter epoch) e = cc
+leaves limits r spares other e = omega arith
 
 -- and so has a sweep, which asks for none
 stays : (limits : Limits) (r : Recalled) (spares : Spares) (sweep : Option Sweep) (state : State) → asked_by sweep (wanted_at spares state) ≡ Some step.Leave
@@ -36,10 +33,8 @@ stays limits r spares (Some sweep) state e = absurd (sweeps_on sweep.actor sweep
     reuses (Pids word bits) e = cc
 
     sweeps_on : (actor : ℕ) (state : sweeping.State) → Some (wanted_at_sweep actor state) ≡ Some step.Leave → ⊥
-    sweeps_on actor at_sweep.Epoch e = cc
-    sweeps_on actor (at_sweep.Retire epoch) e = cc
-    sweeps_on actor (at_sweep.Announce announces) e = cc
     sweeps_on actor (at_sweep.Reuse reuse) e = reuses reuse e
+    sweeps_on actor other e = cc
 
 more : (n m : ℕ) → 0 < n → 0 < n + m
 more n m some = omega arith

@@ -27,10 +27,7 @@ taken_unread limits k asked told fits p e = cc
 -- nor is it that of the page that is to be split
 apart_from : (k : Knowledge) (plan : Plan) (o : Option ℕ) → ((p : ℕ) → o ≡ Some p → k.read.heads p ≡ None) → IsReadPlan k plan → bound.IsApart plan o
 apart_from k (Split page plan) (Some p) unread read = λ same. let e = unread p refl in let f : k.read.heads p ≡ Some plan.next = rw same read in let g = sym e ∙ f in cc
-apart_from k (Split page plan) None unread read = tt
-apart_from k (Install pid head content) o unread read = tt
-apart_from k (Root left root) o unread read = tt
-apart_from k (Unlink pid head unterm removal) o unread read = tt
+apart_from k other others unread read = tt
 
 spare_apart : (k : Knowledge) (plan : Plan) (o : Option ℕ) → IfSome o (λ p. k.read.heads p ≡ None) → IsReadPlan k plan → bound.IsApart plan o
 spare_apart k plan None unread read = apart_from k plan None (λ p e. cc) read
@@ -54,9 +51,7 @@ rows_still k now head rows same h = record { chain = h.chain; read = rw same h.r
 taken_still : (k now : Knowledge) (plan : Plan) (unlinked : Unlinked) → now.read ≡ k.read → IsTakenBy k plan unlinked → IsTakenBy now plan unlinked
 taken_still k now (Install pid head (kind.Base page)) unlinked same h = (rows_still k now head unlinked.rows.items same h.0, h.1)
 taken_still k now (Unlink pid head unterm removal) unlinked same h = (rows_still k now removal unlinked.rows.items same h.0, h.1)
-taken_still k now (Install pid head content) unlinked same h = absurd h
-taken_still k now (Split pid split) unlinked same h = absurd h
-taken_still k now (Root left root) unlinked same h = absurd h
+taken_still k now other unlinked same h = absurd h
 
 brings_still : (k now : Knowledge) (command : Command) (plan : Plan) (then : Then) → now.read ≡ k.read → Brings k command plan then → Brings now command plan then
 brings_still k now command plan (Reply answered) same b = record {
@@ -91,31 +86,23 @@ useful_still k now (Root left root) same h = tt
 useful_still k now (Unlink pid head unterm removal) same h = tt
 
 read_still : (k now : Knowledge) (plan : Plan) → now.read ≡ k.read → IsReadPlan k plan → IsReadPlan now plan
-read_still k now (Install pid head content) same h = tt
 read_still k now (Split pid plan) same h = rw same h
-read_still k now (Root left root) same h = tt
-read_still k now (Unlink pid head unterm removal) same h = tt
+read_still k now other same h = tt
 
 -- a change that has not won leaves what is known of the command's update
 lost_links : (plan : Plan) (linked : Option (Option ℕ)) → change.linked_after plan Lost linked ≡ linked
 lost_links (Install pid head content) linked = refl
-lost_links (Split pid plan) linked = refl
-lost_links (Root left root) linked = refl
-lost_links (Unlink pid head unterm removal) linked = refl
+lost_links other linked = refl
 
 full_links : (kind : Kind) (plan : Plan) (linked : Option (Option ℕ)) → change.linked_after plan (Full kind) linked ≡ linked
 full_links kind (Install pid head content) linked = refl
-full_links kind (Split pid plan) linked = refl
-full_links kind (Root left root) linked = refl
-full_links kind (Unlink pid head unterm removal) linked = refl
+full_links kind other linked = refl
 
 -- a change that takes something out of the tree links no update
 taken_links : (k : Knowledge) (unlinked : Unlinked) (plan : Plan) (linked : Option (Option ℕ)) → IsTakenBy k plan unlinked → change.linked_after plan Won linked ≡ linked
 taken_links k unlinked (Install pid head (kind.Base page)) linked h = refl
 taken_links k unlinked (Unlink pid head unterm removal) linked h = refl
-taken_links k unlinked (Install pid head content) linked h = absurd h
-taken_links k unlinked (Split pid split) linked h = absurd h
-taken_links k unlinked (Root left root) linked h = absurd h
+taken_links k unlinked other linked h = absurd h
 
 module _ (task : Task) (had has : Spares) (k : Knowledge) (r : Recalled) (old new : change.Change) (then : Then) (told : Answer Record)
     (h : IsInChange task had k r old then) (fits : Fits task.limits k (change.wanted_step old had) told)

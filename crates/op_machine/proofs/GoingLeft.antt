@@ -136,13 +136,11 @@ module _ (task : Task) (old next : WriteRound) (removed : Version) (seeks : Seek
   again other is = subst SeeksLeaf is seeks
 
   by_change : (change : DueChange) → EndsBy old removed change → Left
-  by_change (write_end.Consolidate page base) due = remains due.here.alive
-  by_change (write_end.Split page split) due = remains due.here.alive
   by_change (write_end.Term parent term) due = remains due.plan.can.alive
   by_change (write_end.Root left root) due = remains due.plan.can.alive
-  by_change (write_end.Tend parent page upkeep) due = remains due.here.alive
   by_change (write_end.Merge left other merge) due = absurd (again (goal.Merge left) due.goal)
   by_change (write_end.Unterm parent left other unterm) due = absurd (again (goal.Unterm parent left) due.goal)
+  by_change other due = remains due.here.alive
 
   write_turns : (end : Option WriteEnd) → TreatsWrite old removed next end → AfterWriting task next end new → Left
   write_turns None t goes = elim t [

@@ -29,40 +29,20 @@ use Rattle.op_machine.proofs.Rounds.{read_comes, read_leaves, write_comes, write
 -- by the state that the places are, the operation stands there
 module _ (reader : read.ReadRound) (writer : write.WriteRound) (change : ChangeOf) (then : Then) (reply : Reply) (lacks : Option Kind) where
   pub stands_reading : (stand : StateKind) → is_reading (state_at stand reader writer change then reply lacks) ≡ true → stand ≡ Read
-  stands_reading Begun is = cc
-  stands_reading Epoch is = cc
-  stands_reading (Enter epoch) is = cc
   stands_reading Read is = refl
-  stands_reading Write is = cc
-  stands_reading Change is = cc
-  stands_reading Leave is = cc
+  stands_reading other is = cc
 
   pub stands_writing : (stand : StateKind) → is_writing (state_at stand reader writer change then reply lacks) ≡ true → stand ≡ Write
-  stands_writing Begun is = cc
-  stands_writing Epoch is = cc
-  stands_writing (Enter epoch) is = cc
-  stands_writing Read is = cc
   stands_writing Write is = refl
-  stands_writing Change is = cc
-  stands_writing Leave is = cc
+  stands_writing other is = cc
 
   pub stands_changing : (stand : StateKind) → is_changing (state_at stand reader writer change then reply lacks) ≡ true → stand ≡ Change
-  stands_changing Begun is = cc
-  stands_changing Epoch is = cc
-  stands_changing (Enter epoch) is = cc
-  stands_changing Read is = cc
-  stands_changing Write is = cc
   stands_changing Change is = refl
-  stands_changing Leave is = cc
+  stands_changing other is = cc
 
   pub stands_leaving : (stand : StateKind) → is_leaving (state_at stand reader writer change then reply lacks) ≡ true → stand ≡ Leave
-  stands_leaving Begun is = cc
-  stands_leaving Epoch is = cc
-  stands_leaving (Enter epoch) is = cc
-  stands_leaving Read is = cc
-  stands_leaving Write is = cc
-  stands_leaving Change is = cc
   stands_leaving Leave is = refl
+  stands_leaving other is = cc
 
 -- what is told of a slot is its number, and nothing but a record is told of a row
 module _ (limits : Limits) (k : Knowledge) where
@@ -77,9 +57,7 @@ module _ (limits : Limits) (k : Knowledge) where
 
   of_row : (row : ℕ) (told : Told) → Fits limits k (step.Row row) (answer_of told) → TellsNumber told
   of_row row (Number n) fits = tt
-  of_row row Start fits = absurd fits
-  of_row row (Whether whether) fits = absurd fits
-  of_row row Done fits = absurd fits
+  of_row row other fits = absurd fits
 
   is_number : (asked : Step Record) (told : Told) → IsReading asked → Fits limits k asked (answer_of told) → TellsNumber told
   is_number asked told reads fits = elim reads [

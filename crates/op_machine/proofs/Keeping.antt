@@ -21,10 +21,7 @@ slot_limbo k page Done = refl
 
 row_limbo : (k : Knowledge) (row : ℕ) (told : Answer Record) → (learn k (step.Row row) told).limbo ≡ k.limbo
 row_limbo k row Start = refl
-row_limbo k row (Number n) = refl
-row_limbo k row (Content content) = refl
-row_limbo k row (Whether whether) = refl
-row_limbo k row Done = refl
+row_limbo k row other = refl
 
 read_limbo : (k : Knowledge) (asked : Step Record) (told : Answer Record) → IsReading asked → (learn k asked told).limbo ≡ k.limbo
 read_limbo k asked told (inl slot) = rw slot.1 (slot_limbo k slot.0 told)
@@ -38,17 +35,12 @@ module _ (task : Task) (spares : Spares) (k : Knowledge) (r : Recalled) (limbo :
 
   epoch : (a : Answer Record) → Fits task.limits k step.Epoch a → AreKept task.limits task.actor limbo (learn k step.Epoch a).limbo
   epoch (Number n) fits = reads task.limits task.actor n limbo k kept fits
-  epoch Start fits = absurd fits
-  epoch (Content content) fits = absurd fits
-  epoch (Whether whether) fits = absurd fits
-  epoch Done fits = absurd fits
+  epoch other fits = absurd fits
 
   pub work_keeps : (state : State) → ShowsState task spares k r state → is_changing state ≡ false → FitsLast task.limits k (wanted_at spares state) told
       → AreKept task.limits task.actor limbo (learn_last k (wanted_at spares state) told).limbo
-  work_keeps Begun stands at_rest fits = kept
   work_keeps Epoch stands at_rest fits = epoch told fits
-  work_keeps (Enter epoch) stands at_rest fits = kept
   work_keeps (Read round) stands at_rest fits = still _ (read_limbo k _ told (reader_reads round k r stands.shows))
   work_keeps (Write round) stands at_rest fits = still _ (read_limbo k _ told (writer_reads round k r stands.shows))
-  work_keeps (Leave reply lacks) stands at_rest fits = kept
   work_keeps (Change now then) stands at_rest fits = cc
+  work_keeps other stands at_rest fits = kept

@@ -36,33 +36,23 @@ in_taking (taking.Take kind.Row number whole) e = cc
 
 in_change : (plan : Plan) (spares : Spares) (state : ChangeState) → change.wanted_at plan spares state ≢ step.Leave
 in_change plan spares (change_state.Taking taken) e = in_taking taken e
-in_change plan spares change_state.Base e = cc
-in_change plan spares change_state.Ready e = cc
-in_change plan spares change_state.Place e = cc
-in_change plan spares change_state.Link e = cc
-in_change plan spares change_state.Undo e = cc
-in_change plan spares change_state.Clear e = cc
+in_change plan spares other e = cc
 
 in_reuse : (given : Reuse) → sweep.step_of given ≢ step.Leave
 in_reuse (reuse.Rows word bits) e = cc
 in_reuse (reuse.Pids word bits) e = cc
 
 in_sweep : (actor : ℕ) (state : SweepState) → sweep.wanted_at actor state ≢ step.Leave
-in_sweep actor sweep_state.Epoch e = cc
-in_sweep actor (sweep_state.Retire epoch) e = cc
-in_sweep actor (sweep_state.Announce announces) e = cc
 in_sweep actor (sweep_state.Reuse given) e = in_reuse given e
+in_sweep actor other e = cc
 
 -- an operation that isn't at its leave wants another step
 elsewhere : (spares : Spares) (swept : Option Sweep) (state : State) → is_leaving state ≡ false → asked_by swept (wanted_at spares state) ≢ Some step.Leave
 elsewhere spares (Some swept) state on e = in_sweep swept.actor swept.state (same_Some (sweep.wanted_step swept) step.Leave e)
-elsewhere spares None Begun on e = cc
-elsewhere spares None Epoch on e = cc
-elsewhere spares None (Enter epoch) on e = cc
 elsewhere spares None (Read round) on e = in_round round.state (same_Some (descent.wanted_at round.state) step.Leave e)
 elsewhere spares None (Write round) on e = in_round round.state (same_Some (descent.wanted_at round.state) step.Leave e)
 elsewhere spares None (Change now then) on e = in_change now.plan spares now.state (same_Some (change.wanted_at now.plan spares now.state) step.Leave e)
-elsewhere spares None (Leave reply lacks) on e = cc
+elsewhere spares other others on e = cc
 
 pub leaves_at : (spares : Spares) (swept : Option Sweep) (state : State) → asked_by swept (wanted_at spares state) ≡ Some step.Leave → is_leaving state ≡ true
 leaves_at spares swept state e = by_test (is_leaving state) refl
@@ -76,12 +66,7 @@ at_leave : (task : Task) (spares : Spares) (limbo : Limbo) (k : Knowledge) (swep
     → is_leaving state ≡ true → asked_by swept (wanted_at spares state) ≡ Some step.Leave
 at_leave task spares limbo k None (Leave reply lacks) holds on = refl
 at_leave task spares limbo k (Some swept) (Leave reply lacks) holds on = let first = holds.first in cc
-at_leave task spares limbo k swept Begun holds on = cc
-at_leave task spares limbo k swept Epoch holds on = cc
-at_leave task spares limbo k swept (Enter epoch) holds on = cc
-at_leave task spares limbo k swept (Read round) holds on = cc
-at_leave task spares limbo k swept (Write round) holds on = cc
-at_leave task spares limbo k swept (Change now then) holds on = cc
+at_leave task spares limbo k swept other holds on = cc
 
 pub goes_on : (old : Op) (had : Hand) (asked : StepOf Record) → is_leaving old.state ≡ false → EndsAtLeave old had (Step asked)
 goes_on old had asked on = elsewhere had.spares old.sweep old.state on

@@ -11,12 +11,7 @@ use Rattle.op_machine.specs.machine.States.{State, Begun, Epoch, Enter, Read, Wr
 -- nothing of the sweep is left then
 pub nothing_left : (limits : Limits) (state : State) → has_begun state ≡ true → sweep_left limits None state ≡ 0
 nothing_left limits Begun e = cc
-nothing_left limits Epoch e = refl
-nothing_left limits (Enter epoch) e = refl
-nothing_left limits (Read round) e = refl
-nothing_left limits (Write round) e = refl
-nothing_left limits (Change now then) e = refl
-nothing_left limits (Leave reply lacks) e = refl
+nothing_left limits other e = refl
 
 -- An operation that has begun has no sweep, asks for what its work asks for, and goes ahead as its work does.
 module _ (old : Op) (had : Hand) (told : Answer Record) (begun : has_begun old.state ≡ true) where

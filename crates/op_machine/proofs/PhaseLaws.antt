@@ -75,12 +75,4 @@ module _ {memory : Memory} {entry : Entry} {pid : ℕ} where
 
   pub is_taken : (from to : Phase) → MovesPhase memory entry pid from to → to ≡ owned → (actor : ℕ) × IsStep entry actor (TakePid pid) (Whether true)
   is_taken from to (takes a is) e = (a, is)
-  is_taken from to (splits s split i at) e = absurd (cc e)
-  is_taken from to (becomes_root i) e = absurd (cc e)
-  is_taken from to (terms s term i at) e = absurd (cc e)
-  is_taken from to (under_root r c k h i j l m) e = absurd (cc e)
-  is_taken from to (holds s hold i at) e = absurd (cc e)
-  is_taken from to (removes remove i) e = absurd (cc e)
-  is_taken from to (merges s merge c i j at) e = absurd (cc e)
-  is_taken from to (unterms s unterm i at) e = absurd (cc e)
-  is_taken from to (reuses a w b x is in_word) e = absurd (cc e)
+  is_taken from to other e = absurd (cc e)

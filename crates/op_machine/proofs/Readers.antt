@@ -11,13 +11,11 @@ use Rattle.op_machine.specs.machine.States.{State, Begun, Epoch, Enter, Read, Wr
 
 -- the command of the operation is known
 going : (task : Task) (spares : Spares) (k : Knowledge) (r : Recalled) (state : State) → ShowsState task spares k r state → k.asked.command ≡ Some task.command
-going task spares k r Begun h = h.asked.going
-going task spares k r Epoch h = h.asked.going
 going task spares k r (Enter epoch) h = h.0.asked.going
 going task spares k r (Read round) h = h.seeks.asked.going
 going task spares k r (Write round) h = h.seeks.asked.going
-going task spares k r (Change now then) h = h.asked.going
 going task spares k r (Leave reply lacks) h = h.0.going
+going task spares k r other h = h.asked.going
 
 no_writer : {R : Type 0} (b : Bool) → b ≡ true → b ≡ false → R
 no_writer b e f = absurd (cc (e, f))

@@ -67,22 +67,12 @@ module _ (task : Task) (spares : Spares) (k : Knowledge) (s : Seeks task spares 
         asked = record
             { going = s.asked.going; unlinked = s.asked.unlinked };
       }
-  slot_still limits zero Start fits = absurd fits
-  slot_still limits zero (Content w) fits = absurd fits
-  slot_still limits zero (Whether t) fits = absurd fits
-  slot_still limits zero Done fits = absurd fits
-  slot_still limits (suc p) Start fits = absurd fits
-  slot_still limits (suc p) (Content w) fits = absurd fits
-  slot_still limits (suc p) (Whether t) fits = absurd fits
-  slot_still limits (suc p) Done fits = absurd fits
+  slot_still limits other others fits = absurd fits
 
   row_still : (limits : Limits) (q : ℕ) (told : Answer Record) → Fits limits k (Row q) told → Seeks task spares (learn k (Row q) told)
   row_still limits q (Content w) fits = record
       { inside = s.inside; spare = record { room = s.spare.room; rest = s.spare.rest }; unread = s.unread; asked = record { going = s.asked.going; unlinked = s.asked.unlinked } }
-  row_still limits q Start fits = absurd fits
-  row_still limits q (Number n) fits = absurd fits
-  row_still limits q (Whether t) fits = absurd fits
-  row_still limits q Done fits = absurd fits
+  row_still limits q other fits = absurd fits
 
   pub seeks_still : (limits : Limits) (asked : Step Record) (told : Answer Record) → IsReading asked → Fits limits k asked told → Seeks task spares (learn k asked told)
   seeks_still limits asked told reads fits = elim reads [

@@ -109,9 +109,7 @@ has_sought old new told (write_end.Leaf parent leaf) responds = elim responds [
     by_sight Empty sees = cc
     by_sight (Whole version) sees = sees.seeks
 has_sought old new told write_end.Again responds = tt
-has_sought old new told write_end.Done responds = tt
-has_sought old new told (write_end.Removed page) responds = tt
-has_sought old new told (write_end.Due plan after) responds = tt
+has_sought old new told other responds = tt
 
 module _ (task : Task) (spares : Spares) (k : Knowledge) (r : Recalled) (round new : write.WriteRound) (told : Answer Record)
     (h : IsInWriteRound task spares k r round) (fits : Fits task.limits k (write.wanted_step round) told) where

@@ -23,21 +23,11 @@ module _ (limits : Limits) (k : Knowledge) (row : Record) where
 
   in_change : (plan : Plan) (spares : Spares) (state : ChangeState) → Fits limits k (change.wanted_at plan spares state) (Content row) → ⊥
   in_change plan spares (change_state.Taking taken) fits = in_taking taken fits
-  in_change plan spares change_state.Base fits = fits
-  in_change plan spares change_state.Ready fits = fits
-  in_change plan spares change_state.Place fits = fits
-  in_change plan spares change_state.Link fits = fits
-  in_change plan spares change_state.Undo fits = fits
-  in_change plan spares change_state.Clear fits = fits
+  in_change plan spares other fits = fits
 
   pub still : (spares : Spares) (state : State) → FitsLast limits k (wanted_at spares state) (Content row) → is_changing state ≡ false
-  still spares Begun fits = refl
-  still spares Epoch fits = refl
-  still spares (Enter epoch) fits = refl
-  still spares (Read round) fits = refl
-  still spares (Write round) fits = refl
   still spares (Change now then) fits = absurd (in_change now.plan spares now.state fits)
-  still spares (Leave reply lacks) fits = refl
+  still spares other fits = refl
 
   -- and no sweep
   in_reuse : (given : Reuse) → Fits limits k (sweep.step_of given) (Content row) → ⊥
@@ -45,17 +35,10 @@ module _ (limits : Limits) (k : Knowledge) (row : Record) where
   in_reuse (reuse.Pids word bits) fits = fits
 
   in_sweep : (actor : ℕ) (state : SweepState) → Fits limits k (sweep.wanted_at actor state) (Content row) → ⊥
-  in_sweep actor sweep_state.Epoch fits = fits
-  in_sweep actor (sweep_state.Retire epoch) fits = fits
-  in_sweep actor (sweep_state.Announce announces) fits = fits
   in_sweep actor (sweep_state.Reuse given) fits = in_reuse given fits
+  in_sweep actor other fits = fits
 
   pub begun : (spares : Spares) (swept : Option Sweep) (state : State) → FitsLast limits k (asked_by swept (wanted_at spares state)) (Content row) → has_begun state ≡ true
   begun spares None Begun fits = cc
   begun spares (Some swept) Begun fits = absurd (in_sweep swept.actor swept.state fits)
-  begun spares swept Epoch fits = refl
-  begun spares swept (Enter epoch) fits = refl
-  begun spares swept (Read round) fits = refl
-  begun spares swept (Write round) fits = refl
-  begun spares swept (Change now then) fits = refl
-  begun spares swept (Leave reply lacks) fits = refl
+  begun spares swept other fits = refl

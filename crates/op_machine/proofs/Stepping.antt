@@ -30,19 +30,12 @@ freely limits actor k plan spares (Taking taking) = of_taking taking
     of_taking (Bits Row word whole) = tt
     of_taking (Take Pid number whole) = tt
     of_taking (Take Row number whole) = tt
-freely limits actor k plan spares Base = tt
-freely limits actor k plan spares Ready = tt
-freely limits actor k plan spares Place = tt
-freely limits actor k plan spares Link = tt
-freely limits actor k plan spares Undo = tt
-freely limits actor k plan spares Clear = tt
+freely limits actor k plan spares other = tt
 
 -- an exchange that puts a base over a row only where its chain has deltas
 exchanges : (k : Knowledge) (slot old new : ℕ) → ((basis : HasRead k slot old) (page : Page) → k.own.rows new ≡ Written (kind.Base page) → 1 < length basis.chain) → IsUseful k (Exchange slot old new)
-exchanges k zero old new h = tt
-exchanges k (suc slot) zero new h = tt
-exchanges k (suc slot) (suc old) zero h = tt
 exchanges k (suc slot) (suc old) (suc new) h = h
+exchanges k other others rest h = tt
 
 -- the slot of a new page is set and emptied
 readies : (k : Knowledge) (slot new : ℕ) → IsUseful k (Exchange slot 0 new)
@@ -79,16 +72,11 @@ usefully k plan spares Clear useful shows = empties k (cleared_page plan) (clear
 
 -- a split is linked where it leaves items enough on both sides
 no_split : (k : Knowledge) (slot old new : ℕ) → ((split : SplitOf) → k.own.rows new ≡ Written (kind.Split split) → ⊥) → IsHalved k (Exchange slot old new)
-no_split k zero old new never = tt
-no_split k (suc slot) zero new never = tt
-no_split k (suc slot) (suc old) zero never = tt
 no_split k (suc slot) (suc old) (suc new) never = λ basis split row base is ready written. absurd (never split is)
+no_split k other others rest never = tt
 
 halves : (k : Knowledge) (slot old right new base_row : ℕ) (plan : SplitPlan) → plan.next ≡ old → ((chain : List Record) → IsChainFrom k.read.seen plan.next chain → AreHalves chain plan.upper.items)
     → k.own.rows new ≡ Written (kind.Split (split_to plan right)) → k.own.pages right ≡ Set base_row → k.own.rows base_row ≡ Written (kind.Base plan.upper) → IsHalved k (Exchange slot old new)
-halves k zero old right new base_row plan over useful placed stands based = tt
-halves k (suc slot) zero right new base_row plan over useful placed stands based = tt
-halves k (suc slot) (suc old) right zero base_row plan over useful placed stands based = tt
 halves k (suc slot) (suc old) right (suc new) base_row plan over useful placed stands based = λ basis split row base is ready written.
     let e : Written (kind.Split (split_to plan right)) ≡ Written (kind.Split split) = sym placed ∙ is in
     let page : right ≡ split.page = cc in
@@ -97,6 +85,7 @@ halves k (suc slot) (suc old) right (suc new) base_row plan over useful placed s
     let w : Written (kind.Base plan.upper) ≡ Written (kind.Base base) = sym based ∙ ap k.own.rows row_is ∙ written in
     let same : plan.upper ≡ base = cc in
     subst (λ (b : Page). AreHalves basis.chain b.items) same (useful basis.chain (rw over basis.read))
+halves k other others right rest base_row plan over useful placed stands based = tt
 
 never_over : (k : Knowledge) (head row : ℕ) (content : Record) → IsUsefulOver k head content → k.own.rows row ≡ Written content → (split : SplitOf) → k.own.rows row ≡ Written (kind.Split split) → ⊥
 never_over k head row (kind.Split other) useful placed split is = useful
@@ -119,15 +108,13 @@ halved k plan spares (Taking taking) useful shows = of_taking taking
     of_taking (Bits Row word whole) = tt
     of_taking (Take Pid number whole) = tt
     of_taking (Take Row number whole) = tt
-halved k plan spares Base useful shows = tt
 halved k plan spares Ready useful shows = halved_ready k (pid_of spares) (change.base_row plan spares)
-halved k plan spares Place useful shows = tt
 halved k (Install pid head content) spares Link useful shows = no_split k pid head (last_row spares) (never_over k head (last_row spares) content useful shows.1)
 halved k (Split pid plan) spares Link useful shows = halves k pid plan.next (pid_of spares) (last_row spares) (change.base_row (Split pid plan) spares) plan refl useful shows.1 shows.0.0 shows.0.1
-halved k (Root left root) spares Link useful shows = tt
 halved k (Unlink pid head unterm removal) spares Link useful shows = no_split k pid head (last_row spares) (λ split is. let e = sym shows.1 ∙ is in cc)
 halved k plan spares Undo useful shows = halved_empty k (pid_of spares) (change.base_row plan spares)
 halved k plan spares Clear useful shows = halved_empty k (cleared_page plan) (cleared_row plan)
+halved k other spares others useful shows = tt
 
 -- a read frees nothing
 pub steps_reading : (task : Task) (k : Knowledge) (asked : Asked) → ReadsWithin task.limits (asked_step asked) → May task.actor k (asked_step asked) → MayStep task k (asked_step asked)

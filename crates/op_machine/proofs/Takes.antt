@@ -21,12 +21,7 @@ obeys_by old had told new has goes asked wants = λ k r h f. wants (learn_last k
 
 begun_if : (spares : Spares) (state : State) → IsSome (wanted_at spares state) → has_begun state ≡ true
 begun_if spares Begun some = cc
-begun_if spares Epoch some = refl
-begun_if spares (Enter epoch) some = refl
-begun_if spares (Read round) some = refl
-begun_if spares (Write round) some = refl
-begun_if spares (Change now then) some = refl
-begun_if spares (Leave reply lacks) some = refl
+begun_if spares other some = refl
 
 asks_some : (o : Option Sweep) (after : Option (StepOf Record)) → is_some o ≡ true → IsSome (asked_by o after)
 asks_some None after on = cc

@@ -33,14 +33,8 @@ takes_nothing (Unlink pid head unterm removal) k h = absurd h
 -- an update takes nothing out
 update_takes_nothing : (content : Record) (pid head : ℕ) → linked_by content head None ≡ Some (Some head) → TakesNothing (Install pid head content)
 update_takes_nothing (kind.Base page) pid head e = cc
-update_takes_nothing (kind.Put put) pid head e = tt
-update_takes_nothing (kind.Delete delete) pid head e = tt
-update_takes_nothing (kind.Split split) pid head e = tt
-update_takes_nothing (kind.Term term) pid head e = tt
-update_takes_nothing (kind.Hold hold) pid head e = tt
-update_takes_nothing (kind.Remove remove) pid head e = tt
-update_takes_nothing (kind.Merge merge) pid head e = tt
 update_takes_nothing (kind.Unterm unterm) pid head e = cc
+update_takes_nothing other pid head e = tt
 
 module _ (limits : Limits) (k : Knowledge) (unlinked : Unlinked) where
   takes : (plan : Plan) → IsTakenBy k plan unlinked → TakesFresh limits k plan (Some Won) → GoesToLimbo limits k unlinked (limbo_after plan (Some Won) k)

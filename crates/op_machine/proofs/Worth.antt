@@ -42,10 +42,8 @@ reuses_few limits (Rows word bits) = omega arith
 reuses_few limits (Pids word bits) = omega arith
 
 sweep_few : (limits : Limits) (state : SweepState) → sweep.steps_left limits state ≤ most_steps limits
-sweep_few limits sweeping.Epoch = omega arith
-sweep_few limits (sweeping.Retire epoch) = omega arith
-sweep_few limits (sweeping.Announce announces) = omega arith
 sweep_few limits (sweeping.Reuse reuse) = reuses_few limits reuse
+sweep_few limits other = omega arith
 
 sweeps_few : (limits : Limits) (now : Option Sweep) (state : State) → sweep_left limits now state ≤ most_steps limits + 1
 sweeps_few limits (Some now) state = let few = sweep_few limits now.state in omega (arith, few)
@@ -61,8 +59,7 @@ sweeps_few limits None (Leave reply lacks) = omega arith
 number_few : (limits : Limits) (taking : Taking) → number_left limits taking ≤ most_reads limits
 unfolding most_reads
 number_few limits (Bits kind word true) = omega arith
-number_few limits (Bits kind word false) = omega arith
-number_few limits (Take kind number whole) = omega arith
+number_few limits other = omega arith
 
 pids_few : (needs : Bool) (pid : Option ℕ) → pids_missing needs pid ≤ 1
 pids_few false pid = omega arith
@@ -71,9 +68,7 @@ pids_few true (Some pid) = omega arith
 
 rows_few : (plan : Plan) → rows_needed plan ≤ 2
 rows_few (Install pid head content) = omega arith
-rows_few (Split pid plan) = omega arith
-rows_few (NewRoot left root) = omega arith
-rows_few (Unlink pid head unterm removal) = omega arith
+rows_few other = omega arith
 
 missing_few : (plan : Plan) (spares : Spares) → numbers_missing plan spares - 1 ≤ 2
 missing_few plan spares = let pids = pids_few (needs_pid plan) spares.pid in let rows = rows_few plan in omega (arith, pids, rows)
@@ -83,12 +78,7 @@ change_few limits after plan spares (changing.Taking taking) =
     let number = number_few limits taking in
     let most : most_reads limits * (numbers_missing plan spares - 1) ≤ most_reads limits * 2 = mul-le-mul_left (most_reads limits) (missing_few plan spares) in
     omega (arith, number, most)
-change_few limits after plan spares changing.Base = omega arith
-change_few limits after plan spares changing.Ready = omega arith
-change_few limits after plan spares changing.Place = omega arith
-change_few limits after plan spares changing.Link = omega arith
-change_few limits after plan spares changing.Undo = omega arith
-change_few limits after plan spares changing.Clear = omega arith
+change_few limits after plan spares other = omega arith
 
 -- a round
 if_few : (t : Bool) (n : ℕ) → (if t then n else 0) ≤ n
@@ -109,21 +99,15 @@ way_few limits reserve r (Page visit) = visit_few limits reserve r.walk visit.pa
 
 read_kept : (kept : ℕ) (goal : ReadGoal) → read_round_kept kept goal ≤ kept
 read_kept kept read.Seek = omega arith
-read_kept kept (read.Left removed) = omega arith
-read_kept kept read.Beyond = omega arith
+read_kept kept other = omega arith
 
 write_kept : (kept : ℕ) (goal : WriteGoal) → write_round_kept kept goal ≤ kept
 write_kept kept write.Seek = omega arith
-write_kept kept (write.Left pid) = omega arith
-write_kept kept (write.Merge left) = omega arith
-write_kept kept (write.Unterm parent left) = omega arith
+write_kept kept other = omega arith
 
 -- what an operation has left but for its sweep and its errands
 state_few : (task : Task) (spares : Spares) (k : Knowledge) (r : Recalled) (state : State) → ShowsState task spares k r state
     → op.left_at task.limits r spares state ≤ 70 * task.limits.pids + 3 * few_changes task.limits + 20
-state_few task spares k r Begun shows = omega arith
-state_few task spares k r Epoch shows = omega arith
-state_few task spares k r (Enter epoch) shows = omega arith
 state_few task spares k r (Read round) shows =
     let way : left_from round.limits (left_round task.limits) r round.state ≤ 28 * task.limits.pids + 13 + left_round task.limits =
     subst (λ l. left_from round.limits (left_round task.limits) r round.state ≤ 28 * l.pids + 13 + left_round task.limits) shows.limits (way_few round.limits (left_round task.limits) r round.state) in
@@ -140,7 +124,7 @@ state_few task spares k r (Change now next) shows =
     subst (λ l. change.steps_left_at now.limits (one_round task.limits) now.plan spares now.state ≤ few_steps l + one_round task.limits) shows.limits
     (change_few now.limits (one_round task.limits) now.plan spares now.state) in
     omega (arith, some)
-state_few task spares k r (Leave reply lacks) shows = omega arith
+state_few task spares k r other shows = omega arith
 
 -- all that an operation has left
 pub due_few : (k : Knowledge) (r : Recalled) (now : Op) (hand : Hand) → Shows now hand k r → length now.task.errands ≤ 16 → steps_left r now hand ≤ cause_worth now.task.limits * 10

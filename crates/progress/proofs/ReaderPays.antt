@@ -9,10 +9,8 @@ use Rattle.traces.proofs.TraceLaws.{Happens-kept, Happens-last}
 use Rattle.progress.specs.ReadersAmong.{changes_tree, is_change}
 
 kind_of : (o : Option Link) → is_change o ≡ true → (kind : Link) × (o ≡ Some kind) × (kind ≢ link.Ready) × (kind ≢ link.Undo)
-kind_of None e = absurd (cc)
-kind_of (Some link.Ready) e = absurd (cc)
-kind_of (Some link.Undo) e = absurd (cc)
 kind_of (Some kind) e = (kind, refl, (λ f. cc f), (λ f. cc f))
+kind_of other e = absurd (cc)
 
 pub change_is : (memory : Memory) (entry : Entry) → changes_tree memory entry ≡ true → ChangesTree memory entry
 change_is memory (Step a (Exchange slot old new) (Whether true) r) e = let h = kind_of (link_of memory slot old new) e in (a, slot, old, new, h.0, ((r, refl), h.1), h.2, h.3)

@@ -74,11 +74,9 @@ round_fresh limits entries task round m state past = record {
 
 -- after an answer the operation is in a round, or is to leave
 pub after_reads : (task : Task) (next : ReadRound) (end : Option ReadEnd) (new : State) → AfterReading task next end new → (is_reading new ≡ true) ⊎ (is_leaving new ≡ true)
-after_reads task next None new goes = inl (ap is_reading goes)
-after_reads task next (Some Again) new goes = inl (ap is_reading goes)
-after_reads task next (Some (Removed removed)) new goes = inl (ap is_reading goes)
 after_reads task next (Some (Leaf leaf)) new goes = inr goes
 after_reads task next (Some (Beside left removed)) new goes = inr goes
+after_reads task next other new goes = inl (ap is_reading goes)
 
 -- what a round makes of an answer is the same for each task with its first round
 pub same_steps : (task other : Task) (round : ReadRound) (told : Answer Record) (new : State) → first_read task ≡ first_read other

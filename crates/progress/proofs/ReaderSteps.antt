@@ -142,21 +142,13 @@ module _ (limits : Limits) (entries : List Entry) (actor : ℕ) (step : StepOf R
         pays_kept limits entries entry actor m (h.left + 1) 1 le (omega (arith, most, some)) h.pays
   ]
   from_round round r Begun wants shows steps goes pays m after within = elim goes [ inl e ↦ odd e | inr e ↦ odd e ]
-  from_round round r Epoch wants shows steps goes pays m after within = elim goes [ inl e ↦ odd e | inr e ↦ odd e ]
-  from_round round r (Enter epoch) wants shows steps goes pays m after within = elim goes [ inl e ↦ odd e | inr e ↦ odd e ]
-  from_round round r (Write other) wants shows steps goes pays m after within = elim goes [ inl e ↦ odd e | inr e ↦ odd e ]
-  from_round round r (Change now next) wants shows steps goes pays m after within = elim goes [ inl e ↦ odd e | inr e ↦ odd e ]
+  from_round round r other wants shows steps goes pays m after within = elim goes [ inl e ↦ odd e | inr e ↦ odd e ]
 
   -- before the first round
   from_epoch : (t : State) → is_entering t ≡ true → ((m : ℕ) → start < m → m ≤ length entries → PaysFrom limits entries actor m (one_memory limits + 3))
       → (m : ℕ) → start < m → m ≤ length longer → PaysAt limits longer task m t
   from_epoch (Enter epoch) enters pays m after within = from_each (one_memory limits + 3) (one_memory limits + 2) m within (omega arith) (omega arith) (pays m after)
-  from_epoch Begun enters pays m after within = odd enters
-  from_epoch Epoch enters pays m after within = odd enters
-  from_epoch (Read round) enters pays m after within = odd enters
-  from_epoch (Write round) enters pays m after within = odd enters
-  from_epoch (Change now next) enters pays m after within = odd enters
-  from_epoch (Leave reply lacks) enters pays m after within = odd enters
+  from_epoch other enters pays m after within = odd enters
 
   from_enter : (t : State) → t ≡ Read (first_read old) → ((m : ℕ) → start < m → m ≤ length entries → PaysFrom limits entries actor m (one_memory limits + 2))
       → (m : ℕ) → start < m → m ≤ length longer → PaysAt limits longer task m t

@@ -23,14 +23,8 @@ child_among (item ∷ items) key page held is = by_test (is_eq (key_cmp key item
 
 said : (newest : Record) (key : List ℕ) (page : ℕ) (held : Bool) → content_said newest key ≡ Some (Child page held) → NamesPage newest page
 said (kind.Base base) key page held is = inr (child_among base.items key page held is)
-said (kind.Put put) key page held is = cc
-said (kind.Delete delete) key page held is = cc
-said (kind.Split split) key page held is = cc
-said (kind.Term term) key page held is = cc
-said (kind.Hold hold) key page held is = cc
-said (kind.Remove remove) key page held is = cc
 said (kind.Merge merge) key page held is = inr (child_among merge.items key page held is)
-said (kind.Unterm unterm) key page held is = cc
+said other key page held is = cc
 
 child_meets : (chain : List Record) (key : List ℕ) (page : ℕ) (held : Bool) → content_in chain key ≡ Some (Child page held) → AnyNames chain page
 child_meets [] key page held is = cc
@@ -75,14 +69,7 @@ or_true false = refl
 
 removed_one : (content : Record) → is_removed (content ∷ []) ≡ (is_removal content || false)
 removed_one (kind.Base base) = refl
-removed_one (kind.Put put) = refl
-removed_one (kind.Delete delete) = refl
-removed_one (kind.Split split) = refl
-removed_one (kind.Term term) = refl
-removed_one (kind.Hold hold) = refl
-removed_one (kind.Remove remove) = refl
-removed_one (kind.Merge merge) = refl
-removed_one (kind.Unterm unterm) = refl
+removed_one other = refl
 
 -- a front with one more record is removed where it was, or where the record is a removal
 pub removed_push : (seen : ℕ → Option Record) (part : List Record) (head row : ℕ) (content : Record) → IsFront seen head part row

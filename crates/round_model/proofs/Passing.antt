@@ -378,8 +378,7 @@ module _ (limits : Limits) (key : List ℕ) (goal : ReadGoal) (leg : Leg) (k now
 
     met_below : (other : Leg) → has_met (below version other) ≡ has_met other
     met_below (Down above) = refl
-    met_below (Round removed) = refl
-    met_below (Past above) = refl
+    met_below other = refl
 
     pub goes_down : (pid : ℕ) → 0 < level_in chain → LeadsDown (read_way goal key) chain pid → VisitsToRead limits key goal (below version leg) now r (to_page limits pid)
     goes_down pid index leads =

@@ -23,8 +23,7 @@ and_left false b e = absurd cc
 
 or_swap : (a b c : Bool) → (a || (b || c)) ≡ (b || (a || c))
 or_swap true true c = refl
-or_swap true false c = refl
-or_swap false b c = refl
+or_swap other others c = refl
 
 -- one record more, that is a removal or not, and a cause or not
 pub told_more : (b l p t : Bool) → (l ≡ true → b ≡ true) → (b || (p || t)) ≡ ((if l then false else p) || (b || t))
@@ -65,26 +64,12 @@ not_lower content walk e gone =
 
 pub paid_lower : (r : Recalled) (row : ℕ) (content : Record) → is_lower content r.walk ≡ true → r.walk.rooted ≡ true → IsPaid r (step.Row row) (answer.Content content)
 paid_lower r row (kind.Remove remove) e rooted = (rooted, e)
-paid_lower r row (kind.Base base) e rooted = cc
-paid_lower r row (kind.Put put) e rooted = cc
-paid_lower r row (kind.Delete delete) e rooted = cc
-paid_lower r row (kind.Split split) e rooted = cc
-paid_lower r row (kind.Term term) e rooted = cc
-paid_lower r row (kind.Hold hold) e rooted = cc
-paid_lower r row (kind.Merge merge) e rooted = cc
-paid_lower r row (kind.Unterm unterm) e rooted = cc
+paid_lower r row other e rooted = cc
 
 -- a base is none
 pub base_is_none : (content : Record) (walk : Walk) → next_row content ≡ None → is_lower content walk ≡ false
 base_is_none (kind.Base base) walk e = refl
-base_is_none (kind.Put put) walk e = cc
-base_is_none (kind.Delete delete) walk e = cc
-base_is_none (kind.Split split) walk e = cc
-base_is_none (kind.Term term) walk e = cc
-base_is_none (kind.Hold hold) walk e = cc
-base_is_none (kind.Remove remove) walk e = cc
-base_is_none (kind.Merge merge) walk e = cc
-base_is_none (kind.Unterm unterm) walk e = cc
+base_is_none other walk e = cc
 
 -- the level of the last cause
 
@@ -109,36 +94,16 @@ level_noted walk part content before = by_test (is_lower content walk) refl
 
 delta_level : (newest : Record) (under : ℕ) → is_some (next_row newest) ≡ true → level_after newest under ≡ under
 delta_level (kind.Base base) under e = cc
-delta_level (kind.Put put) under e = refl
-delta_level (kind.Delete delete) under e = refl
-delta_level (kind.Split split) under e = refl
-delta_level (kind.Term term) under e = refl
-delta_level (kind.Hold hold) under e = refl
-delta_level (kind.Remove remove) under e = refl
-delta_level (kind.Merge merge) under e = refl
-delta_level (kind.Unterm unterm) under e = refl
+delta_level other under e = refl
 
 delta_removed : (newest : Record) (under : Bool) → is_some (next_row newest) ≡ true → is_removal newest ≡ false → removed_after newest under ≡ under
 delta_removed (kind.Base base) under e none = cc
-delta_removed (kind.Put put) under e none = refl
-delta_removed (kind.Delete delete) under e none = refl
-delta_removed (kind.Split split) under e none = refl
-delta_removed (kind.Term term) under e none = refl
-delta_removed (kind.Hold hold) under e none = refl
 delta_removed (kind.Remove remove) under e none = cc
-delta_removed (kind.Merge merge) under e none = refl
-delta_removed (kind.Unterm unterm) under e none = refl
+delta_removed other under e none = refl
 
 removal_fits : (newest : Record) (under : List Record) → FitsOver under newest → is_removal newest ≡ true → removal_level newest ≡ level_in under
 removal_fits (kind.Remove remove) under fit e = sym fit.fits.level ∙ fit.makes.level
-removal_fits (kind.Base base) under fit e = cc
-removal_fits (kind.Put put) under fit e = cc
-removal_fits (kind.Delete delete) under fit e = cc
-removal_fits (kind.Split split) under fit e = cc
-removal_fits (kind.Term term) under fit e = cc
-removal_fits (kind.Hold hold) under fit e = cc
-removal_fits (kind.Merge merge) under fit e = cc
-removal_fits (kind.Unterm unterm) under fit e = cc
+removal_fits other under fit e = cc
 
 -- are of its level
 pub removal_is_at : (chain : List Record) (level : ℕ) → IsFitted chain → HasRemovalAt chain level → level ≡ level_in chain

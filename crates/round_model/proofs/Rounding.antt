@@ -15,8 +15,7 @@ use Rattle.round_model.proofs.WayLaws.{covers_here, down_names, named_of, named_
 -- a round that has gone to the left of a removed page goes on anywhere
 beyond_any : (leg : Leg) → (has_met leg || true) ≡ true
 beyond_any (Down above) = refl
-beyond_any (Round removed) = refl
-beyond_any (Past above) = refl
+beyond_any other = refl
 
 -- beside the removed page
 module _ (limits : Limits) (key : List ℕ) (removed : Version) (leg : Leg) (k now : Knowledge) (r : Recalled) (version : Version)
@@ -136,11 +135,9 @@ module _ (limits : Limits) (key : List ℕ) (goal : ReadGoal) (leg : Leg) (above
           absurd (omega (arith, is, above_it))
 
   overs : (other : Leg) → above_of other ≡ Some above → WasOn limits k now r goal version h.level h.earlier other → Overs
-  overs (Down None) e on = cc
   overs (Down (Some page)) e on = let same : page ≡ above = same_Some _ _ e in rw (← same) on
-  overs (Round removed) e on = cc
-  overs (Past None) e on = cc
   overs (Past (Some page)) e on = let same : page ≡ above = same_Some _ _ e in rw (← same) (lower on.0, on.1)
+  overs other e on = cc
 
   over : IsOver limits k now goal version.pid h.level h.earlier above
   over = (overs leg is_above h.leg_was).1

@@ -21,32 +21,23 @@ use Rattle.rounds.specs.ReadRounds.{IsOnLevelOf, LeadsLeft}
 pub leads_left : (version above : Version) (found : Option ℕ) → IsFitted above.chain
     → MatchOption found (HasNoChild (content_in above.chain) (left_of version)) (IsGreatestChild (content_in above.chain) (left_of version))
     → (leg : Leg) → above_of leg ≡ Some above → MatchOption found (LacksLeft version leg) (LeadsLeft version leg)
-leads_left version above None fit h (Down None) e = cc
 leads_left version above None fit h (Down (Some page)) e = let same : page ≡ above = same_Some _ _ e in rw same h
-leads_left version above None fit h (Round removed) e = cc
-leads_left version above None fit h (Past None) e = cc
 leads_left version above None fit h (Past (Some page)) e = let same : page ≡ above = same_Some _ _ e in rw same h
-leads_left version above (Some child) fit h (Down None) e = cc
 leads_left version above (Some child) fit h (Down (Some page)) e = let same : page ≡ above = same_Some _ _ e in rw same (goes_down (left_of version) above.chain child fit h)
-leads_left version above (Some child) fit h (Round removed) e = cc
-leads_left version above (Some child) fit h (Past None) e = cc
 leads_left version above (Some child) fit h (Past (Some page)) e = let same : page ≡ above = same_Some _ _ e in rw same (goes_down (left_of version) above.chain child fit h)
+leads_left version above other fit h others e = cc
 
 -- the page above leads to the left
 pub above_leads : (version : Version) (next : ℕ) (leg : Leg) → LeadsLeft version leg next → (above : Version) × (above_of leg ≡ Some above) × LeadsDown (left_of version) above.chain next
-above_leads version next (Down None) h = absurd h
 above_leads version next (Down (Some above)) h = (above, refl, h)
-above_leads version next (Round removed) h = absurd h
-above_leads version next (Past None) h = absurd h
 above_leads version next (Past (Some above)) h = (above, refl, h)
+above_leads version next other h = absurd h
 
 pub left_within : (limits : Limits) (way : List ℕ → Bool) (goal : ReadGoal) (version : Version) (next : ℕ) (leg : Leg) → CanMeetLeg limits way goal version leg
     → LeadsLeft version leg next → (0 < next) × (next < limits.pids)
-left_within limits way goal version next (Down None) can h = absurd h
 left_within limits way goal version next (Down (Some above)) can h = down_within limits (left_of version) above.chain next can.1.names can.1.index h
-left_within limits way goal version next (Round removed) can h = absurd h
-left_within limits way goal version next (Past None) can h = absurd h
 left_within limits way goal version next (Past (Some above)) can h = down_within limits (left_of version) above.chain next can.1.names can.1.index h
+left_within limits way goal version next other can h = absurd h
 
 -- a page that isn't one of the removed page's level, and alive
 pub is_off : (version removed : Version) → ¬ IsOnLevelOf version removed → (is_removed version.chain ≡ true) ⊎ (level_in version.chain ≢ level_in removed.chain)

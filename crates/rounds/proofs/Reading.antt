@@ -60,11 +60,9 @@ module _ (is_there : ℕ → Record → Type 0) where
 
   -- the page above is there
   pub above_read : (leg : Leg) (above : Version) → above_of leg ≡ Some above → IsReadLeg is_there leg → IsReadPage is_there above
-  above_read (Down None) above e read = cc
   above_read (Down (Some page)) above e read = subst (IsReadPage is_there) (same_Some _ _ e) read
-  above_read (Round removed) above e read = cc
-  above_read (Past None) above e read = cc
   above_read (Past (Some page)) above e read = subst (IsReadPage is_there) (same_Some _ _ e) read
+  above_read other above e read = cc
 
   -- so is the page that a round goes round
   pub round_read : (leg : Leg) (removed : Version) → leg ≡ Round removed → IsReadLeg is_there leg → IsReadPage is_there removed

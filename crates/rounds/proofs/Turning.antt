@@ -31,10 +31,8 @@ module _ (chain : List Record) (count : ℕ) (counted : (items : List Item) → 
 -- the goal, by the removed page to whose left it is
 
 pub left_by : (goal : WriteGoal) (pid : ℕ) → removed_of goal ≡ Some pid → goal ≡ Left pid
-left_by Seek pid e = cc
 left_by (Left other) pid e = let is : other ≡ pid = cc in cc
-left_by (Merge left) pid e = cc
-left_by (Unterm parent left) pid e = cc
+left_by other pid e = cc
 
 pub seek_by : (goal : WriteGoal) → SeeksLeaf goal → removed_of goal ≡ None → goal ≡ Seek
 seek_by Seek seeks e = refl

@@ -16,14 +16,7 @@ some (newest ∷ under) h = omega arith
 
 keeps_start : (delta : Record) (level : ℕ) (low : List ℕ) → is_some (next_row delta) ≡ true → (level_after delta level ≡ level) × (low_after delta low ≡ low)
 keeps_start (Base page) level low h = cc
-keeps_start (Put put) level low h = (refl, refl)
-keeps_start (Delete delete) level low h = (refl, refl)
-keeps_start (Split split) level low h = (refl, refl)
-keeps_start (Term term) level low h = (refl, refl)
-keeps_start (Hold hold) level low h = (refl, refl)
-keeps_start (Remove remove) level low h = (refl, refl)
-keeps_start (Merge merge) level low h = (refl, refl)
-keeps_start (Unterm unterm) level low h = (refl, refl)
+keeps_start other level low h = (refl, refl)
 
 -- the last record has the level and the lowest key
 pub start_of_last : (chain : List Record) (place : ℕ) (d : Record) → IsFitted chain → suc place ≡ length chain
@@ -41,11 +34,4 @@ start_of_last (newest ∷ older ∷ under) (suc place) d (over, rest) e =
 -- each delta asks for a page that isn't removed
 alive : (delta : Record) (page : Page) → is_some (next_row delta) ≡ true → FitsOnPage page delta → page.removed ≡ false
 alive (Base base) page h fits = cc
-alive (Put put) page h fits = fits.alive
-alive (Delete delete) page h fits = fits.alive
-alive (Split split) page h fits = fits.alive
-alive (Term term) page h fits = fits.alive
-alive (Hold hold) page h fits = fits.alive
-alive (Remove remove) page h fits = fits.alive
-alive (Merge merge) page h fits = fits.alive
-alive (Unterm unterm) page h fits = fits.alive
+alive other page h fits = fits.alive

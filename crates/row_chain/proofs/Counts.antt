@@ -28,38 +28,24 @@ none_of rest has = items_unique rest [] has.ascending nothing.ascending (λ q. h
 
 -- a record that names one key names no other
 pub names_one : (row : Record) (key : List ℕ) (is_there : Bool) → one_key row ≡ Some (key, is_there) → (q : List ℕ) → names row q ≡ is_eq (key_cmp q key)
-names_one (Base page) key is_there e q = cc
 names_one (Put put) key is_there e q = let is : put.key ≡ key = ap named e in ap (λ k. is_eq (key_cmp q k)) is
 names_one (Delete delete) key is_there e q = let is : delete.key ≡ key = ap named e in ap (λ k. is_eq (key_cmp q k)) is
-names_one (Split split) key is_there e q = cc
 names_one (Term term) key is_there e q = let is : term.separator ≡ key = ap named e in ap (λ k. is_eq (key_cmp q k)) is
 names_one (Hold hold) key is_there e q = let is : hold.separator ≡ key = ap named e in ap (λ k. is_eq (key_cmp q k)) is
-names_one (Remove remove) key is_there e q = cc
-names_one (Merge merge) key is_there e q = cc
 names_one (Unterm unterm) key is_there e q = let is : unterm.separator ≡ key = ap named e in ap (λ k. is_eq (key_cmp q k)) is
+names_one other key is_there e q = cc
 
 -- and says of it what its mark says
 pub says_one : (row : Record) (key : List ℕ) (is_there : Bool) → one_key row ≡ Some (key, is_there) → is_some (content_said row key) ≡ is_there
 says_one (Base page) key is_there e = cc
-says_one (Put put) key is_there e = ap mark e
-says_one (Delete delete) key is_there e = ap mark e
 says_one (Split split) key is_there e = cc
-says_one (Term term) key is_there e = ap mark e
-says_one (Hold hold) key is_there e = ap mark e
 says_one (Remove remove) key is_there e = cc
 says_one (Merge merge) key is_there e = cc
-says_one (Unterm unterm) key is_there e = ap mark e
+says_one other key is_there e = ap mark e
 
 pub bound_kept : (row : Record) (key : List ℕ) (is_there : Bool) (bound : Option (List ℕ)) → one_key row ≡ Some (key, is_there) → bound_under row bound ≡ bound
-bound_kept (Base page) key is_there bound e = refl
-bound_kept (Put put) key is_there bound e = refl
-bound_kept (Delete delete) key is_there bound e = refl
 bound_kept (Split split) key is_there bound e = cc
-bound_kept (Term term) key is_there bound e = refl
-bound_kept (Hold hold) key is_there bound e = refl
-bound_kept (Remove remove) key is_there bound e = refl
-bound_kept (Merge merge) key is_there bound e = refl
-bound_kept (Unterm unterm) key is_there bound e = refl
+bound_kept other key is_there bound e = refl
 
 -- each other record adds its items, and a split cuts off those above its separator
 module _ (bound : Option (List ℕ)) where

@@ -21,8 +21,7 @@ few_under bound (item ∷ items) = let rest = few_under bound items in either (i
 
 one_at_most : (a b : Bool) → (if a then (if b then 0 else 1) else 0) ≤ 1
 one_at_most true true = omega arith
-one_at_most true false = omega arith
-one_at_most false b = omega arith
+one_at_most other others = omega arith
 
 -- a record adds as many as it has, or one
 module _ (row : Record) (under : List Record) (fitted : IsFitted (row ∷ under)) (items rest : List Item) (has : IsItemsOf (row ∷ under) items) (under_has : IsItemsOf under rest) where

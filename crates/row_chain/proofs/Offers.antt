@@ -16,12 +16,8 @@ nothing true = refl
 nothing false = refl
 
 pub by_items : (row : Record) (q : List ℕ) → IsSpellable row → content_in (row ∷ []) q ≡ content_at (items_said row) q
-by_items (Base page) q h = refl
-by_items (Put put) q h = refl
 by_items (Delete delete) q h = nothing _
 by_items (Split split) q h = nothing _
-by_items (Term term) q h = refl
-by_items (Hold hold) q h = refl
-by_items (Remove remove) q h = refl
 by_items (Merge merge) q h = in_range _ h.3.ruled.is_page q
 by_items (Unterm unterm) q h = nothing _
+by_items other q h = refl

@@ -143,14 +143,7 @@ not_there newer passes (Some best) key g pass above = by_content (content_in new
 -- A record that never says that a key is absent has a content at each key that it names.
 gives : (newest : Record) (key : List ℕ) → may_take newest ≡ false → content_said newest key ≡ None → ⊥
 gives (Base page) key e h = cc
-gives (Put put) key e h = cc
-gives (Delete delete) key e h = cc
-gives (Split split) key e h = cc
-gives (Term term) key e h = cc
-gives (Hold hold) key e h = cc
-gives (Remove remove) key e h = cc
-gives (Merge merge) key e h = cc
-gives (Unterm unterm) key e h = cc
+gives other key e h = cc
 
 -- where a key isn't there, it is named only where it is taken away
 pub untaken : (newer : List Record) (key : List ℕ) → content_in newer key ≡ None → is_taken newer key ≡ false → is_named newer key ≡ false

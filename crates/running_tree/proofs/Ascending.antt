@@ -142,8 +142,7 @@ less_of Greater e = cc
 
 not_less : (order : Ordering) → order ≡ Less → false ≡ is_lt order → ⊥
 not_less Less e f = cc
-not_less Equal e f = cc
-not_less Greater e f = cc
+not_less other e f = cc
 
 -- a key was compared with the one before it
 module _ (pairs : List Pair) (place : ℕ) (one two : Pair) (order : Ordering) (some : 1 ≤ place) (below : place < length pairs)

@@ -22,7 +22,6 @@ not_inside false t e = cc
 
 -- Who is outside takes only steps on a word.
 word_of : (limits : Limits) (a : ℕ) (k : Knowledge) (s : StepOf Record) → May a k s → IsWithin limits s → k.inside ≡ false → HasWord limits s
-word_of limits a k (step.Slot p) m w out = w
 word_of limits a k (step.Row r) m w out = not_inside k.inside m.0 out
 word_of limits a k step.Epoch m w out = tt
 word_of limits a k (step.Announce b) m w out = let l = limits.allowed.few_actors in omega arith
@@ -30,13 +29,11 @@ word_of limits a k (step.PidBits b) m w out = let l = limits.allowed.whole_pids 
 word_of limits a k (step.RowBits b) m w out = let l = limits.allowed.whole_rows in omega arith
 word_of limits a k (step.Place r c) m w out = not_inside k.inside m.0 out
 word_of limits a k (step.Exchange p x y) m w out = w.0
-word_of limits a k (step.TakePid p) m w out = w
-word_of limits a k (step.TakeRow r) m w out = w
 word_of limits a k (step.Enter e) m w out = tt
 word_of limits a k step.Leave m w out = tt
-word_of limits a k (step.Retire t) m w out = w
 word_of limits a k (step.ReusePids b c) m w out = let l = limits.allowed.whole_pids in let v = w.0 in omega arith
 word_of limits a k (step.ReuseRows b c) m w out = let l = limits.allowed.whole_rows in let v = w.0 in omega arith
+word_of limits a k other m w out = w
 
 -- what is asked of a seat, of what it shows
 pub idle_of : (old seat : Seat) → seat ≡ old → unfinished_command old ≡ None → unfinished_command seat ≡ None

@@ -35,12 +35,7 @@ without_begin run a step told reply = ap (λ (before : List Entry). before ++ St
 -- An operation that has not ended has a step left.
 state_left : (task : Task) (hand : Hand) (k : Knowledge) (r : Recalled) (s : State) → ShowsState task hand.spares k r s → 0 < left_at task.limits r hand.spares s
 state_left task hand k r state.Begun h = omega arith
-state_left task hand k r state.Epoch h = omega arith
-state_left task hand k r (state.Enter epoch) h = omega arith
-state_left task hand k r (state.Read round) h = omega arith
-state_left task hand k r (state.Write round) h = omega arith
-state_left task hand k r (state.Change now then) h = omega arith
-state_left task hand k r (state.Leave reply lacks) h = omega arith
+state_left task hand k r other h = omega arith
 
 some_more : (m n o : ℕ) → 0 < n → 0 < (m + n) + o
 some_more m n o some = omega arith

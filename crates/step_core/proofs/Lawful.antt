@@ -73,23 +73,18 @@ module _ (limits : Limits) (entries : List Entry) (state : IsState limits entrie
     -- the table that has the memory has what the step asks for
     module _ (apart : RowsAreApart) (table : CoreTable) (same : table.limits ≡ limits) (has : memory_in table ≡ m) (who : a < limits.actors) where
       within : (step : StepOf Record) → IsWithin limits step → May a (knows entries a) step → IsWithinTable table a step
-      within (Slot pid) h may = rw same h
       within (Row row) h may =
           let stands = (apart limits entries state).placed a row may.1 in
           subst (λ (o : Option Record). IsSome o) (sym (ap (λ (memory : Memory). memory.rows row) has ∙ stands.1)) refl
       within Epoch h may = tt
-      within (Announce other) h may = rw same h
-      within (PidBits word) h may = rw same h
-      within (RowBits word) h may = rw same h
       within (Place row content) h may = rw same h.0
       within (Exchange slot old new) h may = rw same h.0
-      within (TakePid pid) h may = rw same h
-      within (TakeRow row) h may = rw same h
       within (Enter epoch) h may = rw same who
       within Leave h may = rw same who
       within (Retire epoch) h may = omega (arith, h)
       within (ReusePids word bits) h may = rw same h.0
       within (ReuseRows word bits) h may = rw same h.0
+      within other h may = rw same h
 
       pub within_at : (r : Recalled) (hand : Hand) (running : Option UnderWay) → IsActorWith limits a (knows entries a) r hand running → IsWithinAt table a (wanted_by running)
       within_at r hand None at = tt

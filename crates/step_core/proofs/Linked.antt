@@ -53,21 +53,12 @@ linked memory (Exchange slot old new) (Whether true) closed asks answered = go (
         (subst (λ row. IsTrue (is_placed memory row)) before (closed slot (positive slot s) (subst (λ row. 0 < row) (sym before) (positive old p))))
     go false s false p false q = some_at record_link (memory.rows new) (asks (positive slot s) (positive old p) (positive new q))
 linked memory (Exchange slot old new) (Whether false) closed asks answered = refl
-linked memory (Exchange slot old new) Start closed asks answered = refl
-linked memory (Exchange slot old new) (Number n) closed asks answered = refl
-linked memory (Exchange slot old new) (Content x) closed asks answered = refl
-linked memory (Exchange slot old new) Done closed asks answered = refl
-linked memory step answer closed asks answered = refl
+linked memory other others closed asks answered = refl
 
 -- the step doesn't change what its link is said by
 told_after : (memory : Memory) (actor : ℕ) (step : StepOf Record) (answer : Answer Record) → link_told (memory_after actor step memory) step answer ≡ link_told memory step answer
 told_after memory actor (Exchange slot old new) (Whether true) = refl
-told_after memory actor (Exchange slot old new) (Whether false) = refl
-told_after memory actor (Exchange slot old new) Start = refl
-told_after memory actor (Exchange slot old new) (Number n) = refl
-told_after memory actor (Exchange slot old new) (Content x) = refl
-told_after memory actor (Exchange slot old new) Done = refl
-told_after memory actor step answer = refl
+told_after memory actor other others = refl
 
 pub event_is : (memory after : Memory) (actor : ℕ) (step : StepOf Record) (answer : Answer Record) (reply : Option Reply) (event : Event)
     → after ≡ memory_after actor step memory → HasHeads memory → Asks (is_placed memory) step

@@ -81,13 +81,11 @@ asks_page limits actor k reply may shows = elim may.justified [
 
 -- an operation shows what its actor was asked
 asked_is : (task : Task) (spares : Spares) (k : Knowledge) (r : Recalled) (state : State) → ShowsState task spares k r state → k.asked.command ≡ Some task.command
-asked_is task spares k r Begun h = h.asked.going
-asked_is task spares k r Epoch h = h.asked.going
 asked_is task spares k r (Enter epoch) h = h.0.asked.going
 asked_is task spares k r (Read round) h = h.seeks.asked.going
 asked_is task spares k r (Write round) h = h.seeks.asked.going
-asked_is task spares k r (Change now then) h = h.asked.going
 asked_is task spares k r (Leave reply lacks) h = h.0.going
+asked_is task spares k r other h = h.asked.going
 
 -- an actor with an operation shows that command, and wants a step
 command_shown : (limits : Limits) (number : ℕ) (k : Knowledge) (r : Recalled) (hand : Hand) (running : Option UnderWay) → is_some (command_at running) ≡ true
@@ -155,21 +153,8 @@ spellable at (limits, number, k, r, shows) step is = spellable_with limits numbe
 
 -- a read alone is answered by a record
 pub reads : (memory : Memory) (step : StepOf Record) (content : Record) → IsAnswer memory step (Content content) → (row : ℕ) × (step ≡ Row row)
-reads memory (Slot pid) content answered = cc
 reads memory (Row row) content answered = (row, refl)
-reads memory wants.Epoch content answered = cc
-reads memory (Announce actor) content answered = cc
-reads memory (PidBits word) content (bits, is, answered) = cc
-reads memory (RowBits word) content (bits, is, answered) = cc
-reads memory (Place row placed) content answered = cc
-reads memory (Exchange slot old new) content answered = cc
-reads memory (TakePid pid) content answered = cc
-reads memory (TakeRow row) content answered = cc
-reads memory (wants.Enter epoch) content answered = cc
-reads memory wants.Leave content answered = cc
-reads memory (Retire epoch) content answered = cc
-reads memory (ReusePids word bits) content answered = cc
-reads memory (ReuseRows word bits) content answered = cc
+reads memory other content others = cc
 
 -- the record that is read stands in the row
 pub read_stands : (memory : Memory) (step : StepOf Record) (row : ℕ) (content : Record) → step ≡ Row row → IsAnswer memory step (Content content) → memory.rows row ≡ Some content

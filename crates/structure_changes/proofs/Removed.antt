@@ -7,14 +7,8 @@ use Rattle.deltas.specs.Records.{removed_after}
 -- nothing else fits over a removed page
 removal : (newest : Record) (under : List Record) → FitsOver under newest → removed_after newest (is_removed under) ≡ true → (remove : Remove) × (newest ≡ kind.Remove remove)
 removal (kind.Base page) under f e = absurd cc
-removal (kind.Put put) under f e = let alive = f.fits.alive in let is = f.makes.removed in absurd cc
-removal (kind.Delete delete) under f e = let alive = f.fits.alive in let is = f.makes.removed in absurd cc
-removal (kind.Split split) under f e = let alive = f.fits.alive in let is = f.makes.removed in absurd cc
-removal (kind.Term term) under f e = let alive = f.fits.alive in let is = f.makes.removed in absurd cc
-removal (kind.Hold hold) under f e = let alive = f.fits.alive in let is = f.makes.removed in absurd cc
 removal (kind.Remove remove) under f e = (remove, refl)
-removal (kind.Merge merge) under f e = let alive = f.fits.alive in let is = f.makes.removed in absurd cc
-removal (kind.Unterm unterm) under f e = let alive = f.fits.alive in let is = f.makes.removed in absurd cc
+removal other under f e = let alive = f.fits.alive in let is = f.makes.removed in absurd cc
 
 base_stands : (newest : Record) (page : Page) → newest ≡ kind.Base page → removed_after newest false ≡ true → ⊥
 base_stands newest page is e = let no : removed_after (kind.Base page) false ≡ true = subst (λ (r : Record). removed_after r false ≡ true) is e in absurd cc

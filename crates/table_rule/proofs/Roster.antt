@@ -1,5 +1,5 @@
 -- Refreshing, splitting and joining seats keeps the rule, and so does a new seat.
-use Rattle.std.proofs.Common.{◌≡◌, ◌≢◌, ℕ, zero, suc, ◌+◌, List, [], ◌∷◌, ◌++◌, map, length, set, sym, refl, ap, ◌∙◌, subst, ⊎_elim, arith}
+use Rattle.std.proofs.Common.{◌≡◌, ◌≢◌, ℕ, zero, suc, ◌+◌, ◌<◌, ◌≤◌, List, [], ◌∷◌, ◌++◌, map, length, set, sym, refl, ap, ◌∙◌, subst, ⊎_elim, arith}
 use Rattle.std.proofs.lemmas.List.{set-get_or}
 use mathlib.Core.Logic.{dite}
 use mathlib.Core.Option.{none, some, some-injective, some-ne-none}
@@ -15,7 +15,7 @@ use Rattle.tree_words.specs.Words.{SpellsWhere}
 use Rattle.table_rule.specs.declared.view.Reach.{Reach}
 use Rattle.table_rule.specs.declared.view.Reach.TheVariants.{Idle, Writing, Noted}
 use Rattle.table_rule.specs.declared.view.Part.{Part}
-use Rattle.table_rule.specs.Running.{Each, ExtendsFor, LeavesRow, IsSettled, StartsWith, is_at, times, PartFits, Running}
+use Rattle.table_rule.specs.Running.{Each, ExtendsFor, LeavesRow, IsSettled, StartsWith, everywhere, is_at, times, PartFits, Running}
 use Rattle.table_rule.specs.Views.{Mine, IsRefreshed, Refreshes, with_run, IsBlank, first_part, part_note, other_parts}
 use Rattle.table_rule.proofs.Turns.{TableState}
 use Rattle.table_rule.proofs.Parts.{mark, each_map, each_append, extends_goes, everywhere_set, everywhere_snoc, times_append, spells_views}
@@ -66,26 +66,35 @@ module _ (limits : Limits) (law : List Entry → Type 0) where
   fits_refreshed words run (p ∷ ps) t =
       (record { extends = extends_goes p.reach p.actor run run (extends_self p.actor run); reach = t.0.reach; there = t.0.there; own_limits = t.0.own_limits }, fits_refreshed words run ps t.1)
 
-  pub view_refreshed : (s : TableState) (h : R s) (id : ℕ) (v : List Part) → get_elem? s.views id ≡ some v
-      → R record { words = s.words; homes = s.homes; views = set s.views id (map (with_run h.run) v) }
-  view_refreshed s h id v at = let w : List Part = map (with_run h.run) v in record {
+  -- the same words and run, under other views
+  reviewed : (s : TableState) (h : R s) (views : List (List Part)) → ((r : ℕ) → IsSettled views r → IsSettled s.views r) → ((a : ℕ) → everywhere a views ≤ 1)
+      → ((a : ℕ) → a < limits.actors → 1 ≤ everywhere a views) → ((id : ℕ) (view : List Part) → get_elem? views id ≡ some view → Each (Fits s.words h.run) view)
+      → R record { words = s.words; homes = s.homes; views = views }
+  reviewed s h views settled once somewhere each = record {
     run = h.run;
     legal = h.legal;
     kept = h.kept;
     wide = h.wide;
-    spells = with_views limits s.words s.views (set s.views id w) (memory_of limits h.run)
-        (λ r st j u there. dite (ℕ_discrete j id)
-        (λ e. subst (λ z. Each (λ p. LeavesRow r p.reach) z) (same_view s.views id j v u at there e) (leaves_refreshed r h.run v (st id w (set_at s.views id v w at))))
-        (λ ne. st j u (set_else s.views id j w ne ∙ there))) h.spells;
+    spells = with_views limits s.words s.views views (memory_of limits h.run) settled h.spells;
     begins = h.begins;
     actors = h.actors;
-    once = λ a. let t = everywhere_set s.views id v w a at in let o = h.once a in let same = times_refreshed a h.run v in omega arith;
-    somewhere = λ a below. let t = everywhere_set s.views id v w a at in let o = h.somewhere a below in let same = times_refreshed a h.run v in omega arith;
-    each = λ j u there. ⊎_elim
-        (λ t. subst (λ z. Each (Fits s.words h.run) z) t.1 (fits_refreshed s.words h.run v (h.each id v at)))
-        (λ t. h.each j u t.1)
-        (at_set s.views id j w u there);
+    once = once;
+    somewhere = somewhere;
+    each = each;
   }
+
+  pub view_refreshed : (s : TableState) (h : R s) (id : ℕ) (v : List Part) → get_elem? s.views id ≡ some v
+      → R record { words = s.words; homes = s.homes; views = set s.views id (map (with_run h.run) v) }
+  view_refreshed s h id v at = let w : List Part = map (with_run h.run) v in reviewed s h (set s.views id w)
+      (λ r st j u there. dite (ℕ_discrete j id)
+      (λ e. subst (λ z. Each (λ p. LeavesRow r p.reach) z) (same_view s.views id j v u at there e) (leaves_refreshed r h.run v (st id w (set_at s.views id v w at))))
+      (λ ne. st j u (set_else s.views id j w ne ∙ there)))
+      (λ a. let t = everywhere_set s.views id v w a at in let o = h.once a in let same = times_refreshed a h.run v in omega arith)
+      (λ a below. let t = everywhere_set s.views id v w a at in let o = h.somewhere a below in let same = times_refreshed a h.run v in omega arith)
+      (λ j u there. ⊎_elim
+      (λ t. subst (λ z. Each (Fits s.words h.run) z) t.1 (fits_refreshed s.words h.run v (h.each id v at)))
+      (λ t. h.each j u t.1)
+      (at_set s.views id j w u there))
 
   pub refreshes : (slots id : ℕ) (me : Mine) (i : ℕ) → Allows R slots id me i (λ n. n) (λ n. IsRefreshed law me)
   refreshes slots id me i s h _ at _ = (
@@ -109,31 +118,22 @@ module _ (limits : Limits) (law : List Entry → Type 0) where
       let last : List (List Part) = set first other [] in
       let away : id ≢ other = λ e. ne (sym e) in
       let there' : get_elem? s.views other ≡ some w = sym (set_else s.views id other (v ++ w) ne) ∙ there in
-      let here : get_elem? last id ≡ some (v ++ w) = set_else first other id [] away ∙ set_at s.views id v (v ++ w) at in record {
-        run = h.run;
-        legal = h.legal;
-        kept = h.kept;
-        wide = h.wide;
-        spells = with_views limits s.words s.views last (memory_of limits h.run)
-            (λ r st j u is. let both = st id (v ++ w) here in dite (ℕ_discrete j id)
-            (λ e. subst (λ z. Each (λ p. LeavesRow r p.reach) z) (same_view s.views id j v u at is e) (each_left (λ p. LeavesRow r p.reach) v w both))
-            (λ nid. dite (ℕ_discrete j other)
-            (λ e. subst (λ z. Each (λ p. LeavesRow r p.reach) z) (same_view s.views other j w u there' is e) (each_right (λ p. LeavesRow r p.reach) v w both))
-            (λ nother. st j u (set_else first other j [] nother ∙ set_else s.views id j (v ++ w) nid ∙ is)))) h.spells;
-        begins = h.begins;
-        actors = h.actors;
-        once = λ a. let t = everywhere_set s.views id v (v ++ w) a at in let u = everywhere_set first other w [] a there in let o = h.once a in let sum = times_append a v w in omega arith;
-        somewhere =
-            λ a below. let t = everywhere_set s.views id v (v ++ w) a at in let u = everywhere_set first other w [] a there in let o = h.somewhere a below in
-            let sum = times_append a v w in omega arith;
-        each = λ j u is. ⊎_elim
-            (λ t. subst (λ z. Each (Fits s.words h.run) z) t.1 tt)
-            (λ t. ⊎_elim
-            (λ y. subst (λ z. Each (Fits s.words h.run) z) y.1 (each_append (Fits s.words h.run) v w (h.each id v at) (h.each other w there')))
-            (λ y. h.each j u y.1)
-            (at_set s.views id j (v ++ w) u t.1))
-            (at_set first other j [] u is);
-      }
+      let here : get_elem? last id ≡ some (v ++ w) = set_else first other id [] away ∙ set_at s.views id v (v ++ w) at in reviewed s h last
+      (λ r st j u is. let both = st id (v ++ w) here in dite (ℕ_discrete j id)
+      (λ e. subst (λ z. Each (λ p. LeavesRow r p.reach) z) (same_view s.views id j v u at is e) (each_left (λ p. LeavesRow r p.reach) v w both))
+      (λ nid. dite (ℕ_discrete j other)
+      (λ e. subst (λ z. Each (λ p. LeavesRow r p.reach) z) (same_view s.views other j w u there' is e) (each_right (λ p. LeavesRow r p.reach) v w both))
+      (λ nother. st j u (set_else first other j [] nother ∙ set_else s.views id j (v ++ w) nid ∙ is))))
+      (λ a. let t = everywhere_set s.views id v (v ++ w) a at in let u = everywhere_set first other w [] a there in let o = h.once a in let sum = times_append a v w in omega arith)
+      (λ a below. let t = everywhere_set s.views id v (v ++ w) a at in let u = everywhere_set first other w [] a there in let o = h.somewhere a below in
+      let sum = times_append a v w in omega arith)
+      (λ j u is. ⊎_elim
+      (λ t. subst (λ z. Each (Fits s.words h.run) z) t.1 tt)
+      (λ t. ⊎_elim
+      (λ y. subst (λ z. Each (Fits s.words h.run) z) y.1 (each_append (Fits s.words h.run) v w (h.each id v at) (h.each other w there')))
+      (λ y. h.each j u y.1)
+      (at_set s.views id j (v ++ w) u t.1))
+      (at_set first other j [] u is))
 
   pub splits : (id : ℕ) (v left right : List Part) → v ≡ left ++ right → Splits R id v left right
   splits id v left right cut s h at =
@@ -141,30 +141,22 @@ module _ (limits : Limits) (law : List Entry → Type 0) where
       let last : List (List Part) = first ++ right ∷ [] in
       let fit : Each (Fits s.words h.run) (left ++ right) = subst (λ z. Each (Fits s.words h.run) z) cut (h.each id v at) in
       let here : get_elem? last id ≡ some left = at_longer first (right ∷ []) id left (set_at s.views id v left at) in
-      let there : get_elem? last (length first) ≡ some right = at_last first right (length first) refl in record {
-        run = h.run;
-        legal = h.legal;
-        kept = h.kept;
-        wide = h.wide;
-        spells = with_views limits s.words s.views last (memory_of limits h.run)
-            (λ r st j u is. dite (ℕ_discrete j id)
-            (λ e. subst (λ z. Each (λ p. LeavesRow r p.reach) z) (sym cut ∙ same_view s.views id j v u at is e)
-            (each_append (λ p. LeavesRow r p.reach) left right (st id left here) (st (length first) right there)))
-            (λ ne. st j u (at_longer first (right ∷ []) j u (set_else s.views id j left ne ∙ is)))) h.spells;
-        begins = h.begins;
-        actors = h.actors;
-        once = λ a. let t = everywhere_set s.views id v left a at in let u = everywhere_snoc first right a in let o = h.once a in let sum = times_append a left right in
-            let whole : times a v ≡ times a (left ++ right) = ap (times a) cut in omega arith;
-        somewhere = λ a below. let t = everywhere_set s.views id v left a at in let u = everywhere_snoc first right a in let o = h.somewhere a below in let sum = times_append a left right in
-            let whole : times a v ≡ times a (left ++ right) = ap (times a) cut in omega arith;
-        each = λ j u is. ⊎_elim
-            (λ t. ⊎_elim
-            (λ y. subst (λ z. Each (Fits s.words h.run) z) y.1 (each_left (Fits s.words h.run) left right fit))
-            (λ y. h.each j u y.1)
-            (at_set s.views id j left u t))
-            (λ e. subst (λ z. Each (Fits s.words h.run) z) e (each_right (Fits s.words h.run) left right fit))
-            (at_snoc first right u j is);
-      }
+      let there : get_elem? last (length first) ≡ some right = at_last first right (length first) refl in reviewed s h last
+      (λ r st j u is. dite (ℕ_discrete j id)
+      (λ e. subst (λ z. Each (λ p. LeavesRow r p.reach) z) (sym cut ∙ same_view s.views id j v u at is e)
+      (each_append (λ p. LeavesRow r p.reach) left right (st id left here) (st (length first) right there)))
+      (λ ne. st j u (at_longer first (right ∷ []) j u (set_else s.views id j left ne ∙ is))))
+      (λ a. let t = everywhere_set s.views id v left a at in let u = everywhere_snoc first right a in let o = h.once a in let sum = times_append a left right in
+      let whole : times a v ≡ times a (left ++ right) = ap (times a) cut in omega arith)
+      (λ a below. let t = everywhere_set s.views id v left a at in let u = everywhere_snoc first right a in let o = h.somewhere a below in let sum = times_append a left right in
+      let whole : times a v ≡ times a (left ++ right) = ap (times a) cut in omega arith)
+      (λ j u is. ⊎_elim
+      (λ t. ⊎_elim
+      (λ y. subst (λ z. Each (Fits s.words h.run) z) y.1 (each_left (Fits s.words h.run) left right fit))
+      (λ y. h.each j u y.1)
+      (at_set s.views id j left u t))
+      (λ e. subst (λ z. Each (Fits s.words h.run) z) e (each_right (Fits s.words h.run) left right fit))
+      (at_snoc first right u j is))
 
   note_times : (a : ℕ) (v : List Part) → times a (part_note v) ≡ 0
   note_times a [] = refl
@@ -183,44 +175,29 @@ module _ (limits : Limits) (law : List Entry → Type 0) where
   notes id v s h at =
       let first : List (List Part) = set s.views id v in
       let last : List (List Part) = first ++ part_note v ∷ [] in
-      let here : get_elem? last id ≡ some v = at_longer first (part_note v ∷ []) id v (set_at s.views id v v at) in record {
-        run = h.run;
-        legal = h.legal;
-        kept = h.kept;
-        wide = h.wide;
-        spells = with_views limits s.words s.views last (memory_of limits h.run)
-            (λ r st j u is. dite (ℕ_discrete j id)
-            (λ e. subst (λ z. Each (λ p. LeavesRow r p.reach) z) (same_view s.views id j v u at is e) (st id v here))
-            (λ ne. st j u (at_longer first (part_note v ∷ []) j u (set_else s.views id j v ne ∙ is)))) h.spells;
-        begins = h.begins;
-        actors = h.actors;
-        once = λ a. let t = everywhere_set s.views id v v a at in let u = everywhere_snoc first (part_note v) a in let o = h.once a in let none = note_times a v in omega arith;
-        somewhere = λ a below. let t = everywhere_set s.views id v v a at in let u = everywhere_snoc first (part_note v) a in let o = h.somewhere a below in let none = note_times a v in omega arith;
-        each = λ j u is. ⊎_elim
-            (λ t. ⊎_elim
-            (λ y. subst (λ z. Each (Fits s.words h.run) z) y.1 (h.each id v at))
-            (λ y. h.each j u y.1)
-            (at_set s.views id j v u t))
-            (λ e. subst (λ z. Each (Fits s.words h.run) z) e (note_fits s.words h.run v (h.each id v at)))
-            (at_snoc first (part_note v) u j is);
-      }
+      let here : get_elem? last id ≡ some v = at_longer first (part_note v ∷ []) id v (set_at s.views id v v at) in reviewed s h last
+      (λ r st j u is. dite (ℕ_discrete j id)
+      (λ e. subst (λ z. Each (λ p. LeavesRow r p.reach) z) (same_view s.views id j v u at is e) (st id v here))
+      (λ ne. st j u (at_longer first (part_note v ∷ []) j u (set_else s.views id j v ne ∙ is))))
+      (λ a. let t = everywhere_set s.views id v v a at in let u = everywhere_snoc first (part_note v) a in let o = h.once a in let none = note_times a v in omega arith)
+      (λ a below. let t = everywhere_set s.views id v v a at in let u = everywhere_snoc first (part_note v) a in let o = h.somewhere a below in let none = note_times a v in omega arith)
+      (λ j u is. ⊎_elim
+      (λ t. ⊎_elim
+      (λ y. subst (λ z. Each (Fits s.words h.run) z) y.1 (h.each id v at))
+      (λ y. h.each j u y.1)
+      (at_set s.views id j v u t))
+      (λ e. subst (λ z. Each (Fits s.words h.run) z) e (note_fits s.words h.run v (h.each id v at)))
+      (at_snoc first (part_note v) u j is))
 
 module _ (limits : Limits) (law : List Entry → Type 0) where
   pub blanks : (slots i : ℕ) (me : Mine) → NewSeat (Running limits law) slots i (λ n w. IsBlank (w, []))
   blanks slots i me s h _ _ = (
     [],
-    record {
-      run = h.run;
-      legal = h.legal;
-      kept = h.kept;
-      wide = h.wide;
-      spells = with_views limits s.words s.views (s.views ++ [] ∷ []) (memory_of limits h.run) (λ r st j u is. st j u (at_longer s.views ([] ∷ []) j u is)) h.spells;
-      begins = h.begins;
-      actors = h.actors;
-      once = λ a. let t = everywhere_snoc s.views [] a in let o = h.once a in omega arith;
-      somewhere = λ a below. let t = everywhere_snoc s.views [] a in let o = h.somewhere a below in omega arith;
-      each = λ j u is. ⊎_elim (λ t. h.each j u t) (λ e. subst (λ z. Each (PartFits limits s.words h.run) z) e tt) (at_snoc s.views [] u j is);
-    },
+    reviewed limits law s h (s.views ++ [] ∷ [])
+        (λ r st j u is. st j u (at_longer s.views ([] ∷ []) j u is))
+        (λ a. let t = everywhere_snoc s.views [] a in let o = h.once a in omega arith)
+        (λ a below. let t = everywhere_snoc s.views [] a in let o = h.somewhere a below in omega arith)
+        (λ j u is. ⊎_elim (λ t. h.each j u t) (λ e. subst (λ z. Each (PartFits limits s.words h.run) z) e tt) (at_snoc s.views [] u j is)),
     refl,
   )
 

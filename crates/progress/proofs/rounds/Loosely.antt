@@ -213,11 +213,9 @@ module _ (w : Standing) where
   pub loosely : (old : ReadRound) (version : Version) (new : ReadRound) (cost : ℕ) (result : Option ReadEnd) → Loose old.leg old.goal (live version) cost
       → TreatsRead old version new result → LooseThen new result cost
   loosely old version new cost None l treats = loose_on old version new cost l treats
-  loosely old version new cost (Some Again) l treats = tt
   loosely old version new cost (Some (Removed removed)) l at =
       subst (λ (v : Version). WasRemovedLeaf w.tree v) (sym at.is) (record { fits = l.stands.fits; gone = at.gone; kept = kept_here w (live version) l.stands.stands })
-  loosely old version new cost (Some (Leaf leaf)) l treats = tt
-  loosely old version new cost (Some (Beside left removed)) l treats = tt
+  loosely old version new cost other l treats = tt
 
   -- A page was read whole, maybe as it was in an earlier memory.
   pub record Stale (leg : Leg) (goal : ReadGoal) (page : LivePage) : Type 0 where
@@ -269,7 +267,5 @@ module _ (w : Standing) where
   pub stalely : (old : ReadRound) (version : Version) (new : ReadRound) (result : Option ReadEnd) → Stale old.leg old.goal (live version)
       → TreatsRead old version new result → LooseThen new result (suc (most w))
   stalely old version new None s treats = stale_on old version new s treats
-  stalely old version new (Some Again) s treats = tt
   stalely old version new (Some (Removed removed)) s at = subst (λ (v : Version). WasRemovedLeaf w.tree v) (sym at.is) (record { fits = s.fits; gone = at.gone; kept = s.kept at.gone })
-  stalely old version new (Some (Leaf leaf)) s treats = tt
-  stalely old version new (Some (Beside left removed)) s treats = tt
+  stalely old version new other s treats = tt

@@ -103,18 +103,14 @@ module _ (w : Standing) where
 
   -- below the page above as many are left as before one goes round
   pub few_above : (leg : Leg) (over : Version) (level : ℕ) (page : LivePage) (cost : ℕ) → above_of leg ≡ Some over → Few leg level page cost → first level (low_of page) ≤ cost
-  few_above (Down None) over level page cost e few = absurd (cc)
   few_above (Down (Some above)) over level page cost e few = few
-  few_above (Round removed) over level page cost e few = absurd (cc)
-  few_above (Past None) over level page cost e few = absurd (cc)
   few_above (Past (Some above)) over level page cost e few = few
+  few_above other over level page cost e few = absurd (cc)
 
   pub names_above : (leg : Leg) (over : Version) → above_of leg ≡ Some over → IsLegIn w.tree leg → NamesPlaces w.tree over.chain
-  names_above (Down None) over e names = absurd (cc)
   names_above (Down (Some above)) over e names = let same : above ≡ over = cc in subst (λ (v : Version). NamesPlaces w.tree v.chain) same names
-  names_above (Round removed) over e names = absurd (cc)
-  names_above (Past None) over e names = absurd (cc)
   names_above (Past (Some above)) over e names = let same : above ≡ over = cc in subst (λ (v : Version). NamesPlaces w.tree v.chain) same names
+  names_above other over e names = absurd (cc)
 
   -- a page of a level is a place
   pub on_place : (level : ℕ) (page : LivePage) (pid : ℕ) → On w level page → page.pid ≡ pid → IsPlace w.tree pid

@@ -82,13 +82,10 @@ module _ (w : Standing) where
   Then old new (Some (Beside left removed)) cost later = ⊤
 
   into : (leg : Leg) (goal : ReadGoal) (key : Key) (page : LivePage) (cost later : ℕ) → IsPlain leg → OnWay w (read_way goal key) (above_of leg) page cost → Keeps goal key later → At leg goal key page cost later
-  into (Down above) Seek key page cost later plain o k = (o, k)
-  into (Down above) (Left removed) key page cost later plain o k = (o, k)
   into (Down above) Beyond key page cost later plain o k = absurd k
-  into (Past above) Seek key page cost later plain o k = (o, k)
-  into (Past above) (Left removed) key page cost later plain o k = (o, k)
   into (Past above) Beyond key page cost later plain o k = absurd k
   into (Round removed) goal key page cost later plain o k = absurd plain
+  into other others key page cost later plain o k = (o, k)
 
   onto : (leg : Leg) (key : Key) (page : LivePage) (cost later : ℕ) → IsPlain leg → OnLeaves key page cost later → At (level_on leg) Beyond key page cost later
   onto (Down above) key page cost later plain o = o

@@ -28,11 +28,8 @@ at_most [] worth = omega arith
 at_most (byte ∷ bytes) worth = omega arith
 
 pub life_most : (w : PageOwner) (slot : Option ℕ) → life w slot ≤ 40
-life_most Nobody slot = omega arith
-life_most (Keeps actor) slot = omega arith
 life_most (Placed Fresh level low) slot = at_most low 40
 life_most (Placed Indexed level low) slot = let most = at_most low 32 in omega (arith, most)
 life_most (Placed Held level low) slot = let most = at_most low 30 in omega (arith, most)
-life_most (Placed Removed level low) slot = omega arith
-life_most (Placed Merged level low) slot = omega arith
 life_most (Cleared actor level low) slot = let most = cleared_most actor level low slot in omega (arith, most)
+life_most other slot = omega arith

@@ -58,8 +58,7 @@ module _ {V : Type 0} (mark : V → ℕ) (small : (v : V) → mark v ≤ 1) (f :
 
 row_small : (row : OwnRow) → row_mark row ≤ 1
 row_small Foreign = omega arith
-row_small Taken = omega arith
-row_small (Written content) = omega arith
+row_small other = omega arith
 
 page_small : (page : OwnPage) → page_mark page ≤ 1
 page_small Other = omega arith

@@ -17,13 +17,7 @@ by_remove : (page : Page) (newest : Record) (before : Bool) → is_some (next_ro
     → (remove : RemoveOf) × (newest ≡ Remove remove)
 by_remove page (kind.Base base) before delta fits same gone = absurd (cc)
 by_remove page (kind.Remove remove) before delta fits same gone = (remove, refl)
-by_remove page (kind.Put put) before delta fits same gone = absurd (stays page before fits.alive same gone)
-by_remove page (kind.Delete delete) before delta fits same gone = absurd (stays page before fits.alive same gone)
-by_remove page (kind.Split split) before delta fits same gone = absurd (stays page before fits.alive same gone)
-by_remove page (kind.Term term) before delta fits same gone = absurd (stays page before fits.alive same gone)
-by_remove page (kind.Hold hold) before delta fits same gone = absurd (stays page before fits.alive same gone)
-by_remove page (kind.Merge merge) before delta fits same gone = absurd (stays page before fits.alive same gone)
-by_remove page (kind.Unterm unterm) before delta fits same gone = absurd (stays page before fits.alive same gone)
+by_remove page other before delta fits same gone = absurd (stays page before fits.alive same gone)
 
 -- so the newest record of a removed page's chain is one
 removed_by : (chain : List Record) → IsFitted chain → is_removed chain ≡ true → (remove : RemoveOf) × (under : List Record) × (chain ≡ Remove remove ∷ under)

@@ -18,16 +18,12 @@ nothing_between (suc (suc (suc later))) asked after before at = omega arith
 -- the first get of actor 0 is its only one
 begun_once : (start : ℕ) → 1 ≤ start → slice_get two_actors start ≡ Some (Begin 0 (Get (codes "a"))) → ⊥
 begun_once zero late at = omega arith
-begun_once (suc zero) late at = cc
-begun_once (suc (suc zero)) late at = cc
-begun_once (suc (suc (suc zero))) late at = cc
-begun_once (suc (suc (suc (suc zero)))) late at = cc
-begun_once (suc (suc (suc (suc (suc zero))))) late at = cc
 begun_once (suc (suc (suc (suc (suc (suc start)))))) late at = beyond start at
   where
     beyond : (place : ℕ) → slice_get two_actors (suc (suc (suc (suc (suc (suc place)))))) ≡ Some (Begin 0 (Get (codes "a"))) → ⊥
     beyond zero at = cc
     beyond (suc place) at = cc
+begun_once other late at = cc
 
 pub returns-clause-order : goal.returns-clause-order
 returns-clause-order c = (

@@ -1,7 +1,13 @@
-use Rattle.std.proofs.Common.{◌≡◌, ◌≢◌, ℕ, Some, None, ap, sym, ◌∙◌, subst}
+use Rattle.std.proofs.Common.{◌≡◌, ◌≢◌, ℕ, Option, Some, None, ap, sym, ◌∙◌, subst}
 use Rattle.running_tree.proofs.Words.{answer_of, step_of_loan, Content, Done, Record, wanted_by, IsLawfulStep, ReadsFirst, Took, IsOf, seen_of, Advances, IsLawfulRun, IsSame, IsSeat, Seat}
 use Rattle.running_tree.proofs.Words.{read_by}
+use Rattle.bw_model.specs.declared.command.Reply.{Reply}
 use Rattle.bw_model.specs.declared.step.Step.{Step}
+use Rattle.bw_model.specs.declared.step.Told.{Told as ToldOf}
+use Rattle.running_tree.specs.declared.taking.Taken.{Taken}
+use Rattle.running_tree.specs.declared.taking.Taken.TheVariants.{Leaving, First, Told}
+use Rattle.traces.specs.declared.trace.Entry.{Entry}
+use Rattle.running_tree.proofs.Words.{Limits, List}
 use Rattle.bw_model.specs.declared.step.Step.TheVariants.{Leave, Row}
 use Rattle.row_search.specs.Placed.{PlacedRecord}
 use Rattle.running_tree.specs.declared.desk.Desk.{Desk}
@@ -11,14 +17,29 @@ use Rattle.running_tree.proofs.Owning.{is_own}
 use Rattle.running_tree.proofs.Standing.{all_there, first_there, spelt_there, took_there}
 use Rattle.running_tree.proofs.seat.BwSeat.advance.Goals as goal
 
+-- what was taken, by what the step answered
+module _ {limits : Limits} {a : ℕ} {seen later : List Entry} {asked : Step Record} where
+  first_taken : {taken : Taken} {row first : ℕ} → taken ≡ First row first → HasTaken limits a seen asked taken later → (asked ≡ Row row) × ReadsFirst IsLawfulRun limits a seen row first later
+  first_taken is took = subst (λ t. HasTaken limits a seen asked t later) is took
+
+  told_taken : {taken : Taken} {told : ToldOf} → taken ≡ Told told → HasTaken limits a seen asked taken later → (asked ≢ Leave) × Took IsLawfulRun limits a seen None asked (answer_of told) None later
+  told_taken is took = subst (λ t. HasTaken limits a seen asked t later) is took
+
+  took_of : {row : ℕ} {content read : Record} → asked ≡ Row row → content ≡ read → Took IsLawfulRun limits a seen None (Row row) (Content read) None later → Took IsLawfulRun limits a seen None asked (Content content) None later
+  took_of is same took = rw (is, same) took
+
+leave_taken : (limits : Limits) (a : ℕ) (seen later : List Entry) {asked : Step Record} {taken : Taken} → taken ≡ Leaving → HasTaken limits a seen asked taken later → asked ≡ Leave
+leave_taken limits a seen later {asked = asked} is took = subst (λ t. HasTaken limits a seen asked t later) is took
+
+took_after : {limits : Limits} {a : ℕ} {before seen later : List Entry} {reply : Option Reply} → before ≡ seen → Took IsLawfulRun limits a before None Leave Done reply later → Took IsLawfulRun limits a seen None Leave Done reply later
+took_after same took = rw (← same) took
+
 not_leave : {step : Step Record} {row : ℕ} → step ≡ Row row → step ≢ Leave
 not_leave is leaves = cc
 
 pub leave-requires-clause-told : goal.leave-requires-clause-told
 leave-requires-clause-told g c =
-    let leaves : wanted_by c.self.inside.actor.running ≡ Some Leave = c.wanted.ensures ∙ ap Some (subst
-    (λ t. HasTaken c.self.inside.limits c.self.inside.desk.number (seen_of c.self.inside.desk.place.me) (step_of_loan c.wanted.result) t (seen_of c.take-taken.new.place.me))
-    c.in-Leaving.is c.take-taken.ensures.took) in
+    let leaves = c.wanted.ensures ∙ ap Some (leave_taken _ _ _ _ c.in-Leaving.is c.take-taken.ensures.took) in
     leave_told c.laws_of_runs.ensures _ _ _ _ c.self.invariant.seated (busy_of _ _ c.self.view_is c.requires.busy) leaves
 
 pub take_leave-requires-clause-table : goal.take_leave-requires-clause-table
@@ -27,21 +48,16 @@ take_leave-requires-clause-table g c =
 
 pub take_leave-requires-clause-may : goal.take_leave-requires-clause-may
 take_leave-requires-clause-may g c =
-    let leaves : wanted_by c.self.inside.actor.running ≡ Some Leave = c.wanted.ensures ∙ ap Some (subst
-    (λ t. HasTaken c.self.inside.limits c.self.inside.desk.number (seen_of c.self.inside.desk.place.me) (step_of_loan c.wanted.result) t (seen_of c.take-taken.new.place.me))
-    c.in-Leaving.is c.take-taken.ensures.took) in
+    let leaves = c.wanted.ensures ∙ ap Some (leave_taken _ _ _ _ c.in-Leaving.is c.take-taken.ensures.took) in
     let saw : seen_of c.take-taken.new.place.me ≡ seen_of c.self.inside.desk.place.me = ap seen_of (c.take-taken.ensures.leaving c.in-Leaving.is) in
     subst (λ seen. IsLawfulStep IsLawfulRun c.self.inside.limits c.self.inside.desk.number seen None Leave (Some c.leave.new.reply)) (sym saw)
     (leave_may c.laws_of_runs.ensures _ _ _ _ c.self.invariant.seated (busy_of _ _ c.self.view_is c.requires.busy) leaves (Some c.leave.new.reply) c.leave.new.self c.leave.ensures.goes)
 
 pub invariant_of-self : goal.invariant_of-self
 invariant_of-self g c =
-    let leaves : wanted_by c.self.inside.actor.running ≡ Some Leave = c.wanted.ensures ∙ ap Some (subst
-    (λ t. HasTaken c.self.inside.limits c.self.inside.desk.number (seen_of c.self.inside.desk.place.me) (step_of_loan c.wanted.result) t (seen_of c.take-taken.new.place.me))
-    c.in-Leaving.is c.take-taken.ensures.took) in
+    let leaves = c.wanted.ensures ∙ ap Some (leave_taken _ _ _ _ c.in-Leaving.is c.take-taken.ensures.took) in
     let saw : seen_of c.take-taken.new.place.me ≡ seen_of c.self.inside.desk.place.me = ap seen_of (c.take-taken.ensures.leaving c.in-Leaving.is) in
-    let took : Took IsLawfulRun c.self.inside.limits c.self.inside.desk.number (seen_of c.self.inside.desk.place.me) None Leave Done (Some c.leave.new.reply) (seen_of c.take_leave.new.place.me) =
-    subst (λ seen. Took IsLawfulRun c.self.inside.limits c.self.inside.desk.number seen None Leave Done (Some c.leave.new.reply) (seen_of c.take_leave.new.place.me)) saw c.take_leave.ensures.took in
+    let took = took_after saw c.take_leave.ensures.took in
     record {
       there = c.self.invariant.there;
       place = c.take_leave.ensures.seat;
@@ -53,12 +69,9 @@ invariant_of-self g c =
 
 pub returns-in-Leaving-clause-advances : goal.returns-in-Leaving-clause-advances
 returns-in-Leaving-clause-advances g c =
-    let leaves : wanted_by c.self.inside.actor.running ≡ Some Leave = c.wanted.ensures ∙ ap Some (subst
-    (λ t. HasTaken c.self.inside.limits c.self.inside.desk.number (seen_of c.self.inside.desk.place.me) (step_of_loan c.wanted.result) t (seen_of c.take-taken.new.place.me))
-    c.in-Leaving.is c.take-taken.ensures.took) in
+    let leaves = c.wanted.ensures ∙ ap Some (leave_taken _ _ _ _ c.in-Leaving.is c.take-taken.ensures.took) in
     let saw : seen_of c.take-taken.new.place.me ≡ seen_of c.self.inside.desk.place.me = ap seen_of (c.take-taken.ensures.leaving c.in-Leaving.is) in
-    let took : Took IsLawfulRun c.self.inside.limits c.self.inside.desk.number (seen_of c.self.inside.desk.place.me) None Leave Done (Some c.leave.new.reply) (seen_of c.take_leave.new.place.me) =
-    subst (λ seen. Took IsLawfulRun c.self.inside.limits c.self.inside.desk.number seen None Leave Done (Some c.leave.new.reply) (seen_of c.take_leave.new.place.me)) saw c.take_leave.ensures.took in
+    let took = took_after saw c.take_leave.ensures.took in
     advances_of _ _ _ _ c.self.view_is
     (leave_advances c.laws_of_runs.ensures _ _ _ _ c.self.invariant.seated (busy_of _ _ c.self.view_is c.requires.busy) leaves (Some c.leave.new.reply)
     c.leave.new.self c.leave.ensures.goes Done (seen_of c.take_leave.new.place.me) took c.self.inside.desk.place.table_id c.take_leave.new.place.table_id)
@@ -77,64 +90,32 @@ take-taken-requires-clause-may g c other = may_go c.laws_of_runs.ensures _ _ _ _
 
 pub of-record-requires-clause-spelt : goal.of-record-requires-clause-spelt
 of-record-requires-clause-spelt g c =
-    let told : (step_of_loan c.wanted.result ≡ Row c.in-First.row) × ReadsFirst IsLawfulRun c.self.inside.limits c.self.inside.desk.number
-    (seen_of c.self.inside.desk.place.me) c.in-First.row c.in-First.first (seen_of c.take-taken.new.place.me) =
-    subst
-    (λ t. HasTaken c.self.inside.limits c.self.inside.desk.number (seen_of c.self.inside.desk.place.me) (step_of_loan c.wanted.result) t (seen_of c.take-taken.new.place.me))
-    c.in-First.is c.take-taken.ensures.took in
+    let told = first_taken c.in-First.is c.take-taken.ensures.took in
     spelt_there c.laws_of_runs.ensures _ _ _ _ c.take-taken.new.place.me _ told.1
 
 pub of-record-requires-clause-first : goal.of-record-requires-clause-first
 of-record-requires-clause-first g c =
-    let told : (step_of_loan c.wanted.result ≡ Row c.in-First.row) × ReadsFirst IsLawfulRun c.self.inside.limits c.self.inside.desk.number
-    (seen_of c.self.inside.desk.place.me) c.in-First.row c.in-First.first (seen_of c.take-taken.new.place.me) =
-    subst
-    (λ t. HasTaken c.self.inside.limits c.self.inside.desk.number (seen_of c.self.inside.desk.place.me) (step_of_loan c.wanted.result) t (seen_of c.take-taken.new.place.me))
-    c.in-First.is c.take-taken.ensures.took in
+    let told = first_taken c.in-First.is c.take-taken.ensures.took in
     first_there c.laws_of_runs.ensures _ _ _ _ c.take-taken.new.place.me _ told.1
 
 pub take_record-requires-clause-asked : goal.take_record-requires-clause-asked
 take_record-requires-clause-asked g c =
-    let told : (step_of_loan c.wanted.result ≡ Row c.in-First.row) × ReadsFirst IsLawfulRun c.self.inside.limits c.self.inside.desk.number
-    (seen_of c.self.inside.desk.place.me) c.in-First.row c.in-First.first (seen_of c.take-taken.new.place.me) =
-    subst
-    (λ t. HasTaken c.self.inside.limits c.self.inside.desk.number (seen_of c.self.inside.desk.place.me) (step_of_loan c.wanted.result) t (seen_of c.take-taken.new.place.me))
-    c.in-First.is c.take-taken.ensures.took in
+    let told = first_taken c.in-First.is c.take-taken.ensures.took in
     c.wanted.ensures ∙ ap Some told.0 ∙ ap (λ (placed : PlacedRecord). Some (Row placed.row))
     (sym {b = record { row = c.in-First.row; content = read_by c.take-taken.new.place.me c.self.inside.desk.number c.in-First.row }} c.of-record.ensures)
 
 pub take_record-requires-clause-told : goal.take_record-requires-clause-told
 take_record-requires-clause-told g c =
-    let told : (step_of_loan c.wanted.result ≡ Row c.in-First.row) × ReadsFirst IsLawfulRun c.self.inside.limits c.self.inside.desk.number
-    (seen_of c.self.inside.desk.place.me) c.in-First.row c.in-First.first (seen_of c.take-taken.new.place.me) =
-    subst
-    (λ t. HasTaken c.self.inside.limits c.self.inside.desk.number (seen_of c.self.inside.desk.place.me) (step_of_loan c.wanted.result) t (seen_of c.take-taken.new.place.me))
-    c.in-First.is c.take-taken.ensures.took in
-    let took : Took IsLawfulRun c.self.inside.limits c.self.inside.desk.number (seen_of c.self.inside.desk.place.me) None (step_of_loan c.wanted.result)
-    (Content c.of-record.result.content) None (seen_of c.take-taken.new.place.me) =
-    subst (λ (step : Step Record). Took IsLawfulRun c.self.inside.limits c.self.inside.desk.number (seen_of c.self.inside.desk.place.me) None step
-    (Content c.of-record.result.content) None (seen_of c.take-taken.new.place.me)) (sym told.0)
-    (subst (λ (placed : PlacedRecord). Took IsLawfulRun c.self.inside.limits c.self.inside.desk.number (seen_of c.self.inside.desk.place.me) None
-    (Row c.in-First.row) (Content placed.content) None (seen_of c.take-taken.new.place.me)) (sym c.of-record.ensures) (took_there c.laws_of_runs.ensures _ _
-    _ _ c.take-taken.new.place.me _ told.1)) in
+    let told = first_taken c.in-First.is c.take-taken.ensures.took in
+    let took = took_of told.0 (ap (λ (placed : PlacedRecord). placed.content) c.of-record.ensures) (took_there c.laws_of_runs.ensures _ _ _ _ c.take-taken.new.place.me _ told.1) in
     told_there c.laws_of_runs.ensures _ _ _ _ c.self.invariant.seated (busy_of _ _ c.self.view_is c.requires.busy) (step_of_loan c.wanted.result) c.wanted.ensures _ _
     took _
     (all_there c.laws_of_runs.ensures _ _ _ _ _ _ _ c.take-taken.new.place.me c.self.view_is c.requires.own c.take-taken.ensures.same took.kept c.take-taken.ensures.seat)
 
 pub invariant_of-self-in-First : goal.invariant_of-self-in-First
 invariant_of-self-in-First g c =
-    let told : (step_of_loan c.wanted.result ≡ Row c.in-First.row) × ReadsFirst IsLawfulRun c.self.inside.limits c.self.inside.desk.number
-    (seen_of c.self.inside.desk.place.me) c.in-First.row c.in-First.first (seen_of c.take-taken.new.place.me) =
-    subst
-    (λ t. HasTaken c.self.inside.limits c.self.inside.desk.number (seen_of c.self.inside.desk.place.me) (step_of_loan c.wanted.result) t (seen_of c.take-taken.new.place.me))
-    c.in-First.is c.take-taken.ensures.took in
-    let took : Took IsLawfulRun c.self.inside.limits c.self.inside.desk.number (seen_of c.self.inside.desk.place.me) None (step_of_loan c.wanted.result)
-    (Content c.of-record.result.content) None (seen_of c.take-taken.new.place.me) =
-    subst (λ (step : Step Record). Took IsLawfulRun c.self.inside.limits c.self.inside.desk.number (seen_of c.self.inside.desk.place.me) None step
-    (Content c.of-record.result.content) None (seen_of c.take-taken.new.place.me)) (sym told.0)
-    (subst (λ (placed : PlacedRecord). Took IsLawfulRun c.self.inside.limits c.self.inside.desk.number (seen_of c.self.inside.desk.place.me) None
-    (Row c.in-First.row) (Content placed.content) None (seen_of c.take-taken.new.place.me)) (sym c.of-record.ensures) (took_there c.laws_of_runs.ensures _ _
-    _ _ c.take-taken.new.place.me _ told.1)) in
+    let told = first_taken c.in-First.is c.take-taken.ensures.took in
+    let took = took_of told.0 (ap (λ (placed : PlacedRecord). placed.content) c.of-record.ensures) (took_there c.laws_of_runs.ensures _ _ _ _ c.take-taken.new.place.me _ told.1) in
     subst (λ (desk : Desk). IsSeat c.self.inside.limits desk.number desk.place.me c.take_record.new.self) (sym c.take_record.ensures.same)
     record {
       there = c.self.invariant.there;
@@ -147,20 +128,12 @@ invariant_of-self-in-First g c =
 
 pub go_on-requires-clause-told : goal.go_on-requires-clause-told
 go_on-requires-clause-told g c =
-    let told : (step_of_loan c.wanted.result ≢ Leave) × Took IsLawfulRun c.self.inside.limits c.self.inside.desk.number (seen_of c.self.inside.desk.place.me) None
-    (step_of_loan c.wanted.result) (answer_of c.in-Told.told) None (seen_of c.take-taken.new.place.me) =
-    subst
-    (λ t. HasTaken c.self.inside.limits c.self.inside.desk.number (seen_of c.self.inside.desk.place.me) (step_of_loan c.wanted.result) t (seen_of c.take-taken.new.place.me))
-    c.in-Told.is c.take-taken.ensures.took in
+    let told = told_taken c.in-Told.is c.take-taken.ensures.took in
     told_on c.laws_of_runs.ensures _ _ _ _ c.self.invariant.seated (busy_of _ _ c.self.view_is c.requires.busy) (step_of_loan c.wanted.result) c.wanted.ensures _ _ told.1
 
 pub invariant_of-self-in-Told : goal.invariant_of-self-in-Told
 invariant_of-self-in-Told g c =
-    let told : (step_of_loan c.wanted.result ≢ Leave) × Took IsLawfulRun c.self.inside.limits c.self.inside.desk.number (seen_of c.self.inside.desk.place.me) None
-    (step_of_loan c.wanted.result) (answer_of c.in-Told.told) None (seen_of c.take-taken.new.place.me) =
-    subst
-    (λ t. HasTaken c.self.inside.limits c.self.inside.desk.number (seen_of c.self.inside.desk.place.me) (step_of_loan c.wanted.result) t (seen_of c.take-taken.new.place.me))
-    c.in-Told.is c.take-taken.ensures.took in
+    let told = told_taken c.in-Told.is c.take-taken.ensures.took in
     record {
       there = c.self.invariant.there;
       place = c.take-taken.ensures.seat;
@@ -177,18 +150,8 @@ returns-in-First-clause-same g c =
 
 pub returns-in-First-clause-advances : goal.returns-in-First-clause-advances
 returns-in-First-clause-advances g c =
-    let told : (step_of_loan c.wanted.result ≡ Row c.in-First.row) × ReadsFirst IsLawfulRun c.self.inside.limits c.self.inside.desk.number
-    (seen_of c.self.inside.desk.place.me) c.in-First.row c.in-First.first (seen_of c.take-taken.new.place.me) =
-    subst
-    (λ t. HasTaken c.self.inside.limits c.self.inside.desk.number (seen_of c.self.inside.desk.place.me) (step_of_loan c.wanted.result) t (seen_of c.take-taken.new.place.me))
-    c.in-First.is c.take-taken.ensures.took in
-    let took : Took IsLawfulRun c.self.inside.limits c.self.inside.desk.number (seen_of c.self.inside.desk.place.me) None (step_of_loan c.wanted.result)
-    (Content c.of-record.result.content) None (seen_of c.take-taken.new.place.me) =
-    subst (λ (step : Step Record). Took IsLawfulRun c.self.inside.limits c.self.inside.desk.number (seen_of c.self.inside.desk.place.me) None step
-    (Content c.of-record.result.content) None (seen_of c.take-taken.new.place.me)) (sym told.0)
-    (subst (λ (placed : PlacedRecord). Took IsLawfulRun c.self.inside.limits c.self.inside.desk.number (seen_of c.self.inside.desk.place.me) None
-    (Row c.in-First.row) (Content placed.content) None (seen_of c.take-taken.new.place.me)) (sym c.of-record.ensures) (took_there c.laws_of_runs.ensures _ _
-    _ _ c.take-taken.new.place.me _ told.1)) in
+    let told = first_taken c.in-First.is c.take-taken.ensures.took in
+    let took = took_of told.0 (ap (λ (placed : PlacedRecord). placed.content) c.of-record.ensures) (took_there c.laws_of_runs.ensures _ _ _ _ c.take-taken.new.place.me _ told.1) in
     subst (λ (desk : Desk). Advances c.args.self.now None (seat_of desk.place.table_id c.self.inside.limits desk.number (seen_of desk.place.me))) (sym c.take_record.ensures.same)
     (advances_of _ _ _ _ c.self.view_is
     (advances_on c.laws_of_runs.ensures _ _ _ _ c.self.invariant.seated (busy_of _ _ c.self.view_is c.requires.busy) (step_of_loan c.wanted.result) c.wanted.ensures _ _
@@ -196,11 +159,7 @@ returns-in-First-clause-advances g c =
 
 pub returns-in-Told-clause-advances : goal.returns-in-Told-clause-advances
 returns-in-Told-clause-advances g c =
-    let told : (step_of_loan c.wanted.result ≢ Leave) × Took IsLawfulRun c.self.inside.limits c.self.inside.desk.number (seen_of c.self.inside.desk.place.me) None
-    (step_of_loan c.wanted.result) (answer_of c.in-Told.told) None (seen_of c.take-taken.new.place.me) =
-    subst
-    (λ t. HasTaken c.self.inside.limits c.self.inside.desk.number (seen_of c.self.inside.desk.place.me) (step_of_loan c.wanted.result) t (seen_of c.take-taken.new.place.me))
-    c.in-Told.is c.take-taken.ensures.took in
+    let told = told_taken c.in-Told.is c.take-taken.ensures.took in
     advances_of _ _ _ _ c.self.view_is
     (advances_on c.laws_of_runs.ensures _ _ _ _ c.self.invariant.seated (busy_of _ _ c.self.view_is c.requires.busy) (step_of_loan c.wanted.result) c.wanted.ensures _ _
     told.1 None c.go_on.new.self told.0 c.go_on.ensures.goes c.self.inside.desk.place.table_id c.take-taken.new.place.table_id)
