@@ -2,6 +2,9 @@
 //
 // Any number of threads may call a tree's functions. A seat is used by one thread at a time, and may go from thread to thread as any object does.
 // The tree is closed when the object and all its seats are gone, or by close(). What bwtree.h says of order, stacks, signals and forks holds here, too.
+//
+// *Throws* names the statuses of the bw::error that a function throws. Nothing was done then, and no key was changed. Where a result has strings,
+// std::bad_alloc is thrown if there is no memory for them: a write has taken effect then.
 #ifndef BWTREE_HPP
 #define BWTREE_HPP
 
@@ -15,11 +18,13 @@
 #include <cstdint>
 #include <cstring>
 #include <iterator>
+#include <map>
 #include <memory>
 #include <optional>
 #include <stdexcept>
 #include <string>
 #include <string_view>
+#include <type_traits>
 #include <utility>
 #include <vector>
 
@@ -56,7 +61,9 @@ inline void must(uint32_t status) {
 
 } // namespace detail
 
-// A seat of a tree, which it gets back when this goes.
+// A seat of a tree, which it gets back when this goes. Each call throws CLOSED, where the tree was closed before the seat was leased; BUSY, where another
+// thread is inside a call of the seat; NULL, of a seat that was moved from. A call with a key or value of more than 64 bytes throws TOO_LONG. A write throws
+// FULL, where nothing was free for the change.
 class seat {
 public:
     seat(seat &&other) noexcept : shared_(std::move(other.shared_)), number_(other.number_), patience_(other.patience_) {}
@@ -71,63 +78,66 @@ public:
     }
     ~seat() { give_back(); }
 
+    // Its number, from 0 on.
     uint32_t number() const noexcept { return number_; }
 
     // How long a write waits while the tree is full, before it throws error(BWTREE_FULL): of a seat that was leased, not at all.
     void set_patience(std::chrono::nanoseconds most) noexcept { patience_ = most; }
-    // What may become of a write that is full, as far as what is free tells: a hint, of which nothing is proved (bwtree_waits.h).
-    bwtree_full_hints full_hint() {
+    // What may become of a write that is full, as far as what is free tells: a hint, of which nothing is proved (bwtree_waits.h). Throws CLOSED, BUSY, NULL.
+    [[nodiscard]] bwtree_full_hints full_hint() {
         uint32_t hint = BWTREE_FULL_PASSED;
         if (!shared_) throw error(BWTREE_NULL);
         detail::must(bwtree_full_hint(handle(), number_, &shared_->limits, &hint));
         return bwtree_full_hints(hint);
     }
 
-    // The value of a key.
+    // The value of a key; none where it has none. Throws TOO_LONG, CLOSED, BUSY, NULL.
     [[nodiscard]] std::optional<std::string> get(std::string_view key) {
         bwtree_bytes value;
         return shown(done(bwtree_get(handle(), number_, key.data(), key.size(), &value), value), value, BWTREE_OK);
     }
-    // The value of a key, in `into`, which the caller has: no memory is taken.
+    // The value of a key, in `into`, which the caller has: no memory is taken. Throws TOO_LONG, CLOSED, BUSY, NULL.
     [[nodiscard]] std::optional<std::string_view> get(std::string_view key, bwtree_bytes &into) {
         if (done(bwtree_get(handle(), number_, key.data(), key.size(), &into), into) != BWTREE_OK) return std::nullopt;
         return detail::text(into);
     }
-    // Whether a key has a value.
+    // Whether a key has a value; no memory is taken. Throws TOO_LONG, CLOSED, BUSY, NULL.
     [[nodiscard]] bool contains(std::string_view key) {
         bwtree_bytes value;
         return get(key, value).has_value();
     }
-    // Gives a key a value where it has none.
+    // Gives a key a value where it has none; else the value that it has. Throws FULL, TOO_LONG, CLOSED, BUSY, NULL.
     inserted insert(std::string_view key, std::string_view value) {
         bwtree_bytes old;
         uint32_t status = set(old, [&] { return bwtree_insert(handle(), number_, key.data(), key.size(), value.data(), value.size(), &old); });
         return {status == BWTREE_OK, shown(status, old, BWTREE_EXISTS)};
     }
-    // Gives a key a value: the one that it had before, if it had one.
+    // Gives a key a value: the one that it had before, if it had one. Throws FULL, TOO_LONG, CLOSED, BUSY, NULL.
     std::optional<std::string> upsert(std::string_view key, std::string_view value) {
         bwtree_bytes old;
         auto call = [&] { return bwtree_upsert(handle(), number_, key.data(), key.size(), value.data(), value.size(), &old); };
         return shown(set(old, call), old, BWTREE_REPLACED);
     }
-    // Gives a key a value where it has one: the value that it had. It makes several calls, and takes effect atomically in the last one.
+    // Gives a key a value where it has one: the value that it had. It makes several calls, and takes effect atomically in the last one. Throws FULL, TOO_LONG,
+    // CLOSED, BUSY, NULL.
     std::optional<std::string> replace(std::string_view key, std::string_view value) {
         bwtree_bytes old;
         auto call = [&] { return bwtree_replace(handle(), number_, key.data(), key.size(), value.data(), value.size(), &old); };
         return shown(written(old, call), old, BWTREE_REPLACED);
     }
-    // Makes a key absent: the value that it had.
+    // Makes a key absent: the value that it had, if it had one. Throws FULL, TOO_LONG, CLOSED, BUSY, NULL.
     std::optional<std::string> erase(std::string_view key) {
         bwtree_bytes old;
         return shown(deleted(old, [&] { return bwtree_delete(handle(), number_, key.data(), key.size(), &old); }), old, BWTREE_OK);
     }
-    // Makes a key absent where it has the expected value.
+    // Makes a key absent where it has the expected value. Throws FULL, TOO_LONG, CLOSED, BUSY, NULL.
     compared erase_if(std::string_view key, std::string_view expected) {
         bwtree_bytes old;
         auto call = [&] { return bwtree_delete_if(handle(), number_, key.data(), key.size(), expected.data(), expected.size(), &old); };
         return found(deleted(old, call), old);
     }
-    // Adds a number, modulo 2^64, to the one that a key's value of eight bytes is, the highest byte first; a key without a value gets the number.
+    // Adds a number, modulo 2^64, to the one that a key's value of eight bytes is, the highest byte first; a key without a value gets the number. A value of
+    // another length stays. Throws FULL, TOO_LONG, CLOSED, BUSY, NULL.
     added add(std::string_view key, uint64_t number) {
         bwtree_bytes old;
         uint64_t was = 0;
@@ -137,7 +147,7 @@ public:
         if (status == BWTREE_REPLACED && bwtree_read_u64(&old, &at, &was)) return {true, was, std::nullopt};
         return {true, std::nullopt, std::nullopt};
     }
-    // Gives a key the value where it has the expected one.
+    // Gives a key the value where it has the expected one. Throws FULL, TOO_LONG, CLOSED, BUSY, NULL.
     compared compare_and_set(std::string_view key, std::string_view expected, std::string_view value) {
         bwtree_bytes old;
         auto call = [&] {
@@ -145,26 +155,29 @@ public:
         };
         return found(written(old, call), old);
     }
-    // Does what upkeep is due at the leaf of a key.
+    // Does what upkeep is due at the leaf of a key; no value changes. Throws FULL, TOO_LONG, CLOSED, BUSY, NULL.
     void tidy(std::string_view key) {
         bwtree_bytes old;
         written(old, [&] { return bwtree_tidy(handle(), number_, key.data(), key.size()); });
     }
 
-    // Calls each(key, value) for the pairs from a key on, keys ascending, until it answers false. Other threads may change the tree meanwhile: what
-    // is there throughout is shown, and what never is there isn't. Its arguments last as long as the call.
+    // Calls each(key, value) for the pairs from a key on, keys ascending, until it returns false; one that returns nothing is called for all. Other threads may
+    // change the tree meanwhile: what is there throughout is shown, and what never is there isn't. Its arguments last as long as the call. Throws TOO_LONG,
+    // CLOSED, BUSY, NULL, and what each throws: the pairs before were shown.
     template <class Each> void walk(std::string_view from, Each each) { walk(range::from(from), std::move(each)); }
     // The same for the keys of a range.
     template <class Each> void walk(const range &keys, Each each) { walked(keys, 0, each); }
     // The same backward, from the greatest key of a range down.
     template <class Each> void walk_back(const range &keys, Each each) { walked(keys, 1, each); }
 
-    // The pairs of a range for a loop, keys ascending, or from the greatest key down. The seat is used by the loop alone meanwhile.
+    // The pairs of a range for a loop, keys ascending, or from the greatest key down: an input range. The seat is used by the loop alone meanwhile. These throw
+    // std::bad_alloc; begin() and each step of the loop throw CLOSED, BUSY, NULL.
     [[nodiscard]] class pairs pairs(const range &keys = range::all());
     [[nodiscard]] class pairs pairs_back(const range &keys = range::all());
 
     // The pair of the least key, of the greatest one, and of those next to a key: the greatest up to it and below it, the least from it on and above it.
-    // The answer is atomic if the first page that is read has a pair; otherwise it is a walk's.
+    // None where there is no such pair. The answer is atomic if the first page that is read has a pair; otherwise it is a walk's. Throws TOO_LONG, CLOSED,
+    // BUSY, NULL.
     [[nodiscard]] std::optional<pair> first() { return near_by(bwtree_ceiling, {}); }
     [[nodiscard]] std::optional<pair> last() { return near_by(bwtree_floor, std::string(BWTREE_MAX_LENGTH, '\377')); }
     [[nodiscard]] std::optional<pair> floor(std::string_view key) { return near_by(bwtree_floor, key); }
@@ -172,8 +185,8 @@ public:
     [[nodiscard]] std::optional<pair> ceiling(std::string_view key) { return near_by(bwtree_ceiling, key); }
     [[nodiscard]] std::optional<pair> higher(std::string_view key) { return near_by(bwtree_higher, key); }
 
-    // How many pages and records are free.
-    bwtree_room free_room() {
+    // How many pages and records are free. Throws CLOSED, BUSY, NULL.
+    [[nodiscard]] bwtree_room free_room() {
         bwtree_room room;
         detail::must(bwtree_free_room(handle(), number_, &room));
         return room;
@@ -237,13 +250,21 @@ private:
     // What a call with an expected value found.
     static compared found(uint32_t status, const bwtree_bytes &old) { return {status == BWTREE_OK, shown(status, old, BWTREE_DIFFERS)}; }
 
+    template <class Each> static bool goes_on(Each &each, std::string_view key, std::string_view value) {
+        if constexpr (std::is_void_v<decltype(each(key, value))>) {
+            each(key, value);
+            return true;
+        } else {
+            return bool(each(key, value));
+        }
+    }
     template <class Each> void walked(const range &keys, int backward, Each &each) {
         auto walk = std::make_unique<bwtree_walk>();
         bwtree_pair next;
         uint32_t status;
         detail::must(bwtree_walk_begin(walk.get(), &keys.raw_, backward));
         while ((status = bwtree_walk_next(handle(), number_, walk.get(), &next)) == BWTREE_OK)
-            if (!each(detail::text(next.key), detail::text(next.value))) return;
+            if (!goes_on(each, detail::text(next.key), detail::text(next.value))) return;
         if (status != BWTREE_ABSENT) throw error(status);
     }
     std::optional<pair> near_by(uint32_t (*call)(const ::bwtree *, uint32_t, const void *, size_t, bwtree_pair *), std::string_view key) {
@@ -259,16 +280,20 @@ private:
     std::chrono::nanoseconds patience_{0};
 };
 
-// A walk for a loop: `for (auto [key, value] : seat.pairs())`. Keys and values last until the next step. Each step may throw as a walk does.
-class pairs {
+// A walk for a loop: `for (auto [key, value] : seat.pairs())`, and an input range of C++20. Keys and values last until the next step. begin() is called once,
+// after the last move. It and each step throw CLOSED, BUSY, NULL, as a walk does.
+class [[nodiscard]] pairs {
 public:
     class iterator {
     public:
         using iterator_category = std::input_iterator_tag;
+        using iterator_concept = std::input_iterator_tag;
         using value_type = std::pair<std::string_view, std::string_view>;
         using difference_type = std::ptrdiff_t;
         using pointer = const value_type *;
         using reference = value_type;
+        // the end
+        iterator() noexcept = default;
         value_type operator*() const { return {detail::text(walk_->next_.key), detail::text(walk_->next_.value)}; }
         iterator &operator++() {
             if (!walk_->step()) walk_ = nullptr;
@@ -280,24 +305,24 @@ public:
 
     private:
         friend class pairs;
-        explicit iterator(pairs *walk) : walk_(walk) {}
-        pairs *walk_;
+        explicit iterator(pairs *walk) noexcept : walk_(walk) {}
+        pairs *walk_ = nullptr;
     };
     iterator begin() { return iterator(step() ? this : nullptr); }
     iterator end() noexcept { return iterator(nullptr); }
 
 private:
     friend class seat;
-    pairs(class seat &seat, const range &keys, int backward) : seat_(seat), walk_(std::make_unique<bwtree_walk>()) {
+    pairs(class seat &seat, const range &keys, int backward) : seat_(&seat), walk_(std::make_unique<bwtree_walk>()) {
         detail::must(bwtree_walk_begin(walk_.get(), &keys.raw_, backward));
     }
     bool step() {
-        uint32_t status = bwtree_walk_next(seat_.handle(), seat_.number_, walk_.get(), &next_);
+        uint32_t status = bwtree_walk_next(seat_->handle(), seat_->number_, walk_.get(), &next_);
         if (status == BWTREE_ABSENT) return false;
         detail::must(status);
         return true;
     }
-    class seat &seat_;
+    class seat *seat_;
     std::unique_ptr<bwtree_walk> walk_;
     bwtree_pair next_ = {};
 };
@@ -305,34 +330,45 @@ private:
 inline class pairs seat::pairs(const range &keys) { return bw::pairs(*this, keys, 0); }
 inline class pairs seat::pairs_back(const range &keys) { return bw::pairs(*this, keys, 1); }
 
+// An ordered map from byte strings to byte strings, which is moved and not copied. A tree that was moved from has no function but these: to be assigned, and to
+// go.
 class tree {
 public:
+    // An empty tree. Throws BAD_LIMITS, NO_MEMORY, BAD_VERSION; and std::bad_alloc.
     explicit tree(const bwtree_limits &limits) : shared_(std::make_shared<detail::shared>()) {
         detail::must(bwtree_open(&limits, &shared_->handle));
         lend_all(limits);
     }
-    // A tree with so many pairs, whose keys ascend, of std::string or std::string_view. Throws FULL or SPENT, too, where they don't all fit.
+    // A tree with so many pairs, whose keys ascend, of std::string or std::string_view. Throws FULL or SPENT, where they don't all fit; BAD_ORDER,
+    // TOO_LONG; and what an empty tree throws. No tree is open then.
     template <class Pairs> static tree from(const bwtree_limits &limits, const Pairs &pairs) {
         std::vector<bwtree_pair> given;
         for (const auto &[key, value] : pairs) given.push_back({detail::bytes_of(key), detail::bytes_of(value)});
         return tree(limits, given);
     }
-    // A tree with so many seats, for so many different keys, all counted that it ever has.
+    // A tree with so many seats, for so many different keys, all counted that it ever has. Throws what an empty tree throws.
     static tree for_keys(uint64_t seats, uint64_t keys) {
         bwtree_limits limits;
         detail::must(bwtree_limits_for_keys(seats, keys, &limits));
         return tree(limits);
     }
-    // The same as a large tree.
+    // A large tree for up to 27 million different keys, in some 1,900 bytes each. Throws what an empty tree throws.
     static tree for_many_keys(uint64_t seats, uint64_t keys) {
         bwtree_limits limits;
         detail::must(bwtree_limits_for_many_keys(seats, keys, &limits));
         return tree(limits);
     }
     tree(tree &&) noexcept = default;
-    tree &operator=(tree &&) noexcept = default;
+    tree &operator=(tree &&other) noexcept {
+        if (this != &other) {
+            give_own_back();
+            shared_ = std::move(other.shared_);
+        }
+        return *this;
+    }
+    ~tree() { give_own_back(); }
 
-    // A seat, if one is free.
+    // A seat; none where all are lent. Throws CLOSED, of a tree that was moved from.
     [[nodiscard]] std::optional<seat> try_lease() {
         if (!shared_) throw error(BWTREE_CLOSED);
         uint64_t free = shared_->free;
@@ -344,24 +380,40 @@ public:
         }
         return std::nullopt;
     }
-    // A seat; throws error(BWTREE_BUSY) where none is free.
+    // A seat. Throws BUSY, where all are lent; CLOSED, of a tree that was moved from.
     [[nodiscard]] seat lease() {
         if (auto free = try_lease()) return std::move(*free);
         throw error(BWTREE_BUSY);
     }
-    // How many keys the tree has: exact when no call is under way; otherwise it may lack some calls that are.
+    // The calling thread's own seat: leased by the thread's first such call, and given back when the thread ends, or when it closes the tree or lets the object
+    // go. Until then it keeps the tree open. Throws BUSY, where the thread has none and all are lent; CLOSED, of a tree that was moved from; and
+    // std::bad_alloc.
+    [[nodiscard]] seat &local() {
+        if (!shared_) throw error(BWTREE_CLOSED);
+        thread_local own_seats own;
+        auto found = own.seats.find(shared_.get());
+        if (found == own.seats.end()) {
+            // trees that nobody else has are closed
+            for (auto it = own.seats.begin(); it != own.seats.end();) it = it->second.shared_.use_count() == 1 ? own.seats.erase(it) : std::next(it);
+            found = own.seats.emplace(shared_.get(), lease()).first;
+        }
+        return found->second;
+    }
+    // How many keys the tree has: exact when no call is under way; otherwise it may lack some calls that are. Throws CLOSED, of a tree that was moved from.
     [[nodiscard]] uint64_t size() const {
         if (!shared_) throw error(BWTREE_CLOSED);
         return bwtree_counted(&shared_->count);
     }
-    // Closes the tree; throws error(BWTREE_BUSY) where a seat is lent, and error(BWTREE_CLOSED) where it is closed.
+    // Closes the tree, after giving back the calling thread's own seat. Throws BUSY, where a seat is lent: the tree stays open; CLOSED, where it is closed.
     void close() {
+        give_own_back();
         all_seats all(shared_);
         detail::must(bwtree_close(&all.shared->handle));
     }
-    // Closes the tree, and hands its pairs over, keys ascending. Throws as close() does; error(BWTREE_NO_MEMORY), which leaves it open; and std::bad_alloc,
-    // from which on the pairs wait for the next such call.
+    // Closes the tree as close() does, and hands its pairs over, keys ascending. Throws BUSY, CLOSED, as close() does; NO_MEMORY: the tree stays open; and
+    // std::bad_alloc, from which on the pairs wait for the next such call.
     [[nodiscard]] std::vector<pair> close_with_pairs() {
+        give_own_back();
         all_seats all(shared_);
         std::vector<bwtree_pair> &left = all.shared->left;
         if (left.empty()) {
@@ -384,6 +436,21 @@ private:
         detail::must(bwtree_open_from(&limits, pairs.data(), pairs.size(), &shared_->handle));
         bwtree_count_more(&shared_->count, 0, int64_t(pairs.size()));
         lend_all(limits);
+    }
+    // The calling thread's own seats, and where they are, as long as they are.
+    struct own_seats {
+        std::map<const detail::shared *, seat> seats;
+        own_seats() { current() = this; }
+        own_seats(const own_seats &) = delete;
+        own_seats &operator=(const own_seats &) = delete;
+        ~own_seats() { current() = nullptr; }
+        static own_seats *&current() noexcept {
+            thread_local own_seats *own = nullptr;
+            return own;
+        }
+    };
+    void give_own_back() noexcept {
+        if (own_seats *own = own_seats::current()) own->seats.erase(shared_.get());
     }
     // All seats of a tree, for who closes it.
     struct all_seats {

@@ -1,11 +1,14 @@
 // Tests of bwtree.hpp: what it answers and throws, leases, a tree that is moved, and threads.
 #include "bwtree.hpp"
+#include <atomic>
 #include <chrono>
 #include <cstdio>
 #include <cstdlib>
 #include <malloc.h>
 #include <new>
+#include <sys/resource.h>
 #include <thread>
+#include <unistd.h>
 #include <vector>
 
 #define CHECK(x) do { if (!(x)) { fprintf(stderr, "%s:%d: %s\n", __FILE__, __LINE__, #x); exit(1); } } while (0)
@@ -152,6 +155,71 @@ static void leases() {
     CHECK(*last->get("a") == "y");
 }
 
+// A thread's own seat: the same in all its calls, another one in another thread, and given back when the thread ends or closes the tree.
+static void own_seats() {
+    auto tree = bw::tree::for_keys(2, 100);
+    bw::seat *mine = &tree.local();
+    mine->insert("a", "x");
+    for (int i = 0; i < 3; i++)
+        std::thread([&] {
+            bw::seat *own = &tree.local();
+            CHECK(own != mine && own == &tree.local() && own->number() == 1 && *own->get("a") == "x");
+            CHECK(thrown([&] { std::thread([&] { CHECK(thrown([&] { (void)tree.local(); }) == BWTREE_BUSY); }).join(); }) == 0);
+        }).join();
+    auto seat = tree.lease();
+    CHECK(thrown([&] { tree.close(); }) == BWTREE_BUSY);
+    { auto gone = std::move(seat); }
+    (void)tree.local();
+    auto moved = std::move(tree);
+    CHECK(moved.local().number() < 2 && thrown([&] { (void)tree.local(); }) == BWTREE_CLOSED);
+    CHECK(moved.close_with_pairs().size() == 1);
+    // a tree that only a thread's own seat keeps is closed once that thread has an own seat of another one, or ends
+    size_t before = held();
+    std::thread([&] {
+        for (int i = 0; i < 4; i++) {
+            std::optional<bw::tree> next(bw::tree(bwtree_limits{1, 64, 256, 1, 0}));
+            std::thread([&] { (void)next->local().get("a"); }).join();
+            (void)next->local();
+            std::thread([&] { next.reset(); }).join();
+        }
+    }).join();
+    CHECK(held() < before + (size_t(1) << 18));
+}
+
+// What has memory refused: RLIMIT_AS a little above what the program has.
+static void no_memory() {
+    unsigned long pages = 0;
+    FILE *file = fopen("/proc/self/statm", "r");
+    if (!file) return;
+    int read = fscanf(file, "%lu", &pages);
+    fclose(file);
+    rlimit was, less;
+    CHECK(read == 1 && getrlimit(RLIMIT_AS, &was) == 0);
+    less = was;
+    less.rlim_cur = rlim_t(pages) * rlim_t(sysconf(_SC_PAGESIZE)) + (rlim_t(64) << 20);
+    CHECK(setrlimit(RLIMIT_AS, &less) == 0);
+    uint32_t status = thrown([] { bw::tree::for_many_keys(1, 1000000); });
+    CHECK(setrlimit(RLIMIT_AS, &was) == 0 && status == BWTREE_NO_MEMORY);
+}
+
+// A seat that two threads use at once: each call is made, or throws BUSY and changes nothing.
+static void two_in_a_seat() {
+    auto tree = bw::tree::for_keys(1, 100);
+    auto seat = tree.lease();
+    std::atomic<int> done{0}, busy{0};
+    auto use = [&] {
+        while (busy == 0 && done < 10000000) {
+            uint32_t status = thrown([&] { seat.add("a", 1); });
+            CHECK(status == 0 || status == BWTREE_BUSY || status == BWTREE_FULL);
+            (status == BWTREE_BUSY ? busy : done) += status != BWTREE_FULL;
+        }
+    };
+    std::thread other(use);
+    use();
+    other.join();
+    CHECK(busy > 0 && *seat.add("a", 0).old == uint64_t(done));
+}
+
 // A write is told FULL while another thread stands still inside an operation: it is made again until that thread goes on.
 static std::optional<std::string> upserted(bw::seat &seat, const std::string &key, const std::string &value) {
     for (;;) {
@@ -221,6 +289,9 @@ int main() {
     refusals();
 #endif
     leases();
+    own_seats();
+    two_in_a_seat();
+    no_memory();
     most_seats();
     threads();
     puts("passed");

@@ -3,9 +3,14 @@
 #include <algorithm>
 #include <cstdio>
 #include <cstdlib>
+#include <iterator>
 #include <map>
 #include <random>
 #include <thread>
+#if __cplusplus >= 202002L
+#include <concepts>
+#include <ranges>
+#endif
 
 #define CHECK(x) do { if (!(x)) { fprintf(stderr, "%s:%d: %s\n", __FILE__, __LINE__, #x); exit(1); } } while (0)
 
@@ -46,6 +51,25 @@ static pairs shown(bw::seat &seat, const bw::range &range, bool back) {
     else seat.walk(range, each);
     return found;
 }
+
+#if __cplusplus >= 202002L
+static_assert(std::ranges::input_range<class bw::pairs> && std::movable<class bw::pairs>);
+
+// Pairs are a range of C++20, which adaptors take.
+static void ranges() {
+    auto tree = bw::tree::for_keys(1, 100);
+    auto seat = tree.lease();
+    for (char c = 'a'; c < 'j'; c++) seat.upsert(std::string(1, c), std::string(1, char(c - 32)));
+    std::string found;
+    auto is_odd = [](const auto &pair) { return pair.first[0] % 2 == 1; };
+    for (auto [key, value] : seat.pairs(bw::range::from("b")) | std::views::filter(is_odd) | std::views::take(3)) found += value;
+    CHECK(found == "CEG");
+    auto back = seat.pairs_back();
+    CHECK(std::ranges::find(back, std::string_view("D"), [](const auto &pair) { return pair.second; }) != back.end());
+}
+#else
+static void ranges() {}
+#endif
 
 static void walks() {
     std::mt19937 draw(3);
@@ -157,6 +181,7 @@ int main() {
     loops();
     answers();
     walks();
+    ranges();
     keys();
     counts();
     puts("passed");
