@@ -29,6 +29,11 @@ pub trait Parts: Sized {
 }
 
 /// A key of these parts. It may have more than 64 bytes: a call with it answers [`Error::TooLong`] then.
+///
+/// ```
+/// use bwtree::keys;
+/// assert_eq!(keys::of(("a", 1u64)), b"a\0\0\0\0\0\0\0\0\0\x01");
+/// ```
 pub fn of(parts: impl Part) -> Vec<u8> {
     let mut key = Vec::new();
     parts.put(&mut key);
@@ -36,11 +41,22 @@ pub fn of(parts: impl Part) -> Vec<u8> {
 }
 
 /// A text without its end: the keys whose text begins with it begin with these bytes.
+///
+/// ```
+/// use bwtree::keys;
+/// assert!(keys::of("Bern").starts_with(&keys::text_start("Be")));
+/// ```
 pub fn text_start(text: impl AsRef<[u8]>) -> Vec<u8> {
     text.as_ref().iter().flat_map(|&byte| std::iter::once(byte).chain((byte == 0).then_some(255))).collect()
 }
 
 /// The parts of a key; none where it has others.
+///
+/// ```
+/// use bwtree::keys;
+/// assert_eq!(keys::parts::<i64>(&keys::of(-7i64)), Some(-7));
+/// assert_eq!(keys::parts::<u64>(b"short"), None);
+/// ```
 pub fn parts<P: Parts>(key: &[u8]) -> Option<P> {
     P::read(key).and_then(|(read, rest)| rest.is_empty().then_some(read))
 }
@@ -165,6 +181,12 @@ tuples!(A B C D E);
 tuples!(A B C D E F);
 
 /// The greatest key below this one, of at most 64 bytes, if there is one: without a last 0; else with a last byte that is one less, and filled up with 255.
+///
+/// ```
+/// use bwtree::keys;
+/// assert_eq!(keys::before(b"a\0"), Some(b"a".to_vec()));
+/// assert_eq!(keys::before(b""), None);
+/// ```
 pub fn before(key: &[u8]) -> Option<Vec<u8>> {
     let (&last, rest) = key.split_last()?;
     let mut found = rest.to_vec();
@@ -176,6 +198,12 @@ pub fn before(key: &[u8]) -> Option<Vec<u8>> {
 }
 
 /// The least key that is above all that begin with these bytes, if there is one.
+///
+/// ```
+/// use bwtree::keys;
+/// assert_eq!(keys::behind(b"ab"), Some(b"ac".to_vec()));
+/// assert_eq!(keys::behind(&[255]), None);
+/// ```
 pub fn behind(prefix: &[u8]) -> Option<Vec<u8>> {
     let place = prefix.iter().rposition(|&byte| byte < 255)?;
     let mut found = prefix[..=place].to_vec();
@@ -184,6 +212,17 @@ pub fn behind(prefix: &[u8]) -> Option<Vec<u8>> {
 }
 
 /// The least key above this one, if there is one: with a 0 behind it, if there is room.
+///
+/// # Errors
+///
+/// [`Error::TooLong`] of a key of more than 64 bytes.
+///
+/// ```
+/// use bwtree::keys;
+/// assert_eq!(keys::after(b"a")?, Some(b"a\0".to_vec()));
+/// assert_eq!(keys::after(&[0; 65]), Err(bwtree::Error::TooLong));
+/// # Ok::<(), bwtree::Error>(())
+/// ```
 pub fn after(key: &[u8]) -> Result<Option<Vec<u8>>> {
     match key.len() {
         0..MAX_LENGTH => Ok(Some([key, &[0]].concat())),

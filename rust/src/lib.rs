@@ -18,8 +18,13 @@
 //! seats comes from meeting or a note, because the language has no clock.
 //!
 //! A thread that calls needs 512 KB of stack, which Rust's own threads have.
+//!
+//! A call that returns an [`Error`] changed no key. [`FromIterator`] and [`Extend`] are not implemented, since they can return none: see
+//! [`Tree::try_from_iter`] and [`Seat::try_extend`].
+#![warn(missing_docs, clippy::missing_errors_doc, clippy::undocumented_unsafe_blocks)]
 mod ffi;
 pub mod keys;
+mod own;
 mod seats;
 mod waits;
 mod walks;
@@ -132,22 +137,36 @@ impl From<RawLimits> for Limits {
 impl Limits {
     /// For so many seats and so many different keys, all counted that the tree ever has.
     ///
+    /// ```
+    /// use bwtree::{Error, Limits};
+    /// assert_eq!(Limits::for_keys(4, 1000)?.actors, 4);
+    /// assert_eq!(Limits::for_keys(17, 1000), Err(Error::BadLimits));
+    /// # Ok::<(), Error>(())
+    /// ```
+    ///
     /// # Errors
     ///
-    /// [`Error::BadLimits`].
+    /// [`Error::BadLimits`] of no seats or more than 16, and of more than 12,199 keys.
     pub fn for_keys(seats: u64, keys: u64) -> Result<Limits> {
         let mut limits = RawLimits::default();
+        // SAFETY: `limits` lives as long as the call.
         settled(unsafe { bwtree_raw_limits_for_keys(seats, keys, &mut limits) })?;
         Ok(limits.into())
     }
 
-    /// The same for a large tree: up to 27 million keys, in some 1,900 bytes each.
+    /// For a large tree: up to 27 million keys, in some 1,900 bytes each.
+    ///
+    /// ```
+    /// assert!(bwtree::Limits::for_many_keys(63, 1_000_000)?.large);
+    /// # Ok::<(), bwtree::Error>(())
+    /// ```
     ///
     /// # Errors
     ///
-    /// [`Error::BadLimits`].
+    /// [`Error::BadLimits`] of no seats or more than 63, and of too many keys.
     pub fn for_many_keys(seats: u64, keys: u64) -> Result<Limits> {
         let mut limits = RawLimits::default();
+        // SAFETY: `limits` lives as long as the call.
         settled(unsafe { bwtree_raw_limits_for_many_keys(seats, keys, &mut limits) })?;
         Ok(limits.into())
     }
@@ -156,7 +175,9 @@ impl Limits {
 /// How many pages and records are free, but those that a seat holds back.
 #[derive(Clone, Copy, Debug, PartialEq, Eq)]
 pub struct Room {
+    /// Pages that are free.
     pub free_pages: u64,
+    /// Records that are free.
     pub free_records: u64,
 }
 
@@ -168,39 +189,75 @@ struct Count(AtomicI64);
 /// An ordered map from byte strings to byte strings. It is closed when it is dropped.
 pub struct Tree {
     handle: Box<RawTree>,
-    free: AtomicU64,
+    /// A bit for each seat that is free. Threads that have own seats share it.
+    free: Arc<AtomicU64>,
     counts: Box<[Count]>,
     limits: Limits,
 }
 
-// The library's contract: all threads share a handle. What it points to, the library alone reads.
+// SAFETY: all threads share a handle, by the library's contract. What it points to, the library alone reads.
 unsafe impl Send for Tree {}
+// SAFETY: as above.
 unsafe impl Sync for Tree {}
 
 impl Tree {
     /// An empty tree.
     ///
+    /// ```
+    /// let tree = bwtree::Tree::open(bwtree::Limits { actors: 2, pages: 64, records: 832, large: false })?;
+    /// assert!(tree.is_empty());
+    /// # Ok::<(), bwtree::Error>(())
+    /// ```
+    ///
     /// # Errors
     ///
-    /// [`Error::BadLimits`]; [`Error::NoMemory`]; [`Error::BadVersion`].
+    /// [`Error::BadLimits`] of a limit outside its range; [`Error::NoMemory`]; [`Error::BadVersion`] of a library of another version. No tree is open then.
     pub fn open(limits: Limits) -> Result<Tree> {
+        // SAFETY: the limits and the handle live as long as the call, and nobody else has the handle yet.
         Tree::opened(limits, |raw, handle| unsafe { bwtree_raw_open(raw, handle) })
     }
 
-    /// A tree with these pairs, whose keys ascend; `Full` where they don't all fit.
+    /// A tree with these pairs, whose keys ascend.
+    ///
+    /// ```
+    /// use bwtree::{Error, Limits, Tree};
+    /// let limits = Limits::for_keys(1, 100)?;
+    /// assert_eq!(Tree::open_from(limits, [("Bern", "Switzerland"), ("Oslo", "Norway")])?.len(), 2);
+    /// assert_eq!(Tree::open_from(limits, [("b", ""), ("a", "")]).err(), Some(Error::BadOrder));
+    /// # Ok::<(), Error>(())
+    /// ```
     ///
     /// # Errors
     ///
-    /// [`Error::Full`] where the pairs don't all fit; [`Error::BadOrder`]; [`Error::TooLong`]; [`Error::BadLimits`]; [`Error::NoMemory`];
-    /// [`Error::BadVersion`].
+    /// [`Error::Full`] where the pairs don't all fit; [`Error::BadOrder`] where the keys don't ascend; [`Error::TooLong`]; and those of [`Tree::open`]. No
+    /// tree is open then.
     pub fn open_from<K: AsRef<[u8]>, V: AsRef<[u8]>>(limits: Limits, pairs: impl IntoIterator<Item = (K, V)>) -> Result<Tree> {
         let raw_pair = |(key, value): (K, V)| Some(RawPair { key: RawBytes::of(key.as_ref())?, value: RawBytes::of(value.as_ref())? });
         let pairs = pairs.into_iter().map(raw_pair).collect::<Option<Vec<_>>>().ok_or(Error::TooLong)?;
+        // SAFETY: the limits, the pairs and the handle live as long as the call, and nobody else has the handle yet.
         let tree = Tree::opened(limits, |raw, handle| match unsafe { bwtree_raw_open_from(raw, pairs.as_ptr(), pairs.len(), handle) } {
             SPENT => FULL,
             status => status,
         })?;
         tree.counts[0].0.store(pairs.len() as i64, Relaxed);
+        Ok(tree)
+    }
+
+    /// A tree with these pairs, in any order: a later pair of a key replaces an earlier one. It is in place of [`FromIterator`], which can return no error.
+    ///
+    /// ```
+    /// use bwtree::{Limits, Tree};
+    /// let tree = Tree::try_from_iter(Limits::for_keys(1, 100)?, [("Oslo", "Norway"), ("Bern", "Switzerland")])?;
+    /// assert_eq!(tree.len(), 2);
+    /// # Ok::<(), bwtree::Error>(())
+    /// ```
+    ///
+    /// # Errors
+    ///
+    /// [`Error::Full`] where the pairs don't all fit; [`Error::TooLong`]; and those of [`Tree::open`]. No tree is open then.
+    pub fn try_from_iter<K: AsRef<[u8]>, V: AsRef<[u8]>>(limits: Limits, pairs: impl IntoIterator<Item = (K, V)>) -> Result<Tree> {
+        let tree = Tree::open(limits)?;
+        tree.seat().expect("no seat is lent").try_extend(pairs)?;
         Ok(tree)
     }
 
@@ -210,28 +267,45 @@ impl Tree {
         let mut handle = Box::new(RawTree { held: 0, at: std::ptr::null() });
         settled(if goes_with_this() { open(&raw, &mut handle) } else { BAD_VERSION })?;
         let counts = (0..limits.actors).map(|_| Count::default()).collect();
-        Ok(Tree { handle, free: AtomicU64::new((1 << limits.actors) - 1), counts, limits })
+        Ok(Tree { handle, free: Arc::new(AtomicU64::new((1 << limits.actors) - 1)), counts, limits })
     }
 
     /// An empty tree with so many seats, for so many different keys, all counted that it ever has.
     ///
+    /// ```
+    /// assert!(bwtree::Tree::for_keys(4, 1000)?.is_empty());
+    /// # Ok::<(), bwtree::Error>(())
+    /// ```
+    ///
     /// # Errors
     ///
-    /// [`Error::BadLimits`]; [`Error::NoMemory`]; [`Error::BadVersion`].
+    /// Those of [`Limits::for_keys`] and [`Tree::open`].
     pub fn for_keys(seats: u64, keys: u64) -> Result<Tree> {
         Tree::open(Limits::for_keys(seats, keys)?)
     }
 
-    /// The same as a large tree.
+    /// An empty large tree.
+    ///
+    /// ```
+    /// assert!(bwtree::Tree::for_many_keys(63, 1000)?.is_empty());
+    /// # Ok::<(), bwtree::Error>(())
+    /// ```
     ///
     /// # Errors
     ///
-    /// [`Error::BadLimits`]; [`Error::NoMemory`]; [`Error::BadVersion`].
+    /// Those of [`Limits::for_many_keys`] and [`Tree::open`].
     pub fn for_many_keys(seats: u64, keys: u64) -> Result<Tree> {
         Tree::open(Limits::for_many_keys(seats, keys)?)
     }
 
     /// A seat, if one is free. It is free again when it is dropped.
+    ///
+    /// ```
+    /// let tree = bwtree::Tree::for_keys(1, 100)?;
+    /// let seat = tree.seat();
+    /// assert!(seat.is_some() && tree.seat().is_none());
+    /// # Ok::<(), bwtree::Error>(())
+    /// ```
     pub fn seat(&self) -> Option<Seat<'_>> {
         let number = self.leased()?;
         Some(Seat::new(Share::Lent(self), number))
@@ -267,18 +341,38 @@ impl Tree {
     }
 
     /// How many keys the tree has: exact when no call is under way; otherwise it may lack some calls that are.
+    ///
+    /// ```
+    /// let tree = bwtree::Tree::for_keys(1, 100)?;
+    /// tree.seat().expect("one is free").upsert(b"Bern", b"Switzerland")?;
+    /// assert_eq!(tree.len(), 1);
+    /// # Ok::<(), bwtree::Error>(())
+    /// ```
     pub fn len(&self) -> usize {
         self.counts.iter().map(|count| count.0.load(Relaxed)).sum::<i64>().max(0) as usize
     }
 
     /// Whether the tree has no keys, as [`Tree::len`] counts them.
+    ///
+    /// ```
+    /// assert!(bwtree::Tree::for_keys(1, 100)?.is_empty());
+    /// # Ok::<(), bwtree::Error>(())
+    /// ```
     pub fn is_empty(&self) -> bool {
         self.len() == 0
     }
 }
 
 impl Tree {
-    /// Closes the tree, and hands its pairs over, keys ascending. Where memory is refused, the tree comes back as it was.
+    /// Closes the tree, and hands its pairs over, keys ascending.
+    ///
+    /// ```
+    /// let tree = bwtree::Tree::for_keys(1, 100)?;
+    /// tree.seat().expect("one is free").upsert(b"Bern", b"Switzerland")?;
+    /// let pairs = tree.into_pairs().map_err(|(_, error)| error)?;
+    /// assert_eq!(pairs, [(b"Bern".to_vec(), b"Switzerland".to_vec())]);
+    /// # Ok::<(), bwtree::Error>(())
+    /// ```
     ///
     /// # Errors
     ///
@@ -286,8 +380,8 @@ impl Tree {
     pub fn into_pairs(self) -> std::result::Result<Vec<Pair>, (Tree, Error)> {
         let mut raw: Vec<RawPair> = Vec::new();
         let mut count = 0;
-        // (all its seats were dropped, so no call is inside one, and none has left an operation)
         let status = loop {
+            // SAFETY: the handle, the pairs and the count live as long as the call. (All seats were dropped: no call is inside one, and none left an operation.)
             match unsafe { bwtree_raw_close_pairs(&*self.handle, raw.as_mut_ptr(), raw.len(), &mut count) } {
                 NO_ROOM => raw.resize(count as usize, RawPair::EMPTY),
                 status => break status,
@@ -302,7 +396,7 @@ impl Tree {
 
 impl Drop for Tree {
     fn drop(&mut self) {
-        // (all its seats were dropped, so no call is inside one)
+        // SAFETY: the handle lives as long as the call. (All seats were dropped: no call is inside one.)
         unsafe { bwtree_raw_close(&*self.handle) };
     }
 }

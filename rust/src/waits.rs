@@ -89,6 +89,12 @@ impl Seat<'_> {
     }
 
     /// How many pages and records are free.
+    ///
+    /// ```
+    /// let tree = bwtree::Tree::for_keys(1, 100)?;
+    /// assert!(tree.seat().expect("one is free").room().free_records > 0);
+    /// # Ok::<(), bwtree::Error>(())
+    /// ```
     pub fn room(&mut self) -> Room {
         let mut room = RawRoom { free_pages: 0, free_records: 0 };
         // SAFETY: the handle and the room live as long as the call.

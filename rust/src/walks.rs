@@ -14,16 +14,42 @@ const GREATEST: [u8; MAX_LENGTH] = [255; MAX_LENGTH];
 impl<'tree> Seat<'tree> {
     /// All pairs, keys ascending; `rev()` shows them from the greatest key down. What is in the tree throughout the walk is shown, and what never is
     /// there isn't.
+    ///
+    /// ```
+    /// let tree = bwtree::Tree::for_keys(1, 100)?;
+    /// let mut seat = tree.seat().expect("one is free");
+    /// seat.try_extend([("a", "1"), ("b", "2"), ("c", "3")])?;
+    /// let keys: Vec<_> = seat.pairs().rev().map(|pair| pair.map(|(key, _)| key)).collect::<bwtree::Result<_>>()?;
+    /// assert_eq!(keys, [b"c", b"b", b"a"]);
+    /// # Ok::<(), bwtree::Error>(())
+    /// ```
     pub fn pairs(&mut self) -> Pairs<'_, 'tree> {
         Pairs::between(self, &[], None, false)
     }
 
-    /// The pairs from a key on.
+    /// The pairs from a key on. The first item is [`Error::TooLong`] of a key of more than 64 bytes.
+    ///
+    /// ```
+    /// let tree = bwtree::Tree::for_keys(1, 100)?;
+    /// let mut seat = tree.seat().expect("one is free");
+    /// seat.try_extend([("a", "1"), ("b", "2"), ("c", "3")])?;
+    /// assert_eq!(seat.pairs_from(b"b").count(), 2);
+    /// # Ok::<(), bwtree::Error>(())
+    /// ```
     pub fn pairs_from(&mut self, from: &[u8]) -> Pairs<'_, 'tree> {
         Pairs::between(self, from, None, is_long(from))
     }
 
-    /// The pairs whose keys lie in a range, such as `b"a".as_slice()..b"b".as_slice()`.
+    /// The pairs whose keys lie in a range, such as `"a".."b"`. The first item is [`Error::TooLong`] where a bound has more than 64 bytes.
+    ///
+    /// ```
+    /// let tree = bwtree::Tree::for_keys(1, 100)?;
+    /// let mut seat = tree.seat().expect("one is free");
+    /// seat.try_extend([("a", "1"), ("b", "2"), ("c", "3")])?;
+    /// assert_eq!(seat.range("a".."c").count(), 2);
+    /// assert_eq!(seat.range("b"..).next(), Some(Ok((b"b".to_vec(), b"2".to_vec()))));
+    /// # Ok::<(), bwtree::Error>(())
+    /// ```
     pub fn range<K: AsRef<[u8]>>(&mut self, keys: impl RangeBounds<K>) -> Pairs<'_, 'tree> {
         let (start, end) = (keys.start_bound().map(K::as_ref), keys.end_bound().map(K::as_ref));
         let is_long = [start, end].iter().any(|bound| matches!(bound, Bound::Included(key) | Bound::Excluded(key) if is_long(key)));
@@ -40,12 +66,28 @@ impl<'tree> Seat<'tree> {
         Pairs::between(self, &from, below, is_long)
     }
 
-    /// The pairs whose keys begin with these bytes.
+    /// The pairs whose keys begin with these bytes. The first item is [`Error::TooLong`] where there are more than 64.
+    ///
+    /// ```
+    /// let tree = bwtree::Tree::for_keys(1, 100)?;
+    /// let mut seat = tree.seat().expect("one is free");
+    /// seat.try_extend([("a", "1"), ("ab", "2"), ("b", "3")])?;
+    /// assert_eq!(seat.prefix(b"a").count(), 2);
+    /// # Ok::<(), bwtree::Error>(())
+    /// ```
     pub fn prefix(&mut self, prefix: &[u8]) -> Pairs<'_, 'tree> {
         Pairs::between(self, prefix, behind(prefix), is_long(prefix))
     }
 
     /// The pair of the least key. As with the functions below, the answer is atomic if the first page that is read has a pair; otherwise it is a walk's.
+    ///
+    /// ```
+    /// let tree = bwtree::Tree::for_keys(1, 100)?;
+    /// let mut seat = tree.seat().expect("one is free");
+    /// seat.try_extend([("a", "1"), ("b", "2"), ("c", "3")])?;
+    /// assert_eq!(seat.first()?, Some((b"a".to_vec(), b"1".to_vec())));
+    /// # Ok::<(), bwtree::Error>(())
+    /// ```
     ///
     /// # Errors
     ///
@@ -56,6 +98,14 @@ impl<'tree> Seat<'tree> {
 
     /// The pair of the greatest key.
     ///
+    /// ```
+    /// let tree = bwtree::Tree::for_keys(1, 100)?;
+    /// let mut seat = tree.seat().expect("one is free");
+    /// seat.try_extend([("a", "1"), ("b", "2"), ("c", "3")])?;
+    /// assert_eq!(seat.last()?, Some((b"c".to_vec(), b"3".to_vec())));
+    /// # Ok::<(), bwtree::Error>(())
+    /// ```
+    ///
     /// # Errors
     ///
     /// None: no key is too long.
@@ -65,18 +115,34 @@ impl<'tree> Seat<'tree> {
 
     /// The pair of the least key that isn't below this one.
     ///
+    /// ```
+    /// let tree = bwtree::Tree::for_keys(1, 100)?;
+    /// let mut seat = tree.seat().expect("one is free");
+    /// seat.try_extend([("a", "1"), ("b", "2"), ("c", "3")])?;
+    /// assert_eq!(seat.ceiling(b"aa")?, Some((b"b".to_vec(), b"2".to_vec())));
+    /// # Ok::<(), bwtree::Error>(())
+    /// ```
+    ///
     /// # Errors
     ///
-    /// [`Error::TooLong`].
+    /// [`Error::TooLong`] of a key of more than 64 bytes.
     pub fn ceiling(&mut self, key: &[u8]) -> Result<Option<Pair>> {
         self.pairs_from(key).next().transpose()
     }
 
     /// The pair of the least key above this one.
     ///
+    /// ```
+    /// let tree = bwtree::Tree::for_keys(1, 100)?;
+    /// let mut seat = tree.seat().expect("one is free");
+    /// seat.try_extend([("a", "1"), ("b", "2"), ("c", "3")])?;
+    /// assert_eq!(seat.higher(b"b")?, Some((b"c".to_vec(), b"3".to_vec())));
+    /// # Ok::<(), bwtree::Error>(())
+    /// ```
+    ///
     /// # Errors
     ///
-    /// [`Error::TooLong`].
+    /// [`Error::TooLong`] of a key of more than 64 bytes.
     pub fn higher(&mut self, key: &[u8]) -> Result<Option<Pair>> {
         match after(key)? {
             Some(from) => self.ceiling(&from),
@@ -86,18 +152,34 @@ impl<'tree> Seat<'tree> {
 
     /// The pair of the greatest key that isn't above this one.
     ///
+    /// ```
+    /// let tree = bwtree::Tree::for_keys(1, 100)?;
+    /// let mut seat = tree.seat().expect("one is free");
+    /// seat.try_extend([("a", "1"), ("b", "2"), ("c", "3")])?;
+    /// assert_eq!(seat.floor(b"bb")?, Some((b"b".to_vec(), b"2".to_vec())));
+    /// # Ok::<(), bwtree::Error>(())
+    /// ```
+    ///
     /// # Errors
     ///
-    /// [`Error::TooLong`].
+    /// [`Error::TooLong`] of a key of more than 64 bytes.
     pub fn floor(&mut self, key: &[u8]) -> Result<Option<Pair>> {
         Pairs::between(self, &[], Some(place_behind(key)), is_long(key)).next_back().transpose()
     }
 
     /// The pair of the greatest key below this one.
     ///
+    /// ```
+    /// let tree = bwtree::Tree::for_keys(1, 100)?;
+    /// let mut seat = tree.seat().expect("one is free");
+    /// seat.try_extend([("a", "1"), ("b", "2"), ("c", "3")])?;
+    /// assert_eq!(seat.lower(b"a")?, None);
+    /// # Ok::<(), bwtree::Error>(())
+    /// ```
+    ///
     /// # Errors
     ///
-    /// [`Error::TooLong`].
+    /// [`Error::TooLong`] of a key of more than 64 bytes.
     pub fn lower(&mut self, key: &[u8]) -> Result<Option<Pair>> {
         Pairs::between(self, &[], Some(key.to_vec()), is_long(key)).next_back().transpose()
     }
@@ -167,8 +249,10 @@ impl<'seat, 'tree> Pairs<'seat, 'tree> {
         let Some(at) = end.next else { return Ok(None) };
         let (seat, key, mut old) = (&mut *self.seat, at.as_slice(), RawBytes::EMPTY);
         let call = if is_back { bwtree_raw_back } else { bwtree_raw_page };
+        // SAFETY: the handle, the key and the page live as long as the call.
         let mut status = unsafe { call(seat.handle(), seat.number, key.as_ptr(), key.len(), &mut *end.page) };
         while status == SPENT {
+            // SAFETY: as above, and `old` does.
             status = unsafe { bwtree_raw_resume(seat.handle(), seat.number, STEPS, &mut old, &mut *end.page) };
         }
         settled(status)?;
