@@ -10,6 +10,11 @@ call that has returned precedes a call that begins afterwards, whatever threads 
 seats comes from meeting or a note, because the language has no clock.
 
 Where the library is looked for: bwtree_library.
+
+Exceptions: a call that raises ValueError, TypeError, Full or Error changed no key, and leaves the seat as it was. Every call of a seat raises TypeError for
+what has no bytes, ValueError for a key or value of more than 64 bytes, and Error with the status CLOSED (16), where the seat was given back or its tree is
+closed, or BUSY (18), where another thread is inside the seat. A write also raises Full. An exception of a signal's handler, as of Ctrl-C, is raised once the
+operation is done: its effect stays.
 """
 
 import contextlib
@@ -110,9 +115,11 @@ def _must(status: int) -> int:
 
 
 class Tree:
-    """A tree with so many seats, for so many different keys, all counted that it ever has; or with so many PIDs and records. It has 1 to 16 seats, a large
-    one 1 to 63. A large tree takes up to 27 million keys, in some 1,900 bytes each. It has the given pairs, whose keys ascend; raises Full where they
-    don't all fit."""
+    """A tree with so many seats, for so many different keys, all counted that it ever has; or with so many pages and records. It has 1 to 16 seats, a large
+    one 1 to 63. A large tree takes up to 27 million keys, in some 1,900 bytes each. It has the given pairs, whose keys ascend.
+
+    Raises Error with the status BAD_LIMITS (22), BAD_ORDER (26) of pairs whose keys don't ascend, or NO_MEMORY (23); Full where the pairs don't all fit;
+    ValueError for a key or value of more than 64 bytes, and for pages without records; TypeError for what has no bytes. No tree is open then."""
 
     def __init__(self, seats: int = 4, keys: int = 1000, *, pages: Optional[int] = None, records: Optional[int] = None, large: bool = False,
                  pairs: Iterable[tuple[bytes, bytes]] = ()):
@@ -145,11 +152,11 @@ class Tree:
             self._free.put(number)
 
     def seat(self, timeout: Optional[float] = None) -> "Seat":
-        """Leases a seat; waits for one where none is free, at most so many seconds, and then raises queue.Empty."""
+        """Leases a seat, and waits for one where none is free. Raises queue.Empty after so many seconds. The calls on a seat of a closed tree raise Error."""
         return Seat(self, timeout)
 
     def local(self) -> "Seat":
-        """The calling thread's own seat: leased at the thread's first call, where it waits for one, and given back when the thread ends."""
+        """The calling thread's own seat: leased at the thread's first call, where it waits for one, and given back when the thread ends or closes the tree."""
         seat: Optional[Seat] = getattr(self._local, "seat", None)
         if seat is None or seat._tree is None:
             seat = self._local.seat = self.seat()
@@ -178,12 +185,13 @@ class Tree:
             _give_back(seats)
 
     def close(self) -> None:
-        """Closes the tree and frees it. Raises Error where a seat is lent or the tree is closed."""
+        """Closes the tree and frees it. Raises Error with the status BUSY (18), where a seat is lent, and CLOSED (16), where the tree is closed: it is as it
+        was, but that the calling thread's own seat was given back."""
         with self._all_seats() as handle:
             _must(_lib.library.bwtree_raw_close(handle))
 
     def close_with_pairs(self) -> list[tuple[bytes, bytes]]:
-        """Closes the tree and frees it: its pairs, keys ascending. Raises Error where a seat is lent, the tree is closed, or memory is refused.
+        """Closes the tree and frees it: its pairs, keys ascending. Raises Error as close does, or with the status NO_MEMORY (23): the tree is as it was.
         Where it is interrupted, as by Ctrl-C or want of memory, the pairs wait for the next such call."""
         with self._all_seats() as handle:
             while self._count.value > len(self._pairs):
@@ -293,29 +301,35 @@ class Seat(bwtree_walks.Walks):
         return pairs, page.next.taken() if page.more else None
 
     def __getitem__(self, key: bytes) -> bytes:
+        """The value of a key. Raises KeyError where it has none; ValueError."""
         status, value = self._run("get", key)
         if status == _lib.ABSENT:
             raise KeyError(key)
         return value
 
     def __setitem__(self, key: bytes, value: bytes) -> None:
+        """Gives a key a value. Raises Full, ValueError."""
         self._run("upsert", key, value)
 
     def __delitem__(self, key: bytes) -> None:
+        """Makes a key absent. Raises KeyError where it has no value; Full, ValueError."""
         if self._run("delete", key)[0] == _lib.ABSENT:
             raise KeyError(key)
 
     def __contains__(self, key: object) -> bool:
+        """Whether a key has a value; what has no bytes is no key. Raises ValueError."""
         return isinstance(key, (bytes, bytearray, memoryview)) and self._run("get", _lib.plain(key))[0] == _lib.OK
 
     # Each of these is one operation on a key, whatever other threads do: the mapping's own are two.
     def pop(self, key: bytes, default: Any = _NOTHING) -> Any:
+        """Makes a key absent: the value that it had, else the default. Raises KeyError where there is neither; Full, ValueError."""
         old = self.delete(key)
         if old is None and default is _NOTHING:
             raise KeyError(key)
         return default if old is None else old
 
     def popitem(self) -> tuple[bytes, bytes]:
+        """Makes the least key that a walk meets absent: it and its value. Raises KeyError where it meets none; Full."""
         for key in self:
             old = self.delete(key)
             if old is not None:
@@ -323,35 +337,38 @@ class Seat(bwtree_walks.Walks):
         raise KeyError("the tree is empty")
 
     def clear(self) -> None:
+        """Makes each key absent that a walk meets. Raises Full: those before are absent."""
         for key in self:
             self.delete(key)
 
     def setdefault(self, key: bytes, default: Any = None) -> Any:
+        """The value of a key; one that has none gets the default, unless that is None. Raises Full, ValueError."""
         old = self.get(key) if default is None else self.insert(key, default)
         return _lib.plain(default) if old is None else old
 
     def insert(self, key: bytes, value: bytes) -> Optional[bytes]:
-        """Gives a key a value where it has none: the value that it has, if it has one."""
+        """Gives a key a value where it has none: the value that it has, if it has one. Raises Full, ValueError."""
         status, old = self._run("insert", key, value)
         return old if status == _lib.EXISTS else None
 
     def upsert(self, key: bytes, value: bytes) -> Optional[bytes]:
-        """Gives a key a value: the one that it had before, if it had one."""
+        """Gives a key a value: the one that it had before, if it had one. Raises Full, ValueError."""
         status, old = self._run("upsert", key, value)
         return old if status == _lib.REPLACED else None
 
     def delete(self, key: bytes) -> Optional[bytes]:
-        """Makes a key absent: the value that it had."""
+        """Makes a key absent: the value that it had, if it had one. Raises Full, ValueError."""
         status, old = self._run("delete", key)
         return old if status == _lib.OK else None
 
     def delete_if(self, key: bytes, expected: bytes) -> Compared:
-        """Makes a key absent where it has the expected value."""
+        """Makes a key absent where it has the expected value. Raises Full, ValueError."""
         status, old = self._run("delete_if", key, expected)
         return Compared(status == _lib.OK, old if status == _lib.DIFFERS else None)
 
     def replace(self, key: bytes, value: bytes) -> Optional[bytes]:
-        """Gives a key a value where it has one: the value that it had. It makes several calls, and takes effect atomically in the last one."""
+        """Gives a key a value where it has one: the value that it had. It makes several calls, and takes effect atomically in the last one. Raises Full,
+        ValueError."""
         value, old = self._key(value), self.get(key)
         while old is not None:
             compared = self.compare_and_set(key, old, value)
@@ -362,35 +379,35 @@ class Seat(bwtree_walks.Walks):
 
     def add(self, key: bytes, number: int) -> Optional[int]:
         """Adds a number, modulo 2^64, to the one that a key's value of eight bytes is, the highest byte first: the number before. A key without a value gets
-        the number. Raises ValueError where the value has not eight bytes."""
+        the number. Raises Full; ValueError, also where the value has not eight bytes: the key keeps it."""
         status, old = self._run("add", key, numbers=(number % (1 << 64),))
         if status == _lib.DIFFERS:
             raise ValueError("the key's value has not eight bytes")
         return int.from_bytes(old, "big") if status == _lib.REPLACED else None
 
     def compare_and_set(self, key: bytes, expected: bytes, value: bytes) -> Compared:
-        """Gives a key the value where it has the expected one."""
+        """Gives a key the value where it has the expected one. Raises Full, ValueError."""
         status, old = self._run("swap", key, expected, value)
         return Compared(status == _lib.OK, old if status == _lib.DIFFERS else None)
 
     def tidy(self, key: bytes) -> None:
-        """Does what upkeep is due at the leaf of a key; no value changes."""
+        """Does what upkeep is due at the leaf of a key; no value changes. Raises Full, ValueError."""
         self._run("tidy", key)
 
     def room(self) -> Room:
-        """How many pages and records are free."""
+        """How many pages and records are free. Raises Error."""
         room = _lib.Room()
         _must(_lib.library.bwtree_raw_room(self._handle(), self._number, ctypes.byref(room)))
         return Room(room.free_pages, room.free_records)
 
     def full_hint(self) -> FullHint:
-        """What may become of a write that raised Full."""
+        """What may become of a write that raised Full. Raises Error."""
         room = self.room()
         assert self._tree is not None
         return _hint(self._tree._limits, room)
 
     def close(self) -> None:
-        """Gives the seat back to its tree."""
+        """Gives the seat back to its tree; a second time it does nothing."""
         self._tree = None
         next(self._given_back, None)
 

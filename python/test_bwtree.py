@@ -7,18 +7,22 @@ import os
 import pickle
 import queue
 import random
+import resource
 import signal
+import sys
 import threading
 import time
 import unittest
 import unittest.mock
+from collections.abc import Callable
+from typing import Any, Optional
 
 import bwtree
 import bwtree_library
 
 
 class Calls(unittest.TestCase):
-    def answers(self, it, other):
+    def answers(self, it: bwtree.Seat, other: bwtree.Seat) -> None:
         self.assertIsNone(it.get(b"a"))
         self.assertIsNone(it.insert(b"a", b"x"))
         self.assertEqual(other.insert(b"a", b"y"), b"x")
@@ -31,20 +35,21 @@ class Calls(unittest.TestCase):
         self.assertEqual(list(it.items()), [(b"a", b"w"), (b"b\0", b"")])
         self.assertEqual(list(it.pairs(stop=b"b")), [(b"a", b"w")])
         self.assertEqual(list(it.pairs(b"aa")), [(b"b\0", b"")])
-        self.assertEqual((len(it), list(it), b"a" in it, b"c" in it, "a" in it), (2, [b"a", b"b\0"], True, False, False))
+        self.assertEqual((len(it), list(it), b"a" in it, b"c" in it, object() in it), (2, [b"a", b"b\0"], True, False, False))
         self.assertEqual((it.pop(b"a"), it.delete(b"a"), it.delete(b"b\0")), (b"w", None, b""))
         with self.assertRaises(KeyError):
             it[b"a"]
         with self.assertRaises(KeyError):
             del it[b"a"]
-        for call in (lambda: it.get(b"k" * 65), lambda: it.insert(b"a", b"v" * 65), lambda: list(it.pairs(b"k" * 65))):
+        longs: tuple[Callable[[], object], ...] = (lambda: it.get(b"k" * 65), lambda: it.insert(b"a", b"v" * 65), lambda: list(it.pairs(b"k" * 65)))
+        for long in longs:
             with self.assertRaises(ValueError):
-                call()
+                long()
         it[b"k" * 64] = b"v" * 64
         self.assertEqual(it.pop(b"k" * 64), b"v" * 64)
         self.assertGreater(it.room().free_records, 0)
 
-    def as_a_mapping(self, it):
+    def as_a_mapping(self, it: bwtree.Seat) -> None:
         it.update({b"a": b"x", b"b": b"y"})
         self.assertEqual((it.setdefault(b"a", b"z"), it.setdefault(b"a"), it.setdefault(b"c", bytearray(b"z"))), (b"x", b"x", b"z"))
         self.assertEqual((list(it.values()), (b"a", b"x") in it.items(), memoryview(b"a") in it), ([b"x", b"y", b"z"], True, True))
@@ -56,31 +61,40 @@ class Calls(unittest.TestCase):
         with self.assertRaises(KeyError):
             it.popitem()
         # all bytes count of what has them in wider items, and nothing else is a key or a value
-        it[array.array("I", [1, 2])] = b""
+        wide: Any = array.array("I", [1, 2])
+        it[wide] = b""
         self.assertEqual(it.pop((1).to_bytes(4, "little") + (2).to_bytes(4, "little")), b"")
-        for wrong in ("a", 5, [1], None):
-            for call in (lambda: it.get(wrong), lambda: it.insert(b"a", wrong), lambda: list(it.pairs(wrong)), lambda: bwtree.Tree(pairs=[(wrong, b"")])):
+        wrongs: tuple[Any, ...] = ("a", 5, [1], None)
+        calls: tuple[Callable[[Any], object], ...] = (
+            it.get, lambda wrong: it.insert(b"a", wrong), lambda wrong: list(it.pairs(wrong)), lambda wrong: bwtree.Tree(pairs=[(wrong, b"")]),
+        )
+        for wrong in wrongs:
+            for call in calls:
                 with self.assertRaises(TypeError):
-                    call()
+                    call(wrong)
 
-    def test_answers(self):
+    def test_answers(self) -> None:
         with bwtree.Tree(seats=2, keys=100) as tree, tree.seat() as seat, tree.seat() as other:
             self.answers(seat, other)
             self.as_a_mapping(seat)
 
-    def test_limits(self):
-        for limits in ({"seats": 17}, {"seats": 64, "large": True}, {"seats": 0}, {"keys": 10**30}, {"pages": 63, "records": 64},
-                       {"pages": 64, "records": 0},
-                       {"seats": 2**64 + 1, "pages": 64, "records": 64}, {"pages": 2**64 + 64, "records": 64}):
+    def test_limits(self) -> None:
+        wrongs: tuple[dict[str, Any], ...] = (
+            {"seats": 17}, {"seats": 64, "large": True}, {"seats": 0}, {"keys": 10**30}, {"pages": 63, "records": 64},
+            {"pages": 64, "records": 0},
+            {"seats": 2**64 + 1, "pages": 64, "records": 64}, {"pages": 2**64 + 64, "records": 64},
+        )
+        for limits in wrongs:
             with self.assertRaises(bwtree.Error) as raised:
                 bwtree.Tree(**limits)
             self.assertEqual((raised.exception.status, str(raised.exception)), (22, "a limit is outside its range"))
 
-        for half in ({"pages": 64}, {"records": 64}):
+        halves: tuple[dict[str, Any], ...] = ({"pages": 64}, {"records": 64})
+        for half in halves:
             with self.assertRaisesRegex(ValueError, "pages and records"):
                 bwtree.Tree(**half)
 
-    def test_as_a_dict(self):
+    def test_as_a_dict(self) -> None:
         with bwtree.Tree(seats=1, keys=100) as tree, tree.seat() as seat:
             self.assertFalse(seat)
             seat |= {b"a": b"x", b"b": b"y"}
@@ -88,16 +102,16 @@ class Calls(unittest.TestCase):
             self.assertEqual((seat | {b"a": b"z"}, {b"a": b"z"} | seat), ({b"a": b"z", b"b": b"y"}, {b"a": b"x", b"b": b"y"}))
             self.assertEqual((list(reversed(seat)), list(reversed(seat.values()))), ([b"b", b"a"], [b"y", b"x"]))
             with self.assertRaises(TypeError):
-                seat | 5
+                seat | 5  # type: ignore[operator]
             self.assertEqual(repr(seat), "<bwtree.Seat 0 of <bwtree.Tree: 2 keys, 0 of 1 seats free>>")
         self.assertEqual(repr(seat), "<bwtree.Seat, given back>")
 
-    def test_local(self):
+    def test_local(self) -> None:
         """Each thread has a seat of its own, which goes back when the thread ends."""
         with bwtree.Tree(seats=2, keys=100) as tree:
-            mine, others = tree.local(), []
+            mine, others = tree.local(), list[object]()
 
-            def use():
+            def use() -> None:
                 others.append(tree.local() is not mine and tree.local() is tree.local() and tree.local().upsert(b"a", b"x"))
 
             for _ in range(3):
@@ -109,7 +123,7 @@ class Calls(unittest.TestCase):
             self.assertEqual(tree.local()[b"a"], b"x")
             del mine
 
-    def test_large(self):
+    def test_large(self) -> None:
         with bwtree.Tree(seats=1, keys=20000, large=True) as tree, tree.seat() as seat:
             for i in range(20000):
                 seat[i.to_bytes(4, "big")] = b"x"
@@ -117,7 +131,45 @@ class Calls(unittest.TestCase):
         with self.assertRaises(bwtree.Error):
             bwtree.Tree(seats=1, keys=20000)
 
-    def test_most_seats(self):
+    @unittest.skipIf(sys.platform != "linux", "no /proc here")
+    def test_no_memory(self) -> None:
+        """A tree is not opened where the process may not have the memory."""
+        with open("/proc/self/statm", encoding="ascii") as it:
+            pages = int(it.read().split()[0])
+        before = resource.getrlimit(resource.RLIMIT_AS)
+        resource.setrlimit(resource.RLIMIT_AS, (pages * resource.getpagesize() + (64 << 20), before[1]))
+        try:
+            with self.assertRaises(bwtree.Error) as raised:
+                bwtree.Tree(seats=1, keys=1_000_000, large=True)
+        finally:
+            resource.setrlimit(resource.RLIMIT_AS, before)
+        self.assertEqual((raised.exception.status, str(raised.exception)), (23, "no memory"))
+
+    def test_two_in_a_seat(self) -> None:
+        """A call that finds another one inside its seat raises Error, and changes nothing."""
+        tree, raised, done = bwtree.Tree(seats=1, keys=10), list[int](), list[int]()
+        seat, end = tree.seat(), time.monotonic() + 60
+
+        def use() -> None:
+            while not raised and time.monotonic() < end:
+                try:
+                    seat.add(b"a", 1)
+                    done.append(1)
+                except bwtree.Full:
+                    pass
+                except bwtree.Error as error:
+                    raised.append(error.status)
+
+        threads = [threading.Thread(target=use) for _ in range(4)]
+        for it in threads:
+            it.start()
+        for it in threads:
+            it.join()
+        self.assertEqual((set(raised), seat.add(b"a", 0)), ({18}, len(done)))
+        seat.close()
+        tree.close()
+
+    def test_most_seats(self) -> None:
         with bwtree.Tree(seats=63, keys=100, large=True) as tree:
             seats = [tree.seat(timeout=1) for _ in range(63)]
             for i, seat in enumerate(seats):
@@ -128,7 +180,7 @@ class Calls(unittest.TestCase):
                 seat.close()
             self.assertEqual(tree.count(), 63)
 
-    def test_pairs(self):
+    def test_pairs(self) -> None:
         pairs = [(i.to_bytes(2, "big"), bytes([i])) for i in range(100)]
         with bwtree.Tree(seats=2, pairs=pairs) as tree, tree.seat() as seat:
             self.assertEqual(list(seat.pairs()), pairs)
@@ -140,7 +192,7 @@ class Calls(unittest.TestCase):
         with self.assertRaises(bwtree.Full):
             bwtree.Tree(seats=1, pages=64, records=64, pairs=[(i.to_bytes(2, "big"), b"") for i in range(4000)])
 
-    def test_close_with_pairs(self):
+    def test_close_with_pairs(self) -> None:
         tree = bwtree.Tree(seats=2, keys=500)
         with tree.seat() as seat:
             for i in reversed(range(400)):
@@ -160,14 +212,14 @@ class Calls(unittest.TestCase):
         with bwtree.Tree(seats=1, keys=1) as tree:
             self.assertEqual(tree.close_with_pairs(), [])
 
-    def test_interrupts(self):
+    def test_interrupts(self) -> None:
         """What the library did is not lost where the program is interrupted right behind it."""
-        answers = []
+        answers: list[object] = []
 
-        def interrupted(name, ends=True):
+        def interrupted(name: str, ends: bool = True) -> Any:
             real = getattr(bwtree_library.library, name)
 
-            def call(*words):
+            def call(*words: object) -> object:
                 answers.append(real(*words))
                 if ends:
                     raise KeyboardInterrupt
@@ -189,13 +241,13 @@ class Calls(unittest.TestCase):
             gc.collect()
         self.assertEqual(answers, [0, 0])
 
-    def test_full(self):
+    def test_full(self) -> None:
         with bwtree.Tree(seats=1, pages=64, records=64) as tree, tree.seat() as seat, self.assertRaises(bwtree.Full):
             for i in range(100000):
                 seat[i.to_bytes(4, "big")] = b""
 
 
-    def test_patience(self):
+    def test_patience(self) -> None:
         """A write waits as long as its seat's patience lasts: in vain where the tree is full for good."""
         with bwtree.Tree(seats=1, pages=64, records=704) as tree, tree.seat() as seat:
             self.assertEqual(seat.full_hint(), bwtree.FullHint.PASSED)
@@ -208,7 +260,7 @@ class Calls(unittest.TestCase):
             self.assertGreaterEqual(time.monotonic() - begin, 0.03)
             self.assertEqual(seat.full_hint(), bwtree.FullHint.FOR_GOOD)
 
-    def test_waits(self):
+    def test_waits(self) -> None:
         """A write that is full for a moment is done once there is room."""
         real, answers = bwtree_library.library.bwtree_raw_upsert, [5, 5, 5]
         with bwtree.Tree(seats=1, keys=10) as tree, tree.seat() as seat:
@@ -219,14 +271,14 @@ class Calls(unittest.TestCase):
                 seat[b"a"] = b"y"
             self.assertEqual((answers, seat[b"a"], tree.count()), ([], b"y", 1))
 
-    def test_hints(self):
+    def test_hints(self) -> None:
         for limits, room, hint in (((1, 64, 704, 1, 0), (1, 1), "PASSED"), ((1, 64, 704, 1, 0), (0, 1), "FOR_GOOD"), ((1, 64, 704, 1, 0), (1, 0), "FOR_NOW"),
                                    ((1, 64, 640, 1, 0), (1, 0), "FOR_GOOD"), ((1, 64, 448, 1, 1), (1, 0), "FOR_NOW"), ((1, 64, 384, 1, 1), (1, 0), "FOR_GOOD")):
             self.assertEqual(bwtree._hint(bwtree_library.Limits(*limits), bwtree.Room(*room)).name, hint)
 
 
 class Loading(unittest.TestCase):
-    def test_without_the_library(self):
+    def test_without_the_library(self) -> None:
         """The module says where it looked for the library, and what to set."""
         nowhere = os.path.join(os.path.dirname(os.path.abspath(__file__)), "nowhere")
         with unittest.mock.patch.dict(os.environ, {"BWTREE_LIB": nowhere}), self.assertRaises(ImportError) as raised:
@@ -236,7 +288,7 @@ class Loading(unittest.TestCase):
 
 
 class Leases(unittest.TestCase):
-    def test_leases(self):
+    def test_leases(self) -> None:
         tree = bwtree.Tree(seats=1, keys=100)
         seat = tree.seat()
         with self.assertRaises(queue.Empty):
@@ -256,7 +308,7 @@ class Leases(unittest.TestCase):
             tree.close()
 
 
-    def test_exception_in_a_block(self):
+    def test_exception_in_a_block(self) -> None:
         """It is raised in place of what a lent seat makes of the closing, which is raised where there is no other one."""
         with self.assertRaises(RuntimeError):
             with bwtree.Tree(seats=1, keys=10) as tree:
@@ -271,19 +323,20 @@ class Leases(unittest.TestCase):
         self.assertEqual(raised.exception.status, 18)
 
 
-    def test_copies(self):
+    def test_copies(self) -> None:
         """Neither a tree nor a seat is copied: two objects of one handle would close it twice, and lend one seat to two threads."""
         with bwtree.Tree(seats=1, keys=10) as tree, tree.seat() as seat:
             seat[b"a"] = b"x"
             for it in (tree, seat):
-                for copied in (copy.copy, copy.deepcopy, pickle.dumps):
+                copies: tuple[Callable[[object], object], ...] = (copy.copy, copy.deepcopy, pickle.dumps)
+                for copied in copies:
                     with self.assertRaises(TypeError):
                         copied(it)
             gc.collect()
             self.assertEqual(seat[b"a"], b"x")
 
 
-    def test_dropped(self):
+    def test_dropped(self) -> None:
         tree = bwtree.Tree(seats=1, keys=10)
         seat = tree.seat()
         del seat
@@ -292,16 +345,16 @@ class Leases(unittest.TestCase):
         tree.close()
 
     @unittest.skipUnless(hasattr(signal, "setitimer"), "no timers here")
-    def test_exceptions_from_signals(self):
+    def test_exceptions_from_signals(self) -> None:
         """A signal's handler may raise at any time, as Ctrl-C does: no seat is lost, and all can be closed."""
 
         class Stop(Exception):
             pass
 
-        def stop(*_):
+        def stop(*_: object) -> None:
             raise Stop
 
-        def use(tree):
+        def use(tree: bwtree.Tree) -> None:
             for _ in range(10000):
                 with tree.seat() as seat:
                     seat[b"a"] = b"x"
@@ -324,7 +377,7 @@ class Leases(unittest.TestCase):
         tree.close()
 
 
-def upsert(seat, key, value):
+def upsert(seat: bwtree.Seat, key: bytes, value: bytes) -> Optional[bytes]:
     """A write is told Full while another thread stands still inside an operation: it is made again until that thread goes on."""
     while True:
         try:
@@ -334,10 +387,10 @@ def upsert(seat, key, value):
 
 
 class Threads(unittest.TestCase):
-    def test_threads(self):
-        tree, faults = bwtree.Tree(seats=4, keys=6 * 300), []
+    def test_threads(self) -> None:
+        tree, faults = bwtree.Tree(seats=4, keys=6 * 300), list[Exception]()
 
-        def work(number):
+        def work(number: int) -> None:
             try:
                 with tree.seat() as seat:
                     for i in range(900):

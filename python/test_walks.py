@@ -6,15 +6,20 @@ import random
 import struct
 import threading
 import unittest
+from collections.abc import Callable, Iterator, Sequence
+from typing import Any, Optional, TypeVar
 
 import bwtree
 import bwtree_keys as keys
+
+Pair = tuple[bytes, bytes]
+T = TypeVar("T")
 
 STORED = os.path.join(os.path.dirname(os.path.abspath(__file__)), "..", "c", "tests", "keys.txt")
 
 
 class Calls(unittest.TestCase):
-    def test_answers(self):
+    def test_answers(self) -> None:
         with bwtree.Tree(seats=2, keys=100) as tree, tree.seat() as it, tree.seat() as other:
             self.assertEqual((it.replace(b"a", b"x"), it.delete_if(b"a", b"x"), tree.count()), (None, (False, None), 0))
             it[b"a"] = b"x"
@@ -28,12 +33,15 @@ class Calls(unittest.TestCase):
             self.assertEqual((it[b"n"], it.pop(b"n"), tree.count()), (b"1234567", b"1234567", 0))
             self.assertEqual((it.setdefault(b"a", b"x"), it.setdefault(b"a", b"y"), tree.count(), it.popitem(), tree.count()), (b"x", b"x", 1, (b"a", b"x"), 0))
 
-    def test_misuse(self):
+    def test_misuse(self) -> None:
         with bwtree.Tree(seats=1, keys=100) as tree, tree.seat() as it:
             long = b"k" * 65
-            near = (it.floor, it.lower, it.ceiling, it.higher)
-            for call in (*near, it.prefix, it.pairs, lambda key: it.pairs(stop=key), lambda key: it.add(key, 1), lambda key: it.delete_if(key, b""),
-                         lambda key: it.delete_if(b"a", key), lambda key: it.replace(b"a", key), lambda key: it.replace(key, b"")):
+            near: tuple[Callable[[Any], object], ...] = (it.floor, it.lower, it.ceiling, it.higher)
+            calls: tuple[Callable[[Any], object], ...] = (
+                *near, it.prefix, it.pairs, lambda key: it.pairs(stop=key), lambda key: it.add(key, 1), lambda key: it.delete_if(key, b""),
+                lambda key: it.delete_if(b"a", key), lambda key: it.replace(b"a", key), lambda key: it.replace(key, b""),
+            )
+            for call in calls:
                 with self.assertRaises(ValueError):
                     call(long)
                 for wrong in ("a", 5, None):
@@ -44,25 +52,25 @@ class Calls(unittest.TestCase):
 
 
 class Walks(unittest.TestCase):
-    def drawn(self, draw):
+    def drawn(self, draw: random.Random) -> bytes:
         start = b"\xff" * 60 if draw.randrange(8) == 0 else b""
         return start + bytes(draw.choice(b"\0\1a\xfe\xff") for _ in range(draw.randrange(5 if start else 6)))
 
-    def shows(self, wanted, walk):
+    def shows(self, wanted: list[Pair], walk: Callable[[bool], Iterator[Pair]]) -> None:
         self.assertEqual(list(walk(False)), wanted)
         self.assertEqual(list(walk(True)), wanted[::-1])
 
-    def ranges(self, it, pairs, one, other):
+    def ranges(self, it: bwtree.Seat, pairs: list[Pair], one: bytes, other: bytes) -> None:
         self.shows([pair for pair in pairs if one <= pair[0]], lambda reverse: it.pairs(one, reverse=reverse))
         self.shows([pair for pair in pairs if pair[0] < one], lambda reverse: it.pairs(stop=one, reverse=reverse))
         self.shows([pair for pair in pairs if one <= pair[0] < other], lambda reverse: it.pairs(one, other, reverse))
         self.shows([pair for pair in pairs if pair[0].startswith(one)], lambda reverse: it.prefix(one, reverse))
 
-    def neighbours(self, it, pairs, key):
-        def last(below):
+    def neighbours(self, it: bwtree.Seat, pairs: list[Pair], key: bytes) -> None:
+        def last(below: Callable[[bytes], bool]) -> Optional[Pair]:
             return next((pair for pair in reversed(pairs) if below(pair[0])), None)
 
-        def first(above):
+        def first(above: Callable[[bytes], bool]) -> Optional[Pair]:
             return next((pair for pair in pairs if above(pair[0])), None)
 
         self.assertEqual(it.floor(key), last(lambda other: other <= key))
@@ -70,7 +78,7 @@ class Walks(unittest.TestCase):
         self.assertEqual(it.ceiling(key), first(lambda other: other >= key))
         self.assertEqual(it.higher(key), first(lambda other: other > key))
 
-    def test_model(self):
+    def test_model(self) -> None:
         draw = random.Random(1)
         with bwtree.Tree(seats=1, keys=1000) as tree, tree.seat() as it:
             self.assertEqual((it.first(), it.last(), it.floor(b"a"), it.lower(b""), it.higher(b"\xff" * 64), list(reversed(it))), (None,) * 5 + ([],))
@@ -86,13 +94,13 @@ class Walks(unittest.TestCase):
                 self.neighbours(it, pairs, draw.choice(pairs)[0])
                 self.ranges(it, pairs, one, other)
 
-    def test_given_pairs_are_counted(self):
+    def test_given_pairs_are_counted(self) -> None:
         with bwtree.Tree(seats=2, pairs=[(b"a", b"x"), (b"b", b"y")]) as tree, tree.seat() as it:
             del it[b"a"]
             self.assertEqual((tree.count(), it.last()), (1, (b"b", b"y")))
 
-    def test_threads(self):
-        def run(number):
+    def test_threads(self) -> None:
+        def run(number: int) -> None:
             draw = random.Random(number)
             with tree.seat() as it:
                 for i in range(200):
@@ -104,14 +112,14 @@ class Walks(unittest.TestCase):
                         found = list(reversed(it))
                         falls.append(found == sorted(set(found), reverse=True))
 
-        def again(call):
+        def again(call: Callable[[], object]) -> object:
             while True:
                 try:
                     return call()
                 except bwtree.Full:
                     pass
 
-        falls = []
+        falls: list[bool] = []
         with bwtree.Tree(seats=4, keys=1000) as tree:
             threads = [threading.Thread(target=run, args=(number,)) for number in range(4)]
             for thread in threads:
@@ -123,7 +131,7 @@ class Walks(unittest.TestCase):
 
 
 class Keys(unittest.TestCase):
-    def part(self, word):
+    def part(self, word: str) -> tuple[str, object, bytes]:
         kind, _, part = word.partition(":")
         if kind == "text":
             return "bytes", bytes.fromhex(part), keys.text(bytes.fromhex(part))
@@ -132,7 +140,7 @@ class Keys(unittest.TestCase):
             return kind, number, keys.f64(number)
         return kind, int(part), {"u64": keys.u64, "i64": keys.i64}[kind](int(part))
 
-    def test_stored(self):
+    def test_stored(self) -> None:
         last, count = None, 0
         with open(STORED, encoding="utf-8") as lines:
             for words in map(str.split, lines):
@@ -148,7 +156,7 @@ class Keys(unittest.TestCase):
                 last, count = wanted, count + 1
         self.assertGreater(count, 100)
 
-    def test_sorted(self):
+    def test_sorted(self) -> None:
         texts = ["", "\0", "\0\0", "a", "a\0", "a\0b", "ab", "\u00e9", "\U0001f600"]
         tuples = list(itertools.product(texts, [-2**63, -256, -1, 0, 1, 2**63 - 1], [float("-inf"), -1.5, 0.0, 0.1, 1e300]))
         random.Random(2).shuffle(tuples)
@@ -157,17 +165,21 @@ class Keys(unittest.TestCase):
         self.assertTrue(all(keys.parts(key, "text", "i64", "f64") == parts for key, parts in made.items()))
         self.assertTrue(keys.text("a\0b").startswith(keys.text_start("a\0")))
 
-    def test_refusals(self):
-        for wrong in (lambda: keys.key(keys.text(b"k" * 63)), lambda: keys.parts(b"1234567", "u64"), lambda: keys.parts(b"123456789", "u64"),
-                      lambda: keys.parts(b"a", "text"), lambda: keys.parts(b"a\0\1", "text"), lambda: keys.parts(b"a\0", "text"),
-                      lambda: keys.parts(b"\xff\0\0", "text")):
+    def test_refusals(self) -> None:
+        wrongs: Sequence[Callable[[], object]] = (
+            lambda: keys.key(keys.text(b"k" * 63)), lambda: keys.parts(b"1234567", "u64"), lambda: keys.parts(b"123456789", "u64"),
+            lambda: keys.parts(b"a", "text"), lambda: keys.parts(b"a\0\1", "text"), lambda: keys.parts(b"a\0", "text"),
+            lambda: keys.parts(b"\xff\0\0", "text"),
+        )
+        for wrong in wrongs:
             with self.assertRaises(ValueError):
                 wrong()
-        for wrong in (lambda: keys.u64(-1), lambda: keys.u64(2**64), lambda: keys.i64(2**63)):
+        beyond: Sequence[Callable[[], object]] = (lambda: keys.u64(-1), lambda: keys.u64(2**64), lambda: keys.i64(2**63))
+        for wrong in beyond:
             with self.assertRaises(OverflowError):
                 wrong()
 
-    def test_neighbours(self):
+    def test_neighbours(self) -> None:
         self.assertEqual((keys.before(b""), keys.before(b"a\0"), keys.before(b"b")), (None, b"a", b"a".ljust(64, b"\xff")))
         self.assertEqual((keys.behind(b""), keys.behind(b"\xff\xff"), keys.behind(b"a\xff")), (None, None, b"b"))
         self.assertEqual((keys.after(b"a"), keys.after(b"a" * 64), keys.after(b"\xff" * 64)), (b"a\0", b"a" * 63 + b"b", None))
