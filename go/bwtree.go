@@ -7,14 +7,40 @@
 // call that has returned precedes a call that begins afterwards, whatever goroutines and seats make the two. In a program's own proof, order between two
 // seats comes from meeting or a note, because the language has no clock.
 //
+// Errors: a call that returns one changed no key, and its other results are zero. Each call of a seat returns ErrTooLong, where a key or value has more than 64
+// bytes; ErrClosed, where the seat was released, or leased from a tree that was closed; and ErrBusy, where another goroutine is inside the seat. A write also
+// returns ErrFull. All are of the type Error, and can be compared, or matched by errors.Is.
+//
 // cgo finds bwtree.h and libbwtree by pkg-config: PKG_CONFIG_PATH names the folder of bwtree.pc.
 package bwtree
 
 // #include <stdlib.h>
 // #include "bwtree.h"
+//
+// // What calls are passed lies in the seat: cgo looks for no pointers in it, and allocates nothing.
+// static uint32_t get(const bwtree *tree, uint32_t seat, const bwtree_bytes *key, bwtree_bytes *value) {
+//     return bwtree_get(tree, seat, key->bytes, key->length, value);
+// }
+// static uint32_t insert(const bwtree *tree, uint32_t seat, const bwtree_bytes *key, const bwtree_bytes *value, bwtree_bytes *old) {
+//     return bwtree_insert(tree, seat, key->bytes, key->length, value->bytes, value->length, old);
+// }
+// static uint32_t upsert(const bwtree *tree, uint32_t seat, const bwtree_bytes *key, const bwtree_bytes *value, bwtree_bytes *old) {
+//     return bwtree_upsert(tree, seat, key->bytes, key->length, value->bytes, value->length, old);
+// }
+// static uint32_t delete(const bwtree *tree, uint32_t seat, const bwtree_bytes *key, bwtree_bytes *old) {
+//     return bwtree_delete(tree, seat, key->bytes, key->length, old);
+// }
+// static uint32_t compare_and_set(const bwtree *tree, uint32_t seat, const bwtree_bytes *key, const bwtree_bytes *expected, const bwtree_bytes *value,
+//                                 bwtree_bytes *old) {
+//     return bwtree_compare_and_set(tree, seat, key->bytes, key->length, expected->bytes, expected->length, value->bytes, value->length, old);
+// }
+// static uint32_t tidy(const bwtree *tree, uint32_t seat, const bwtree_bytes *key) {
+//     return bwtree_tidy(tree, seat, key->bytes, key->length);
+// }
 import "C"
 
 import (
+	"context"
 	"runtime"
 	"sync/atomic"
 	"time"
@@ -44,6 +70,7 @@ const (
 	ErrBadVersion Error = C.BWTREE_BAD_VERSION
 )
 
+// Error describes the reason.
 func (e Error) Error() string {
 	return "bwtree: " + C.GoString(C.bwtree_text(C.uint32_t(e)))
 }
@@ -78,7 +105,8 @@ func (limits Limits) raw() C.bwtree_limits {
 	return raw
 }
 
-// LimitsForKeys are for so many seats and so many different keys, all counted that the tree ever has.
+// LimitsForKeys are for so many seats and so many different keys, all counted that the tree ever has. It returns ErrBadLimits for no seats or more than 16, and
+// for more than 12,199 keys.
 func LimitsForKeys(seats, keys uint64) (Limits, error) {
 	var limits C.bwtree_limits
 	if err := settled(C.bwtree_limits_for_keys(C.uint64_t(seats), C.uint64_t(keys), &limits)); err != nil {
@@ -87,7 +115,8 @@ func LimitsForKeys(seats, keys uint64) (Limits, error) {
 	return shown(limits), nil
 }
 
-// LimitsForManyKeys are the same for a large tree: up to 27 million keys, in some 1,900 bytes each.
+// LimitsForManyKeys are limits for a large tree: up to 27 million keys, in some 1,900 bytes each. It returns ErrBadLimits for no seats or more than 63, and for
+// too many keys.
 func LimitsForManyKeys(seats, keys uint64) (Limits, error) {
 	var limits C.bwtree_limits
 	if err := settled(C.bwtree_limits_for_many_keys(C.uint64_t(seats), C.uint64_t(keys), &limits)); err != nil {
@@ -135,12 +164,14 @@ func given(text []byte) (C.bwtree_bytes, error) {
 	return raw, nil
 }
 
-// Open opens an empty tree. Close frees it; so does the collector, once nothing refers to the tree or a seat of it.
+// Open opens an empty tree. Close frees it; so does the collector, once nothing refers to the tree or a seat of it. It returns ErrBadLimits for a limit outside
+// its range; ErrNoMemory; and ErrBadVersion.
 func Open(limits Limits) (*Tree, error) {
 	return OpenFrom(limits, nil)
 }
 
-// OpenFrom opens a tree with these pairs, whose keys ascend. It answers ErrFull where they don't all fit.
+// OpenFrom opens a tree with these pairs, whose keys ascend. It returns ErrFull where they don't all fit, ErrBadOrder where the keys don't ascend, ErrTooLong,
+// and what Open returns: no tree is open then.
 func OpenFrom(limits Limits, pairs []Pair) (*Tree, error) {
 	all := make([]C.bwtree_pair, len(pairs))
 	for i, pair := range pairs {
@@ -181,7 +212,7 @@ func OpenFrom(limits Limits, pairs []Pair) (*Tree, error) {
 	return tree, nil
 }
 
-// withAllSeats runs close while all seats are taken. It answers ErrBusy where one is lent.
+// withAllSeats runs close while all seats are taken. It returns ErrBusy where one is lent.
 func (tree *Tree) withAllSeats(close func() error) error {
 	var taken []uint32
 	defer func() {
@@ -214,14 +245,14 @@ func (tree *Tree) Len() int {
 	return int(sum)
 }
 
-// Close closes the tree and frees it. It answers ErrBusy where a seat is lent, and ErrClosed where the tree is closed.
+// Close closes the tree and frees it. It returns ErrBusy where a seat is lent: the tree stays open; and ErrClosed where the tree is closed.
 func (tree *Tree) Close() error {
 	return tree.withAllSeats(func() error {
 		return settled(C.bwtree_close(tree.handle))
 	})
 }
 
-// CloseWithPairs closes the tree, frees it, and hands its pairs over, keys ascending. It answers what Close does; and NoMemory: the tree stays open.
+// CloseWithPairs closes the tree, frees it, and hands its pairs over, keys ascending. It returns what Close does; and ErrNoMemory: the tree stays open.
 func (tree *Tree) CloseWithPairs() (pairs []Pair, err error) {
 	err = tree.withAllSeats(func() error {
 		var count C.uint64_t
@@ -241,9 +272,28 @@ func (tree *Tree) CloseWithPairs() (pairs []Pair, err error) {
 	return pairs, err
 }
 
-// Seat leases a seat, and waits for one where none is free. Release gives it back.
+// Seat leases a seat, and waits for one where none is free. Release gives it back. A goroutine has no storage of its own, so it has no seat of its own either:
+// With leases one for a function.
 func (tree *Tree) Seat() *Seat {
 	return tree.lease(<-tree.free)
+}
+
+// SeatContext leases a seat as Seat does. It returns the context's error where that is done first.
+func (tree *Tree) SeatContext(ctx context.Context) (*Seat, error) {
+	select {
+	case number := <-tree.free:
+		return tree.lease(number), nil
+	case <-ctx.Done():
+		return nil, ctx.Err()
+	}
+}
+
+// With leases a seat, waits for one where none is free, runs a function with it, and releases it, also where the function panics. It returns what the function
+// does.
+func (tree *Tree) With(run func(seat *Seat) error) error {
+	seat := tree.Seat()
+	defer seat.Release()
+	return run(seat)
 }
 
 // lease is a seat with this number. One that is dropped without Release goes back once the collector finds it.
@@ -278,9 +328,9 @@ type Seat struct {
 	released *atomic.Bool
 	// how long a write waits while the tree is full
 	patience time.Duration
-	// what the library writes, here so that no call allocates it
-	old  C.bwtree_bytes
-	page *C.bwtree_page_pairs
+	// what the library reads and writes, here so that no call allocates it
+	key, expected, value, old C.bwtree_bytes
+	page                      *C.bwtree_page_pairs
 }
 
 // closed is a handle that was never opened: each call on it answers that the tree is closed.
@@ -294,7 +344,7 @@ func (seat *Seat) handle() *C.bwtree {
 	return seat.tree.handle
 }
 
-// Release gives the seat back to its tree. Other calls on it answer ErrClosed from then on; a second Release does nothing.
+// Release gives the seat back to its tree. Other calls on it return ErrClosed from then on; a second Release does nothing.
 func (seat *Seat) Release() {
 	if tree := seat.tree; tree != nil {
 		seat.tree = nil
@@ -304,22 +354,30 @@ func (seat *Seat) Release() {
 	}
 }
 
-var none [1]byte
+// fill copies bytes, at most 64, to where the library reads them.
+func fill(to *C.bwtree_bytes, bytes []byte) {
+	to.length = C.uint64_t(copy((*[MaxLength]byte)(unsafe.Pointer(&to.bytes[0]))[:], bytes))
+}
 
-// some is a slice itself where it has bytes, else one that has a place to point to. Go's memory may be passed to C for the time of a call; the calls
-// below name an element of a slice right there, so that cgo looks at that slice alone.
-func some(bytes []byte) []byte {
-	if len(bytes) == 0 {
-		return none[:]
+// pass puts what a call is passed where the library reads it. It returns ErrTooLong where something has more than 64 bytes.
+func (seat *Seat) pass(key, expected, value []byte) error {
+	if len(key) > MaxLength || len(expected) > MaxLength || len(value) > MaxLength {
+		return ErrTooLong
 	}
-	return bytes
+	fill(&seat.key, key)
+	fill(&seat.expected, expected)
+	fill(&seat.value, value)
+	return nil
+}
+
+// written are the bytes that the library wrote, until it writes there again.
+func written(bytes *C.bwtree_bytes) []byte {
+	return (*[MaxLength]byte)(unsafe.Pointer(&bytes.bytes[0]))[:bytes.length]
 }
 
 // taken is a copy of the bytes that the library wrote.
 func taken(bytes *C.bwtree_bytes) []byte {
-	text := make([]byte, bytes.length)
-	copy(text, (*[MaxLength]byte)(unsafe.Pointer(&bytes.bytes[0]))[:])
-	return text
+	return append(make([]byte, 0, bytes.length), written(bytes)...)
 }
 
 // done resumes an operation until it is done, and says what it came to.
@@ -355,76 +413,99 @@ func (seat *Seat) compared(status C.uint32_t, err error) (done bool, found []byt
 	return err == nil && status == C.BWTREE_OK, found, err
 }
 
-// Get is the value of a key, and whether it has one. It answers ErrTooLong, or ErrClosed.
-func (seat *Seat) Get(key []byte) ([]byte, bool, error) {
-	k := some(key)
-	status, err := seat.done(C.bwtree_get(seat.handle(), C.uint32_t(seat.number), unsafe.Pointer(&k[0]), C.size_t(len(key)), &seat.old))
+// looked is what a lookup came to, with the value in seat.old.
+func (seat *Seat) looked(key []byte) (C.uint32_t, error) {
+	if err := seat.pass(key, nil, nil); err != nil {
+		return 0, err
+	}
+	return seat.done(C.get(seat.handle(), C.uint32_t(seat.number), &seat.key, &seat.old))
+}
+
+// Get is the value of a key, and whether it has one. It returns ErrTooLong, ErrClosed or ErrBusy.
+func (seat *Seat) Get(key []byte) (value []byte, found bool, err error) {
+	status, err := seat.looked(key)
 	return seat.shown(status, err, C.BWTREE_OK)
 }
 
-// Contains says whether a key has a value. It answers what Get does.
+// AppendGet puts the value of a key behind what a slice has, and says whether there is one: it allocates nothing where the slice has room. It returns what Get
+// does, with the slice as it was.
+func (seat *Seat) AppendGet(to, key []byte) (with []byte, found bool, err error) {
+	status, err := seat.looked(key)
+	if err != nil || status != C.BWTREE_OK {
+		return to, false, err
+	}
+	return append(to, written(&seat.old)...), true, nil
+}
+
+// Contains says whether a key has a value. It allocates nothing. It returns what Get does.
 func (seat *Seat) Contains(key []byte) (bool, error) {
-	k := some(key)
-	status, err := seat.done(C.bwtree_get(seat.handle(), C.uint32_t(seat.number), unsafe.Pointer(&k[0]), C.size_t(len(key)), &seat.old))
+	status, err := seat.looked(key)
 	return err == nil && status == C.BWTREE_OK, err
 }
 
-// Insert gives a key a value where it has none, and says whether it did; else found is the value that the key has. As each write it answers ErrFull,
-// ErrTooLong or ErrClosed.
+// Insert gives a key a value where it has none, and says whether it did; else found is the value that the key has. It returns ErrFull, ErrTooLong, ErrClosed or
+// ErrBusy.
 func (seat *Seat) Insert(key, value []byte) (inserted bool, found []byte, err error) {
+	if err := seat.pass(key, nil, value); err != nil {
+		return false, nil, err
+	}
 	var status C.uint32_t
-	k, v := some(key), some(value)
 	for wait := (wait{}); wait.again(seat, err); {
-		status, err = seat.counted(C.bwtree_insert(seat.handle(), C.uint32_t(seat.number), unsafe.Pointer(&k[0]), C.size_t(len(key)),
-			unsafe.Pointer(&v[0]), C.size_t(len(value)), &seat.old), 1)
+		status, err = seat.counted(C.insert(seat.handle(), C.uint32_t(seat.number), &seat.key, &seat.value, &seat.old), 1)
 	}
 	found, _, err = seat.shown(status, err, C.BWTREE_EXISTS)
 	return err == nil && status == C.BWTREE_OK, found, err
 }
 
-// Upsert gives a key a value. It answers the value that the key had before, and whether it had one.
+// Upsert gives a key a value: the value that the key had before, and whether it had one. It returns ErrFull, ErrTooLong, ErrClosed or ErrBusy.
 func (seat *Seat) Upsert(key, value []byte) (old []byte, found bool, err error) {
+	if err := seat.pass(key, nil, value); err != nil {
+		return nil, false, err
+	}
 	var status C.uint32_t
-	k, v := some(key), some(value)
 	for wait := (wait{}); wait.again(seat, err); {
-		status, err = seat.counted(C.bwtree_upsert(seat.handle(), C.uint32_t(seat.number), unsafe.Pointer(&k[0]), C.size_t(len(key)),
-			unsafe.Pointer(&v[0]), C.size_t(len(value)), &seat.old), 1)
+		status, err = seat.counted(C.upsert(seat.handle(), C.uint32_t(seat.number), &seat.key, &seat.value, &seat.old), 1)
 	}
 	return seat.shown(status, err, C.BWTREE_REPLACED)
 }
 
-// Delete makes a key absent. It answers the value that the key had, and whether it had one.
+// Delete makes a key absent: the value that the key had, and whether it had one. It returns ErrFull, ErrTooLong, ErrClosed or ErrBusy.
 func (seat *Seat) Delete(key []byte) (old []byte, found bool, err error) {
+	if err := seat.pass(key, nil, nil); err != nil {
+		return nil, false, err
+	}
 	var status C.uint32_t
-	k := some(key)
 	for wait := (wait{}); wait.again(seat, err); {
-		status, err = seat.counted(C.bwtree_delete(seat.handle(), C.uint32_t(seat.number), unsafe.Pointer(&k[0]), C.size_t(len(key)), &seat.old), -1)
+		status, err = seat.counted(C.delete(seat.handle(), C.uint32_t(seat.number), &seat.key, &seat.old), -1)
 	}
 	return seat.shown(status, err, C.BWTREE_OK)
 }
 
 // CompareAndSwap gives a key the value where it has the expected one, and says whether it had; else found is the value that the key has, nil where it has
-// none.
+// none. It returns ErrFull, ErrTooLong, ErrClosed or ErrBusy.
 func (seat *Seat) CompareAndSwap(key, expected, value []byte) (swapped bool, found []byte, err error) {
+	if err := seat.pass(key, expected, value); err != nil {
+		return false, nil, err
+	}
 	var status C.uint32_t
-	k, e, v := some(key), some(expected), some(value)
 	for wait := (wait{}); wait.again(seat, err); {
-		status, err = seat.done(C.bwtree_compare_and_set(seat.handle(), C.uint32_t(seat.number), unsafe.Pointer(&k[0]), C.size_t(len(key)),
-			unsafe.Pointer(&e[0]), C.size_t(len(expected)), unsafe.Pointer(&v[0]), C.size_t(len(value)), &seat.old))
+		status, err = seat.done(C.compare_and_set(seat.handle(), C.uint32_t(seat.number), &seat.key, &seat.expected, &seat.value, &seat.old))
 	}
 	return seat.compared(status, err)
 }
 
-// Tidy does what upkeep is due at the leaf of a key; no value changes.
+// Tidy does what upkeep is due at the leaf of a key; no value changes. It returns ErrFull, ErrTooLong, ErrClosed or ErrBusy.
 func (seat *Seat) Tidy(key []byte) (err error) {
-	k := some(key)
+	if err := seat.pass(key, nil, nil); err != nil {
+		return err
+	}
 	for wait := (wait{}); wait.again(seat, err); {
-		_, err = seat.done(C.bwtree_tidy(seat.handle(), C.uint32_t(seat.number), unsafe.Pointer(&k[0]), C.size_t(len(key))))
+		_, err = seat.done(C.tidy(seat.handle(), C.uint32_t(seat.number), &seat.key))
 	}
 	return err
 }
 
-// Room says how many pages and records are free. It answers ErrClosed where the tree is closed.
+// Room says how many pages and records are free. It returns ErrClosed or ErrBusy.
 func (seat *Seat) Room() (Room, error) {
 	var room C.bwtree_room
 	err := settled(C.bwtree_free_room(seat.handle(), C.uint32_t(seat.number), &room))

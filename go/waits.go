@@ -8,7 +8,7 @@ import (
 	"time"
 )
 
-// FullHint says what may become of a write that answered ErrFull. It is a hint, made from what is free a moment later: nothing is proved of it, and other
+// FullHint says what may become of a write that returned ErrFull. It is a hint, made from what is free a moment later: nothing is proved of it, and other
 // calls change it.
 type FullHint uint32
 
@@ -22,7 +22,7 @@ const (
 	FullForGood FullHint = C.BWTREE_FULL_FOR_GOOD
 )
 
-// FullHint says what may become of a write that answered ErrFull. It answers ErrClosed where the tree is closed.
+// FullHint says what may become of a write that returned ErrFull. It returns ErrClosed or ErrBusy.
 func (seat *Seat) FullHint() (FullHint, error) {
 	var hint C.uint32_t
 	if seat.tree == nil {
@@ -34,7 +34,7 @@ func (seat *Seat) FullHint() (FullHint, error) {
 	return FullHint(hint), err
 }
 
-// SetPatience sets how long a write waits while the tree is full, before it answers ErrFull. A seat that was leased doesn't wait.
+// SetPatience sets how long a write waits while the tree is full, before it returns ErrFull. A seat that was leased doesn't wait.
 func (seat *Seat) SetPatience(most time.Duration) {
 	seat.patience = most
 }

@@ -72,20 +72,6 @@ func TestReleased(t *testing.T) {
 	}
 }
 
-// A lookup allocates the value, and cgo a word for each slice that it is passed.
-func TestAllocations(t *testing.T) {
-	seat := opened(t, 1, 100).Seat()
-	key := []byte("Bern")
-	if _, _, err := seat.Upsert(key, key); err != nil {
-		t.Fatal(err)
-	}
-	gets := testing.AllocsPerRun(100, func() { _, _, _ = seat.Get(key) })
-	contains := testing.AllocsPerRun(100, func() { _, _ = seat.Contains(key) })
-	if gets > 2 || contains > 1 {
-		t.Fatal(gets, contains)
-	}
-}
-
 func Example() {
 	limits, err := LimitsForKeys(2, 100)
 	if err != nil {

@@ -1,12 +1,18 @@
 package bwtree
 
 // #include "bwtree.h"
+//
+// static uint32_t page(const bwtree *tree, uint32_t seat, const bwtree_bytes *from, bwtree_page_pairs *page) {
+//     return bwtree_page(tree, seat, from->bytes, from->length, page);
+// }
+// static uint32_t back(const bwtree *tree, uint32_t seat, const bwtree_bytes *upto, bwtree_page_pairs *page) {
+//     return bwtree_back(tree, seat, upto->bytes, upto->length, page);
+// }
 import "C"
 
 import (
 	"bytes"
 	"runtime"
-	"unsafe"
 )
 
 // filled is the page that calls fill, made with the first one.
@@ -34,7 +40,7 @@ func (seat *Seat) turned(status C.uint32_t) (pairs []Pair, next []byte, more boo
 	all := make([]byte, 0, size)
 	behind := func(bytes *C.bwtree_bytes) []byte {
 		at := len(all)
-		all = append(all, (*[MaxLength]byte)(unsafe.Pointer(&bytes.bytes[0]))[:bytes.length]...)
+		all = append(all, written(bytes)...)
 		return all[at:len(all):len(all)]
 	}
 	pairs = make([]Pair, page.count)
@@ -48,19 +54,21 @@ func (seat *Seat) turned(status C.uint32_t) (pairs []Pair, next []byte, more boo
 }
 
 // Page is the pairs of one leaf from a key on, keys ascending, and where the next page begins, if there is more. A page may be empty and have more after it.
-// It answers ErrTooLong, or ErrClosed.
+// It returns ErrTooLong, ErrClosed or ErrBusy.
 func (seat *Seat) Page(from []byte) (pairs []Pair, next []byte, more bool, err error) {
-	k := some(from)
-	page := seat.filled()
-	return seat.turned(C.bwtree_page(seat.handle(), C.uint32_t(seat.number), unsafe.Pointer(&k[0]), C.size_t(len(from)), page))
+	if err := seat.pass(from, nil, nil); err != nil {
+		return nil, nil, false, err
+	}
+	return seat.turned(C.page(seat.handle(), C.uint32_t(seat.number), &seat.key, seat.filled()))
 }
 
 // Back is the pairs of the leaf that has a key, up to that key, keys ascending, and the key at which the next page backward goes on, if there is more. It
-// answers what Page does.
+// returns what Page does.
 func (seat *Seat) Back(upto []byte) (pairs []Pair, next []byte, more bool, err error) {
-	k := some(upto)
-	page := seat.filled()
-	return seat.turned(C.bwtree_back(seat.handle(), C.uint32_t(seat.number), unsafe.Pointer(&k[0]), C.size_t(len(upto)), page))
+	if err := seat.pass(upto, nil, nil); err != nil {
+		return nil, nil, false, err
+	}
+	return seat.turned(C.back(seat.handle(), C.uint32_t(seat.number), &seat.key, seat.filled()))
 }
 
 // A Range is the keys of a walk: from one on, and below another one. Below is nil where there is no bound.
@@ -76,12 +84,13 @@ func Prefix(prefix []byte) Range {
 // greatest is the greatest key.
 var greatest = bytes.Repeat([]byte{255}, MaxLength)
 
-// Walk calls each for the pairs from a key on, keys ascending, until it answers false. What is there throughout is shown, and what never is there isn't.
+// Walk calls each for the pairs from a key on, keys ascending, until it returns false. What is there throughout is shown, and what never is there isn't. It
+// returns ErrTooLong, ErrClosed or ErrBusy: the pairs before were shown.
 func (seat *Seat) Walk(from []byte, each func(key, value []byte) bool) error {
 	return seat.WalkRange(Range{From: from}, each)
 }
 
-// WalkRange is Walk for the keys of a range. Where a bound has more than 64 bytes it answers ErrTooLong.
+// WalkRange is Walk for the keys of a range. It returns ErrTooLong where a bound has more than 64 bytes, and else what Walk does.
 func (seat *Seat) WalkRange(keys Range, each func(key, value []byte) bool) error {
 	if len(keys.Below) > MaxLength {
 		return ErrTooLong
@@ -102,7 +111,7 @@ func (seat *Seat) WalkRange(keys Range, each func(key, value []byte) bool) error
 	return nil
 }
 
-// WalkBack is WalkRange from the greatest key of a range down.
+// WalkBack is WalkRange from the greatest key of a range down. It returns what WalkRange does.
 func (seat *Seat) WalkBack(keys Range, each func(key, value []byte) bool) error {
 	if len(keys.From) > MaxLength || len(keys.Below) > MaxLength {
 		return ErrTooLong
@@ -159,7 +168,7 @@ func nearest(page func([]byte) ([]Pair, []byte, bool, error), at []byte, isBack 
 }
 
 // First is the pair of the least key, and whether there is one. As with the functions below, the answer is atomic if the first page that is read has a pair;
-// otherwise it is a walk's.
+// otherwise it is a walk's. Each returns ErrTooLong, ErrClosed or ErrBusy.
 func (seat *Seat) First() (Pair, bool, error) {
 	return nearest(seat.Page, nil, false)
 }
