@@ -11,8 +11,10 @@
  *     // thread i of 4: bwtree_upsert(&tree, i, key, key_length, value, value_length, &old)
  *     bwtree_close(&tree);
  *
- * Where several statuses fit, the first of these is the answer: NULL, TOO_LONG, CLOSED of a handle that was never opened, NO_SEAT, CLOSED or BUSY, UNFINISHED
- * or IDLE. C99 or C++ is needed, and a processor of the level x86-64-v2.
+ * Each function names the statuses that it returns, but for NULL, which each returns where a pointer is null: that of a text may be, if its length is 0.
+ * Behind a semicolon are those of which nothing was done and nothing written, and SPENT. Where several fit, the first of these is returned: of a call on a seat
+ * NULL, TOO_LONG, CLOSED of a handle that was never opened, NO_SEAT, CLOSED or BUSY, UNFINISHED or IDLE; of an opening NULL, BAD_VERSION, BAD_LIMITS, OPEN,
+ * TOO_LONG or NO_MEMORY, BAD_ORDER. C99 or C++ is needed, and a processor of the level x86-64-v2.
  *
  * Every misuse of a tree that was opened is answered with a status, also where threads race: a tree that is closed, or closes while calls run, a
  * seat that it doesn't have, a seat that another call is inside, a seat whose last operation isn't done, 65 bytes, too little room, null with a length.
@@ -175,13 +177,14 @@ BWTREE_PRIVATE_ const void *bwtree_slice_(const void *bytes) {
     return bytes ? bytes : "";
 }
 
-/* Limits for a tree with so many seats and so many different keys, all counted that it ever has. OK, BAD_LIMITS. */
+/* Limits for a tree with so many seats and so many different keys, all counted that it ever has. OK with `limits`; BAD_LIMITS, of 0 or more than 16 seats, and
+ * of more than 12,199 keys. */
 BWTREE_INLINE uint32_t bwtree_limits_for_keys(uint64_t actors, uint64_t keys, bwtree_limits *limits) {
     if (!limits) return BWTREE_NULL;
     return bwtree_raw_limits_for_keys(actors, keys, limits);
 }
 
-/* The same for a large tree: up to 27 million keys, in some 1,900 bytes each. OK, BAD_LIMITS. */
+/* Limits for a large tree: up to 27 million keys, in some 1,900 bytes each. OK with `limits`; BAD_LIMITS, of 0 or more than 63 seats, and of too many keys. */
 BWTREE_INLINE uint32_t bwtree_limits_for_many_keys(uint64_t actors, uint64_t keys, bwtree_limits *limits) {
     if (!limits) return BWTREE_NULL;
     return bwtree_raw_limits_for_many_keys(actors, keys, limits);

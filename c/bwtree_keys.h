@@ -23,6 +23,8 @@
 extern "C" {
 #endif
 
+/* No function here tests a pointer; that of a text may be null, if its length is 0. */
+
 /* ---- Parts are put behind what the key has. OK, or TOO_LONG: the key is as it was. ---- */
 
 /* Puts bytes behind a key as they are, such as an end that needs no order. */
@@ -33,16 +35,19 @@ BWTREE_PRIVATE_ uint32_t bwtree_key_bytes(bwtree_bytes *key, const void *bytes, 
     return BWTREE_OK;
 }
 
+/* Puts a number behind a key. */
 BWTREE_PRIVATE_ uint32_t bwtree_key_u64(bwtree_bytes *key, uint64_t number) {
     uint8_t bytes[8];
     for (int i = 0; i < 8; i++) bytes[i] = (uint8_t)(number >> (56 - 8 * i));
     return bwtree_key_bytes(key, bytes, 8);
 }
 
+/* Puts a signed number behind a key. */
 BWTREE_PRIVATE_ uint32_t bwtree_key_i64(bwtree_bytes *key, int64_t number) {
     return bwtree_key_u64(key, (uint64_t)number ^ (uint64_t)1 << 63);
 }
 
+/* Puts a float behind a key. */
 BWTREE_PRIVATE_ uint32_t bwtree_key_f64(bwtree_bytes *key, double number) {
     uint64_t bits;
     memcpy(&bits, &number, 8);
@@ -59,6 +64,7 @@ BWTREE_PRIVATE_ uint32_t bwtree_key_text_start(bwtree_bytes *key, const void *te
     return BWTREE_OK;
 }
 
+/* Puts a text behind a key. */
 BWTREE_PRIVATE_ uint32_t bwtree_key_text(bwtree_bytes *key, const void *text, size_t length) {
     bwtree_bytes longer = *key;
     if (bwtree_key_text_start(&longer, text, length) || bwtree_key_bytes(&longer, "\0", 2)) return BWTREE_TOO_LONG;
@@ -69,6 +75,7 @@ BWTREE_PRIVATE_ uint32_t bwtree_key_text(bwtree_bytes *key, const void *text, si
 /* ---- Parts are read in the order in which they were put, from the place `at` on, which is set behind them. 1, or 0 where there is no such part: nothing
  * is written then. Also a value that bwtree_add made is read by bwtree_read_u64, from 0 on. ---- */
 
+/* Reads a number. */
 BWTREE_PRIVATE_ int bwtree_read_u64(const bwtree_bytes *key, size_t *at, uint64_t *number) {
     uint64_t read = 0;
     if (*at > key->length || key->length - *at < 8) return 0;
@@ -78,6 +85,7 @@ BWTREE_PRIVATE_ int bwtree_read_u64(const bwtree_bytes *key, size_t *at, uint64_
     return 1;
 }
 
+/* Reads a signed number. */
 BWTREE_PRIVATE_ int bwtree_read_i64(const bwtree_bytes *key, size_t *at, int64_t *number) {
     uint64_t read;
     if (!bwtree_read_u64(key, at, &read)) return 0;
@@ -86,6 +94,7 @@ BWTREE_PRIVATE_ int bwtree_read_i64(const bwtree_bytes *key, size_t *at, int64_t
     return 1;
 }
 
+/* Reads a float. */
 BWTREE_PRIVATE_ int bwtree_read_f64(const bwtree_bytes *key, size_t *at, double *number) {
     uint64_t read;
     if (!bwtree_read_u64(key, at, &read)) return 0;
@@ -94,6 +103,7 @@ BWTREE_PRIVATE_ int bwtree_read_f64(const bwtree_bytes *key, size_t *at, double 
     return 1;
 }
 
+/* Reads a text. */
 BWTREE_PRIVATE_ int bwtree_read_text(const bwtree_bytes *key, size_t *at, bwtree_bytes *text) {
     bwtree_bytes read = {0, {0}};
     for (size_t i = *at; i < key->length; i++) {

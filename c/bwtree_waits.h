@@ -23,11 +23,11 @@ typedef struct bwtree_wait {
     uint64_t pauses_;
 } bwtree_wait;
 
-/* Begins a wait of so many nanoseconds at most. */
+/* Begins a wait of so many nanoseconds at most. Of null it does nothing. */
 void bwtree_wait_begin(bwtree_wait *wait, uint64_t nanoseconds);
 
 /* Pauses before the next try: it gives the processor away some times, then sleeps, twice as long each time, from 50 microseconds to 5 milliseconds, and never
- * beyond the end of the wait. 1; at the end 0, without a pause. */
+ * beyond the end of the wait. 1; 0 at the end, and of null, without a pause. */
 int bwtree_wait_again(bwtree_wait *wait);
 
 /* What may become of a write that is FULL. It is a hint, made from what is free a moment later: nothing is proved of it, and other calls change it. */
@@ -46,7 +46,7 @@ BWTREE_PRIVATE_ uint32_t bwtree_hint_of_room(const bwtree_limits *limits, const 
     return room->free_pages && limits->records >= enough ? BWTREE_FULL_FOR_NOW : BWTREE_FULL_FOR_GOOD;
 }
 
-/* The hint for a tree with these limits, by bwtree_free_room on a seat. OK with `hint`; CLOSED, NO_SEAT, BUSY. */
+/* The hint for a tree with these limits, by bwtree_free_room on a seat. OK with `hint`; CLOSED, NO_SEAT, BUSY, NULL: nothing is written. */
 BWTREE_PRIVATE_ uint32_t bwtree_full_hint(const bwtree *tree, uint32_t seat, const bwtree_limits *limits, uint32_t *hint) {
     bwtree_room room;
     uint32_t status;

@@ -4,7 +4,9 @@
  * Each page is atomic. A walk is no snapshot: it proceeds page by page, returns each key that is there throughout and none that never is, in order. The
  * neighbour of a key is atomic if the first page that is read has a pair; if that page is empty, further pages are read, and the answer is a walk's.
  *
- * These functions resume a call that is SPENT until it is done. Each returns the first status of a call that is none of those named here.
+ * These functions resume a call that is SPENT until it is done. Each names the statuses that it returns, but for NULL, which each returns where a pointer is
+ * null that may not be. Behind a semicolon are those from which on nothing was written: CLOSED, NO_SEAT, BUSY, UNFINISHED and TOO_LONG have the meaning that
+ * they have in bwtree.h.
  */
 #ifndef BWTREE_WALKS_H
 #define BWTREE_WALKS_H
@@ -30,6 +32,7 @@ BWTREE_PRIVATE_ uint32_t bwtree_paged_(const bwtree *tree, uint32_t seat, const 
     return status;
 }
 
+/* The order of two keys: less than, equal to or greater than 0, as of memcmp. It tests no pointer. */
 BWTREE_PRIVATE_ int bwtree_compare_keys(const bwtree_bytes *one, const bwtree_bytes *other) {
     size_t common = (size_t)(one->length < other->length ? one->length : other->length);
     int order = memcmp(one->bytes, other->bytes, common);
@@ -45,7 +48,7 @@ typedef struct bwtree_range {
     uint64_t bounded;
 } bwtree_range;
 
-/* The keys from one on, and below another one. Null is no bound. OK, TOO_LONG. */
+/* The keys from one on, and below another one. Null is no bound. OK with `range`; TOO_LONG. */
 BWTREE_PRIVATE_ uint32_t bwtree_between(const void *from, size_t from_length, const void *below, size_t below_length, bwtree_range *range) {
     bwtree_range set = {{0, {0}}, {0, {0}}, below != NULL};
     if (!range || (!from && from_length) || (!below && below_length)) return BWTREE_NULL;
@@ -54,7 +57,7 @@ BWTREE_PRIVATE_ uint32_t bwtree_between(const void *from, size_t from_length, co
     return BWTREE_OK;
 }
 
-/* The keys that begin with some bytes. OK, TOO_LONG. */
+/* The keys that begin with some bytes. OK with `range`; TOO_LONG. */
 BWTREE_PRIVATE_ uint32_t bwtree_prefix(const void *prefix, size_t length, bwtree_range *range) {
     uint32_t status = bwtree_between(prefix, length, NULL, 0, range);
     if (status != BWTREE_OK) return status;
@@ -73,7 +76,7 @@ typedef struct bwtree_walk {
     int backward_;
 } bwtree_walk;
 
-/* Begins a walk over a range; backward, where that is 1: from its greatest key down. No call is made. OK. */
+/* Begins a walk over a range; backward, where that is 1: from its greatest key down. No call is made. OK with `walk`. */
 BWTREE_PRIVATE_ uint32_t bwtree_walk_begin(bwtree_walk *walk, const bwtree_range *range, int backward) {
     if (!walk || !range) return BWTREE_NULL;
     walk->range_ = *range;
@@ -90,7 +93,7 @@ BWTREE_PRIVATE_ uint32_t bwtree_walk_begin(bwtree_walk *walk, const bwtree_range
     return BWTREE_OK;
 }
 
-/* The next pair of a walk. OK with `pair`; ABSENT at the end; what bwtree_page, or backward bwtree_back, answers else: the walk may go on then. */
+/* The next pair of a walk. OK with `pair`, ABSENT at the end; CLOSED, NO_SEAT, BUSY, UNFINISHED: the walk stays where it was, and may go on. */
 BWTREE_PRIVATE_ uint32_t bwtree_walk_next(const bwtree *tree, uint32_t seat, bwtree_walk *walk, bwtree_pair *pair) {
     const bwtree_pair *next;
     if (!walk || !pair) return BWTREE_NULL;
@@ -112,7 +115,7 @@ BWTREE_PRIVATE_ uint32_t bwtree_walk_next(const bwtree *tree, uint32_t seat, bwt
     return BWTREE_OK;
 }
 
-/* ---- Neighbours: OK with `pair`; ABSENT where there is none; else what bwtree_page or bwtree_back answers ---- */
+/* ---- Neighbours: OK with `pair`, ABSENT where there is none; CLOSED, NO_SEAT, BUSY, UNFINISHED, TOO_LONG ---- */
 
 /* The pair of the least key from one on, or, backward, of the greatest key up to one. */
 BWTREE_PRIVATE_ uint32_t bwtree_nearest_(const bwtree *tree, uint32_t seat, const bwtree_bytes *key, int backward, bwtree_pair *pair) {
@@ -181,7 +184,7 @@ BWTREE_PRIVATE_ uint32_t bwtree_last(const bwtree *tree, uint32_t seat, bwtree_p
 /* ---- Several calls ---- */
 
 /* Gives a key a value where it has one: by bwtree_get, and then bwtree_compare_and_set until one succeeds. It takes effect atomically, in its last call.
- * TOO_LONG of the value, before any call; REPLACED with `old`, ABSENT; else what these two answer. */
+ * REPLACED with `old`, ABSENT, FULL: no key was changed; CLOSED, NO_SEAT, BUSY, UNFINISHED, TOO_LONG. */
 BWTREE_PRIVATE_ uint32_t bwtree_replace(const bwtree *tree, uint32_t seat, const void *key, size_t key_length, const void *value, size_t value_length,
                                       bwtree_bytes *old) {
     bwtree_bytes expected, found;
@@ -201,8 +204,8 @@ BWTREE_PRIVATE_ uint32_t bwtree_replace(const bwtree *tree, uint32_t seat, const
 }
 
 /* Copies all pairs of a tree by a walk, keys ascending, `count` of them. Where a thread was ended inside a call, its seat is BUSY for good and the tree can't
- * be closed: this moves its pairs to a new tree (bwtree_open_from), by another seat; the old one's memory stays. OK; NO_ROOM: `count`, and as many pairs as
- * there is room for; else what bwtree_page answers. */
+ * be closed: this moves its pairs to a new tree (bwtree_open_from), by another seat; the old one's memory stays. OK with
+ * `pairs` and `count`, NO_ROOM with `count`, and with as many pairs as there is room for; CLOSED, NO_SEAT, BUSY, UNFINISHED: `pairs` may be written. */
 BWTREE_PRIVATE_ uint32_t bwtree_copy_pairs(const bwtree *tree, uint32_t seat, bwtree_pair *pairs, size_t room, uint64_t *count) {
     bwtree_page_pairs page;
     uint64_t copied = 0;
@@ -219,7 +222,8 @@ BWTREE_PRIVATE_ uint32_t bwtree_copy_pairs(const bwtree *tree, uint32_t seat, bw
 }
 
 /* A count of a tree's keys, which its seats keep, each in a cache line of its own. All bytes zero: 0, as for an empty tree. The thread that uses a seat passes
- * the status of each finished operation. The sum is exact when no operation is under way; otherwise it may lack some that are. */
+ * the status of each finished operation. The sum is exact when no operation is under way; otherwise it may lack some that are. These functions test no
+ * pointer. */
 typedef struct bwtree_count {
     struct {
         int64_t keys;

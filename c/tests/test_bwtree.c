@@ -151,6 +151,12 @@ static void answers(void) {
     CHECK(bwtree_raw_vacate(&tree) == BWTREE_OPEN && !memcmp(&tree, &was, sizeof tree));
     all_answer(&tree, 2, BWTREE_NO_SEAT);
     all_answer(&tree, UINT32_MAX, BWTREE_NO_SEAT);
+    {   /* of an opening several fit: BAD_LIMITS is before OPEN, and OPEN before what is wrong with the pairs */
+        bwtree_limits wrong = {2, 63, 256, 1, 0};
+        bwtree_pair longer = {{65, {0}}, {0, {0}}};
+        CHECK(bwtree_open(&wrong, &tree) == BWTREE_BAD_LIMITS && bwtree_open_from(&wrong, &longer, 1, &tree) == BWTREE_BAD_LIMITS);
+        CHECK(bwtree_open_from(&limits, &longer, 1, &tree) == BWTREE_OPEN && !memcmp(&tree, &was, sizeof tree));
+    }
     CHECK(bwtree_is_idle(&tree, 1) == BWTREE_OK && bwtree_free_room(&tree, 0, &before) == BWTREE_OK);
     CHECK(before.free_pages > 0 && before.free_pages < limits.pages && before.free_records > 0 && before.free_records < limits.records);
     CHECK(bwtree_get(&tree, 0, "a", 1, &old) == BWTREE_ABSENT);
