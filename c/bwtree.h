@@ -318,7 +318,8 @@ BWTREE_INLINE uint32_t bwtree_free_room(const bwtree *tree, uint32_t seat, bwtre
     return bwtree_raw_room(tree, seat, room);
 }
 
-/* Walks in both directions, the neighbours of a key, and counts: bwtree_walks.h. Keys of numbers and texts in their order: bwtree_keys.h. */
+/* Walks in both directions, the neighbours of a key, and counts: bwtree_walks.h. Keys of numbers and texts in their order: bwtree_keys.h. Seats that threads
+ * lease: bwtree_seats.h. Writes that wait while they are FULL: bwtree_waits.h. */
 
 /* What a status means. */
 BWTREE_INLINE const char *bwtree_text(uint32_t status) {
