@@ -1,7 +1,7 @@
 """What a seat of a tree does with pages: it is a mapping that is walked in both directions, and has the neighbours of a key."""
 
 import abc
-from collections.abc import ItemsView, Iterator, Mapping, MutableMapping, ValuesView
+from collections.abc import ItemsView, Iterator, KeysView, Mapping, MutableMapping, ValuesView
 from typing import Optional, TypeVar
 
 import bwtree_keys
@@ -109,11 +109,25 @@ class Walks(MutableMapping[bytes, bytes]):
         self.update(other)
         return self
 
+    def keys(self) -> "Keys":
+        return Keys(self)
+
     def items(self) -> "Items":
         return Items(self)
 
     def values(self) -> "Values":
         return Values(self)
+
+
+class Keys(KeysView[bytes]):
+    """Keys as a walk shows them."""
+
+    def __init__(self, walked: Walks):
+        super().__init__(walked)
+        self._walked = walked
+
+    def __reversed__(self) -> Iterator[bytes]:
+        return reversed(self._walked)
 
 
 class Items(ItemsView[bytes, bytes]):

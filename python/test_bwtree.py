@@ -101,6 +101,8 @@ class Calls(unittest.TestCase):
             self.assertTrue(seat)
             self.assertEqual((seat | {b"a": b"z"}, {b"a": b"z"} | seat), ({b"a": b"z", b"b": b"y"}, {b"a": b"x", b"b": b"y"}))
             self.assertEqual((list(reversed(seat)), list(reversed(seat.values()))), ([b"b", b"a"], [b"y", b"x"]))
+            keys = seat.keys()
+            self.assertEqual((list(keys), list(reversed(keys)), b"a" in keys, keys & {b"a", b"c"}), ([b"a", b"b"], [b"b", b"a"], True, {b"a"}))
             with self.assertRaises(TypeError):
                 seat | 5  # type: ignore[operator]
             self.assertEqual(repr(seat), "<bwtree.Seat 0 of <bwtree.Tree: 2 keys, 0 of 1 seats free>>")

@@ -194,6 +194,14 @@ static void answers(void) {
     tree = earlier;
     limits.actors = 3;
     CHECK(bwtree_open(&limits, &tree) == BWTREE_OK && bwtree_get(&tree, 2, "a", 1, &old) == BWTREE_ABSENT && bwtree_close(&tree) == BWTREE_OK);
+    {   /* of a call several fit: NULL, TOO_LONG, CLOSED of a handle that was never opened, NO_SEAT, CLOSED */
+        static bwtree never;
+        static const char longer[65];
+        CHECK(bwtree_get(&never, 9, NULL, 65, &old) == BWTREE_NULL && bwtree_get(&never, 9, longer, 65, &old) == BWTREE_TOO_LONG);
+        CHECK(bwtree_get(&never, 9, "a", 1, &old) == BWTREE_CLOSED && bwtree_get(&tree, 9, longer, 65, &old) == BWTREE_TOO_LONG);
+        CHECK(bwtree_get(&tree, 9, "a", 1, &old) == BWTREE_NO_SEAT && bwtree_get(&tree, 0, "a", 1, &old) == BWTREE_CLOSED);
+        CHECK(bwtree_resume(&tree, 9, 1, &old, &page) == BWTREE_NO_SEAT && bwtree_resume(&tree, 0, 1, &old, &page) == BWTREE_CLOSED);
+    }
     CHECK(earlier.held_ == was.held_);
     for (uint32_t status = 0; status <= BWTREE_BAD_VERSION; status++)
         CHECK(!strcmp(bwtree_text(status), "no status") == (status > BWTREE_NO_ROOM && status < BWTREE_CLOSED));

@@ -103,10 +103,28 @@ impl Seat<'_> {
     ///
     /// [`Error::TooLong`] of a key of more than 64 bytes.
     pub fn get(&mut self, key: &[u8]) -> Result<Option<Vec<u8>>> {
+        self.get_with(key, <[u8]>::to_vec)
+    }
+
+    /// What a function makes of the value of a key: it borrows the value, and no memory is allocated for it.
+    ///
+    /// ```
+    /// let tree = bwtree::Tree::for_keys(1, 100)?;
+    /// let mut seat = tree.seat().expect("one is free");
+    /// seat.upsert(b"Bern", b"Switzerland")?;
+    /// assert_eq!(seat.get_with(b"Bern", |value| value.len())?, Some(11));
+    /// assert_eq!(seat.get_with(b"Oslo", |value| value.len())?, None);
+    /// # Ok::<(), bwtree::Error>(())
+    /// ```
+    ///
+    /// # Errors
+    ///
+    /// [`Error::TooLong`] of a key of more than 64 bytes.
+    pub fn get_with<R>(&mut self, key: &[u8], read: impl FnOnce(&[u8]) -> R) -> Result<Option<R>> {
         let mut value = RawBytes::EMPTY;
         // SAFETY: the slice and `value` live as long as the call.
         let status = unsafe { bwtree_raw_get(self.handle(), self.number, key.as_ptr(), key.len(), &mut value) };
-        Ok(shown(self.done(status, &mut value)?, &value, OK))
+        Ok((self.done(status, &mut value)? == OK).then(|| read(value.as_slice())))
     }
 
     /// Whether a key has a value.
@@ -123,10 +141,7 @@ impl Seat<'_> {
     ///
     /// [`Error::TooLong`] of a key of more than 64 bytes.
     pub fn contains_key(&mut self, key: &[u8]) -> Result<bool> {
-        let mut value = RawBytes::EMPTY;
-        // SAFETY: the slice and `value` live as long as the call.
-        let status = unsafe { bwtree_raw_get(self.handle(), self.number, key.as_ptr(), key.len(), &mut value) };
-        Ok(self.done(status, &mut value)? == OK)
+        Ok(self.get_with(key, |_| ())?.is_some())
     }
 
     /// Gives a key a value where it has none: the value that it has, if it has one.
