@@ -7,7 +7,10 @@
 #include <map>
 #include <random>
 #include <thread>
-#if __cplusplus >= 202002L
+
+// clang reads the ranges of GCC's library from 16 on.
+#if __cplusplus >= 202002L && !(defined(__clang__) && __clang_major__ < 16)
+#define HAS_RANGES 1
 #include <concepts>
 #include <ranges>
 #endif
@@ -52,7 +55,7 @@ static pairs shown(bw::seat &seat, const bw::range &range, bool back) {
     return found;
 }
 
-#if __cplusplus >= 202002L
+#ifdef HAS_RANGES
 static_assert(std::ranges::input_range<class bw::pairs> && std::movable<class bw::pairs>);
 
 // Pairs are a range of C++20, which adaptors take.
