@@ -330,8 +330,7 @@ private:
 inline class pairs seat::pairs(const range &keys) { return bw::pairs(*this, keys, 0); }
 inline class pairs seat::pairs_back(const range &keys) { return bw::pairs(*this, keys, 1); }
 
-// An ordered map from byte strings to byte strings, which is moved and not copied. A tree that was moved from has no function but these: to be assigned, and to
-// go.
+// An ordered map from byte strings to byte strings, which is moved and not copied. Each function throws CLOSED, of a tree that was moved from.
 class tree {
 public:
     // An empty tree. Throws BAD_LIMITS, NO_MEMORY, BAD_VERSION; and std::bad_alloc.

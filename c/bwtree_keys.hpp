@@ -36,7 +36,7 @@ template <class... Parts> std::string key(const Parts &...parts) {
     return std::string(detail::text(made));
 }
 
-// A text without its end: the keys whose text begins with it begin with these bytes.
+// A text without its end: the keys whose text begins with it begin with these bytes. Throws error(BWTREE_TOO_LONG) where they are more than 64.
 inline std::string text_start(std::string_view text) {
     bwtree_bytes made = {0, {0}};
     detail::must(bwtree_key_text_start(&made, text.data(), text.size()));

@@ -24,16 +24,17 @@ _ALL = (1 << 64) - 1
 
 
 def u64(number: int) -> bytes:
-    """Raises OverflowError for a number that is negative or not below 2^64."""
+    """A number as a part. Raises OverflowError where it is negative or not below 2^64."""
     return number.to_bytes(8, "big")
 
 
 def i64(number: int) -> bytes:
-    """Raises OverflowError for a number that is not between -2^63 and 2^63 - 1."""
+    """A signed number as a part. Raises OverflowError where it is not between -2^63 and 2^63 - 1."""
     return u64(int.from_bytes(number.to_bytes(8, "big", signed=True), "big") ^ _TOP)
 
 
 def f64(number: float) -> bytes:
+    """A float as a part."""
     bits: int = struct.unpack(">Q", struct.pack(">d", number))[0]
     return u64(bits ^ (_ALL if bits & _TOP else _TOP))
 
@@ -44,6 +45,7 @@ def text_start(text: Union[str, bytes]) -> bytes:
 
 
 def text(text: Union[str, bytes]) -> bytes:
+    """A text as a part, with its end."""
     return text_start(text) + b"\0\0"
 
 
