@@ -110,12 +110,15 @@ class Walks(MutableMapping[bytes, bytes]):
         return self
 
     def keys(self) -> "Keys":
+        """The keys as a walk shows them, forward or, by reversed, backward."""
         return Keys(self)
 
     def items(self) -> "Items":
+        """The pairs as a walk shows them, forward or, by reversed, backward."""
         return Items(self)
 
     def values(self) -> "Values":
+        """The values as a walk shows them, forward or, by reversed, backward."""
         return Values(self)
 
 
