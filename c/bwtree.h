@@ -142,6 +142,8 @@ const char *bwtree_version(void);
 int bwtree_goes_with(const char *version);
 
 /* ---- The proved functions. They test no pointer: a slice is a pointer that isn't null, also where its length is 0, and its length in bytes.
+ * Proved of them: a call continues its seat from the last call on it, and a closing hands over what all calls that have returned have left
+ * (docs/PROVED.md, Calls from C).
  * Each answers what its namesake below answers, but BWTREE_NULL. The two that open answer OPEN also of a handle whose tree is closed: bwtree_raw_vacate makes
  * its bytes zero first (OK), and answers OPEN where the tree isn't closed or pairs wait, with the handle as it was. ---- */
 
@@ -215,7 +217,7 @@ BWTREE_INLINE uint32_t bwtree_open_from(const bwtree_limits *limits, const bwtre
     return status;
 }
 
-/* Closes a tree, and frees it; or frees the pairs that wait. OK; CLOSED, BUSY: the tree stays open. 104 bytes of an opened tree, and 24 for each seat, are
+/* Closes a tree, and frees it; or frees the pairs that wait. OK; CLOSED, BUSY: the tree stays open. 176 bytes of an opened tree, and 24 for each seat, are
  * never freed, so that a call that comes too late is answered CLOSED, whenever it comes. */
 BWTREE_INLINE uint32_t bwtree_close(const bwtree *tree) {
     if (!tree) return BWTREE_NULL;

@@ -1,8 +1,14 @@
-pub mod Coming
+pub mod Choosing
+pub mod Dealing
+pub mod Emptied
+pub mod Hands
 pub mod Keeping
 pub mod Later
+pub mod Looking
+pub mod Places
 pub mod Showing
 pub mod Taking
 pub mod Values
+pub mod Waits
 pub mod Yielded
 pub mod Unloading

@@ -1,14 +1,22 @@
 -- The seats that were taken out of slots, and what their tree leaves.
-use Rattle.std.proofs.Common.{◌≡◌, ◌≤◌, ◌+◌, ◌++◌, ◌∷◌, ◌∙◌, ℕ, zero, suc, List, [], None, Some, ap, arith, length, refl, subst, sym}
-use Rattle.std.specs.Prelude.{Err, IfSome, Ok, OnOk, Option, Result, slice_get}
+use Rattle.std.proofs.Common.{◌≡◌, ◌≤◌, ◌<◌, ◌+◌, ◌++◌, ◌∷◌, ◌∙◌, ℕ, zero, suc, List, [], None, Some, ap, arith, length, refl, subst, sym}
+use Rattle.std.specs.Prelude.{MatchOption, Option, slice_get}
+use Rattle.std.specs.Arc.{arc_value}
 use Rattle.std.proofs.lemmas.Option.{same_Some}
+use Rattle.atomic_table.specs.Seated.{TableId}
+use Rattle.call_log.specs.Steps.{CanEnd, HasClosed}
 use Rattle.tree_limits.specs.declared.limits.Limits.{Limits}
 use Rattle.running_tree.specs.Seats.{Seat, unfinished_command}
 use Rattle.running_tree.specs.Trees.{AreClosed, AreSeatsOf, IsSeatOf, Tree}
 use Rattle.seats.specs.Idle.{AreIdle}
 use Rattle.seats.proofs.Pushed.{all_pushed, one_longer}
-use Rattle.bw_tree_c.specs.Left.{ArePairsLeft, AreTakenOut, HaveGoneOn, HaveOneTree, OwnsFirst}
+use Rattle.bw_tree_c.specs.Hands.{Hand, HasBelow, HasLater, here_of}
+use Rattle.bw_tree_c.specs.Left.{ArePairsLeft, AreTaken, HaveOneTree, IsLeftAt}
 use Rattle.bw_tree_c.specs.Seats.{IsLater}
+use Rattle.bw_tree_c.specs.declared.ending.Out.{Out}
+use Rattle.bw_tree_c.specs.declared.left.LeftPairs.{LeftPairs}
+use Rattle.bw_tree_c.proofs.Emptied.{left_at}
+use Rattle.bw_tree_c.proofs.Hands.{is_last, pushed_at, some_case}
 
 pub one_tree : (tree : Tree) (limits : Limits) (seats : List Seat) → tree.limits ≡ limits → length seats ≡ tree.limits.actors → AreSeatsOf tree seats → HaveOneTree limits seats
 one_tree tree limits seats is count own = record {
@@ -17,88 +25,109 @@ one_tree tree limits seats is count own = record {
   all = subst (λ (l : Limits). l.actors ≤ length seats) is (omega (arith, count));
 }
 
-stays : (xs ys : List Seat) (n : ℕ) (x : Seat) → slice_get xs n ≡ Some x → slice_get (xs ++ ys) n ≡ Some x
-stays [] ys n x e = cc
-stays (y ∷ xs) ys zero x e = e
-stays (y ∷ xs) ys (suc n) x e = stays xs ys n x e
+some_there : (xs : List Seat) (n : ℕ) (x : Seat) → slice_get xs n ≡ Some x → 0 < length xs
+some_there [] n x e = cc
+some_there (y ∷ xs) n x e = omega arith
 
-is_last : (xs : List Seat) (x : Seat) → slice_get (xs ++ x ∷ []) (length xs) ≡ Some x
-is_last [] x = refl
-is_last (y ∷ xs) x = is_last xs x
-
--- what holds of the seats before, and of each that goes on from one of a slot, holds of all
-taken_all : (P : Seat → Type 0) (firsts old new : List Seat) → AreTakenOut firsts old new → ((n : ℕ) (seat : Seat) → slice_get old n ≡ Some seat → P seat)
-    → ((n : ℕ) (first : Seat) → slice_get firsts n ≡ Some first → (seat : Seat) → IsLater first seat → unfinished_command seat ≡ None → P seat)
-    → (n : ℕ) (seat : Seat) → slice_get new n ≡ Some seat → P seat
-taken_all P [] old new t before each n seat e = before n seat (subst (λ xs. slice_get xs n ≡ Some seat) t e)
-taken_all P (f ∷ fs) old new t before each n seat e =
-    all_pushed P t.0 t.1 (taken_all P fs old t.0 t.2 before (λ m g at. each (suc m) g at)) (each 0 f refl t.1 t.3 t.4) n seat
-    (subst (λ xs. slice_get xs n ≡ Some seat) t.5 e)
-
-gone_on : (firsts old new : List Seat) → AreTakenOut firsts old new → HaveGoneOn firsts new
-gone_on [] old new t n f e = cc
-gone_on (f ∷ fs) old new t zero g e =
-    (length t.0, t.1, subst (λ xs. slice_get xs (length t.0) ≡ Some t.1) (sym t.5) (is_last t.0 t.1), subst (λ h. IsLater h t.1) (same_Some f g e) t.3)
-gone_on (f ∷ fs) old new t (suc n) g e =
-    let it = gone_on fs old t.0 t.2 n g e in
-    (it.0, it.1, subst (λ xs. slice_get xs it.0 ≡ Some it.1) (sym t.5) (stays t.0 (t.1 ∷ []) it.0 it.1 it.2), it.3)
-
-pub how_many : (firsts old new : List Seat) → AreTakenOut firsts old new → length new ≡ length old + length firsts
-how_many [] old new t = let e = ap length t in omega (arith, e)
-how_many (f ∷ fs) old new t = let e = one_longer t.0 new t.1 t.5 in let h = how_many fs old t.0 t.2 in omega (arith, e, h)
-
--- the tree whose seat the first one is has the others, too
-own_one : (firsts : List Seat) (tree : Tree) (limits : Limits) → HaveOneTree limits firsts → OwnsFirst firsts tree → (n : ℕ) (seat : Seat) → slice_get firsts n ≡ Some seat → IsSeatOf tree seat
-own_one [] tree limits one first n seat at = absurd first
-own_one (f ∷ fs) tree limits one first n seat at =
-    record { table = one.alike 0 n f seat refl at ∙ first.table; limits = one.each n seat at ∙ sym (one.each 0 f refl) ∙ first.limits }
-
-limits_of : (firsts : List Seat) (tree : Tree) (limits : Limits) → HaveOneTree limits firsts → OwnsFirst firsts tree → tree.limits ≡ limits
-limits_of [] tree limits one first = absurd first
-limits_of (f ∷ fs) tree limits one first = sym first.limits ∙ one.each 0 f refl
-
-none : (P : Seat → Type 0) (n : ℕ) (seat : Seat) → slice_get [] n ≡ Some seat → P seat
-none P n seat e = cc
-
--- all seats of a handle were taken out
-module _ (limits : Limits) (firsts seats : List Seat) (tree : Tree) (one : HaveOneTree limits firsts) (taken : AreTakenOut firsts [] seats) (first : OwnsFirst firsts tree) where
-  pub limits_are : tree.limits ≡ limits
-  limits_are = limits_of firsts tree limits one first
-
-  pub own : AreSeatsOf tree seats
-  own = taken_all (IsSeatOf tree) firsts [] seats taken (none (IsSeatOf tree)) (λ n f at seat later rests.
-      let it = own_one firsts tree limits one first n f at in record { table = later.same.table ∙ it.table; limits = later.same.limits ∙ it.limits })
-
+-- the seats of the slots before one
+pub record AreHad (table : TableId) (opened : List Seat) (many : ℕ) (seats : List Seat) (o : Option Hand) : Type 0 where
+  pub long : length seats ≡ many
   pub idle : AreIdle seats
-  idle = taken_all (λ seat. unfinished_command seat ≡ None) firsts [] seats taken (none (λ seat. unfinished_command seat ≡ None)) (λ n f at seat later rests. rests)
+  pub later : (n : ℕ) (seat : Seat) → slice_get seats n ≡ Some seat → HasLater opened n seat
+  pub below : MatchOption o (many ≡ 0) (HasBelow table opened many)
+  pub here : here_of o ≡ seats
 
-  pub all : tree.limits.actors ≤ length seats
-  all = subst (λ (l : Limits). l.actors ≤ length seats) (sym limits_are) (let e = how_many firsts [] seats taken in omega (arith, e, one.all))
+module _ (table : TableId) (opened : List Seat) (many : ℕ) (seats : List Seat) where
+  none_had : many ≡ 0 → [] ≡ seats → AreHad table opened many seats None
+  none_had none is = subst (λ xs. AreHad table opened many xs None) is (record {
+    long = sym none;
+    idle = λ n seat e. cc;
+    later = λ n seat e. cc;
+    below = none;
+    here = refl;
+  })
 
-  pub are_left : (pairs : List (List ℕ × List ℕ)) → AreClosed tree.limits seats pairs → ArePairsLeft firsts pairs
-  are_left pairs closed = record {
-    limits = limits;
-    each = one.each;
-    seats = seats;
-    later = gone_on firsts [] seats taken;
-    idle = idle;
-    closed = subst (λ (l : Limits). AreClosed l seats pairs) limits_are closed;
+  some_had : (tree : Tree) (hand : Hand) → AreTaken table opened many tree seats hand → AreHad table opened many seats (Some hand)
+  some_had tree hand t = record {
+    long = ap length (sym t.here ∙ ap (λ m. m.0.here) t.all.has.me) ∙ t.all.count;
+    idle = t.idle;
+    later = t.later;
+    below = t.all;
+    here = t.here;
   }
 
--- one slot more
-pub taken_one : (slots others : List Seat) (slot : Seat) (old mid new : List Seat) (seat : Seat) → slots ≡ slot ∷ others → AreTakenOut others old mid → IsLater slot seat
-    → unfinished_command seat ≡ None → new ≡ mid ++ seat ∷ [] → AreTakenOut slots old new
-taken_one slots others slot old mid new seat is rest later rests more = subst (λ xs. AreTakenOut xs old new) (sym is) (mid, seat, rest, later, rests, more)
+  pub had : (found : Option Out) (o : Option Hand) → MatchOption found ((many ≡ 0) × (seats ≡ [])) (λ out. AreTaken table opened many (arc_value out.share) seats out.hand)
+      → MatchOption found (o ≡ None) (λ out. o ≡ Some out.hand) → AreHad table opened many seats o
+  had None o h is = subst (AreHad table opened many seats) (sym is) (none_had h.0 (sym h.1))
+  had (Some out) o h is = subst (AreHad table opened many seats) (sym is) (some_had (arc_value out.share) out.hand h)
 
-pub on_ok : {T E P : Type 0} (r : Result T E) → P → OnOk r P
-on_ok (Ok x) p = p
-on_ok (Err e) p = tt
+  pub long_of : (found : Option Out) → MatchOption found ((many ≡ 0) × (seats ≡ [])) (λ out. AreTaken table opened many (arc_value out.share) seats out.hand) → length seats ≡ many
+  long_of None h = ap length h.1 ∙ sym h.0
+  long_of (Some out) h = (some_had (arc_value out.share) out.hand h).long
 
-pub some_of : {X : Type 0} (P : X → Type 0) (o : Option X) (x : X) → o ≡ Some x → IfSome o P → P x
-some_of P o x is h = subst (λ q. IfSome q P) is h
+  pub taken_of : (found : Option Out) (out : Out) (tree : Tree) (hand : Hand) → found ≡ Some out → arc_value out.share ≡ tree → out.hand ≡ hand
+      → MatchOption found ((many ≡ 0) × (seats ≡ [])) (λ o. AreTaken table opened many (arc_value o.share) seats o.hand) → AreTaken table opened many tree seats hand
+  taken_of found out tree hand is same_tree same_hand h = subst (AreTaken table opened many tree seats) same_hand
+      (subst (λ t. AreTaken table opened many t seats out.hand) same_tree
+      (some_case ((many ≡ 0) × (seats ≡ [])) (λ (o : Out). AreTaken table opened many (arc_value o.share) seats o.hand) found out is h))
 
-pub from_none : (slots view start new : List Seat) → view ≡ slots → start ≡ [] → AreTakenOut view start new → AreTakenOut slots [] new
-from_none slots view start new is none t = subst (λ xs. AreTakenOut xs [] new) is (subst (λ ys. AreTakenOut view ys new) none t)
+  -- one slot more
+  pub taken_one : (o : Option Hand) → AreHad table opened many seats o → (count : ℕ) (tree : Tree) (new : List Seat) (seat : Seat) (hand all : Hand) → new ≡ seats ++ seat ∷ []
+      → HasLater opened many seat → IsSeatOf tree seat → unfinished_command seat ≡ None → hand.me.0.here ≡ seat ∷ [] → HasBelow table opened count all
+      → all.me.0.here ≡ here_of o ++ hand.me.0.here → AreTaken table opened count tree new all
+  taken_one o h count tree new seat hand all is later own rests one below here = subst (λ xs. AreTaken table opened count tree xs all) (sym is) (record {
+    all = below;
+    here = here ∙ (λ i. h.here i ++ one i);
+    idle = all_pushed (λ s. unfinished_command s ≡ None) seats seat h.idle rests;
+    later = pushed_at (HasLater opened) seats seat h.later (subst (λ n. HasLater opened n seat) (sym h.long) later);
+    own = (length seats, seat, is_last seats seat, own);
+  })
 
-pub first_of : (slots view : List Seat) (tree shared : Tree) → view ≡ slots → tree ≡ shared → OwnsFirst view shared → OwnsFirst slots tree
-first_of slots view tree shared is same first = subst (λ xs. OwnsFirst xs tree) is (subst (OwnsFirst view) (sym same) first)
+-- all seats of a handle were taken out
+module _ (limits : Limits) (table : TableId) (opened : List Seat) (count : ℕ) (tree : Tree) (seats : List Seat) (hand : Hand) (one : HaveOneTree limits opened)
+    (taken : AreTaken table opened count tree seats hand) (many : count ≡ length opened) where
+  first_limits : (n : ℕ) (seat : Seat) → slice_get seats n ≡ Some seat → seat.limits ≡ limits
+  first_limits n seat at = let it = taken.later n seat at in it.later.same.limits ∙ one.each n it.first it.at
+
+  pub limits_are : tree.limits ≡ limits
+  limits_are = let own = taken.own in sym own.3.limits ∙ first_limits own.0 own.1 own.2
+
+  pub own : AreSeatsOf tree seats
+  own n seat at =
+      let own = taken.own in let mine = taken.later own.0 own.1 own.2 in let it = taken.later n seat at in record {
+        table = it.later.same.table ∙ one.alike own.0 n mine.first it.first mine.at it.at ∙ sym mine.later.same.table ∙ own.3.table;
+        limits = first_limits n seat at ∙ sym limits_are;
+      }
+
+  here_is : taken.all.seats ≡ seats
+  here_is = sym (ap (λ m. m.0.here) taken.all.has.me) ∙ taken.here
+
+  pub long : length seats ≡ length opened
+  long = ap length (sym here_is) ∙ taken.all.count ∙ many
+
+  pub all : tree.limits.actors ≤ length seats
+  all = subst (λ (l : Limits). l.actors ≤ length seats) (sym limits_are) (subst (λ n. limits.actors ≤ n) (sym long) one.all)
+
+  pub some : 0 < length opened
+  some = subst (λ n. 0 < n) long (some_there seats taken.own.0 taken.own.1 taken.own.2)
+
+  pub can_end : CanEnd opened 1 hand.me.0
+  can_end = record {
+    first = ap (λ m. m.0.first) taken.all.has.me;
+    some = some;
+    all = ap length taken.here ∙ long;
+    before = subst (λ n. n < 1) (sym (ap (λ m. m.0.stage) taken.all.has.me)) (omega arith);
+  }
+
+  are_left : (pairs : List (List ℕ × List ℕ)) → AreClosed tree.limits seats pairs → ArePairsLeft hand.me.0.here pairs
+  are_left pairs closed = subst (λ xs. ArePairsLeft xs pairs) (sym taken.here) (record {
+    limits = limits;
+    each = first_limits;
+    idle = taken.idle;
+    closed = subst (λ (l : Limits). AreClosed l seats pairs) limits_are closed;
+  })
+
+  pub leaves : (left : LeftPairs) → left.hand.table_id ≡ hand.table_id → HasClosed IsLater hand.me left.hand.me → AreClosed tree.limits seats left.pairs.items → IsLeftAt table opened left
+  leaves left same closed pairs =
+      left_at table opened taken.all.has.log taken.all.has.rest hand left (ap (λ m. m.1) taken.all.has.me) (ap (λ m. m.0.logs) taken.all.has.me) closed (same ∙ taken.all.has.table)
+      (ap length taken.here ∙ long) some (are_left left.pairs.items pairs)

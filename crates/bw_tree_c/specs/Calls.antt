@@ -6,28 +6,31 @@ use Rattle.bw_tree_c.specs.Running.{IsRunToValue, IsRunFurther, IsRunToPage, IsT
 use Rattle.bw_tree_c.specs.declared.bytes.Bytes.{Bytes}
 use Rattle.bw_tree_c.specs.declared.bytes.FreeRoom.{FreeRoom}
 use Rattle.bw_tree_c.specs.declared.bytes.Page.{Page}
+use Rattle.bw_tree_c.specs.declared.receipt.Receipt.{Receipt}
+use Rattle.bw_tree_c.specs.declared.receipt.Told.{Told}
 use Rattle.bw_tree_c.specs.declared.shared.Shared.{Shared}
 
 -- a command whose reply may have a value
-abbrev pub ComesToValue : Option Shared → ℕ → Command → ℕ → Bytes → Bytes → Type 0
-ComesToValue kept number command status old new = OnSeat kept number status (new ≡ old) (λ before after. IsRunToValue before command status old new after)
+abbrev pub ComesToValue : Option Shared → ℕ → Command → Receipt → Told → Bytes → Bytes → Type 0
+ComesToValue kept number command since told old new = OnSeat kept number since told (new ≡ old) (λ before after. IsRunToValue before command told.status old new after)
 
 -- one whose reply is a page of either direction
-abbrev pub ComesToPage : Option Shared → ℕ → Command → ℕ → Page → Page → Type 0
-ComesToPage kept number command status old new = OnSeat kept number status (new ≡ old) (λ before after. IsRunToPage before command status old new after)
+abbrev pub ComesToPage : Option Shared → ℕ → Command → Receipt → Told → Page → Page → Type 0
+ComesToPage kept number command since told old new = OnSeat kept number since told (new ≡ old) (λ before after. IsRunToPage before command told.status old new after)
 
 -- one whose reply has nothing
-abbrev pub ComesTidied : Option Shared → ℕ → Command → ℕ → Type 0
-ComesTidied kept number command status = OnSeat kept number status ⊤ (λ before after. IsTidied before command status after)
+abbrev pub ComesTidied : Option Shared → ℕ → Command → Receipt → Told → Type 0
+ComesTidied kept number command since told = OnSeat kept number since told ⊤ (λ before after. IsTidied before command told.status after)
 
 -- an operation that goes on
-abbrev pub ComesOn : Option Shared → ℕ → ℕ → ℕ → Bytes → Bytes → Page → Page → Type 0
-ComesOn kept number budget status old new page shows = OnSeat kept number status ((new ≡ old) × (shows ≡ page)) (λ before after. IsRunFurther before budget status old new page shows after)
+abbrev pub ComesOn : Option Shared → ℕ → ℕ → Receipt → Told → Bytes → Bytes → Page → Page → Type 0
+ComesOn kept number budget since told old new page shows = OnSeat kept number since told ((new ≡ old) × (shows ≡ page)) (λ before after. IsRunFurther before budget
+    told.status old new page shows after)
 
 -- whether the seat is idle
-abbrev pub ComesIdle : Option Shared → ℕ → ℕ → Type 0
-ComesIdle kept number status = OnSeat kept number status ⊤ (λ before after. (after ≡ before) × TellsIdle before status)
+abbrev pub ComesIdle : Option Shared → ℕ → Receipt → Told → Type 0
+ComesIdle kept number since told = OnSeat kept number since told ⊤ (λ before after. (after ≡ before) × TellsIdle before told.status)
 
 -- how much is free
-abbrev pub ComesWatched : Option Shared → ℕ → ℕ → FreeRoom → FreeRoom → Type 0
-ComesWatched kept number status old new = OnSeat kept number status (new ≡ old) (λ before after. IsWatched before status new after)
+abbrev pub ComesWatched : Option Shared → ℕ → Receipt → Told → FreeRoom → FreeRoom → Type 0
+ComesWatched kept number since told old new = OnSeat kept number since told (new ≡ old) (λ before after. IsWatched before told.status new after)

@@ -1,10 +1,18 @@
 -- What a tree leaves that is closed with its pairs.
-use Rattle.std.specs.Prelude.{◌≡◌, ◌≤◌, ◌++◌, ◌∷◌, [], ℕ, List, None, Some, length, slice_get}
+use Rattle.std.specs.Prelude.{◌≡◌, ◌<◌, ◌≤◌, ◌∷◌, [], ℕ, List, Some, length, slice_get}
+use Rattle.atomic_table.specs.Seated.{TableId}
+use Rattle.call_log.specs.declared.log.Event.{Event}
+use Rattle.call_log.specs.declared.log.Knows.{Knows}
+use Rattle.call_log.specs.Logs.{IsLog, seats_after, stage_of}
+use Rattle.call_log.specs.Rule.{known}
 use Rattle.tree_limits.specs.declared.limits.Limits.{Limits}
-use Rattle.running_tree.specs.Seats.{Seat, unfinished_command}
+use Rattle.running_tree.specs.Seats.{Seat}
 use Rattle.running_tree.specs.Trees.{AreClosed, IsSeatOf, Tree}
 use Rattle.seats.specs.Idle.{AreIdle}
+use Rattle.bw_tree_c.specs.Hands.{Hand, HasBelow, HasLater, opened_of}
 use Rattle.bw_tree_c.specs.Seats.{IsLater}
+use Rattle.bw_tree_c.specs.declared.left.LeftPairs.{LeftPairs}
+use Rattle.bw_tree_c.specs.declared.left.Waiting.{Waiting}
 
 -- All seats are of these limits.
 abbrev pub AreOfLimits : Limits → List Seat → Type 0
@@ -16,26 +24,38 @@ pub record HaveOneTree (limits : Limits) (seats : List Seat) : Type 0 where
   pub each : AreOfLimits limits seats
   pub all : limits.actors ≤ length seats
 
--- Each seat of the first list has gone on to one of the second.
-abbrev pub HaveGoneOn : List Seat → List Seat → Type 0
-HaveGoneOn firsts seats = (n : ℕ) (first : Seat) → slice_get firsts n ≡ Some first → (m : ℕ) × (seat : Seat) × (slice_get seats m ≡ Some seat) × IsLater first seat
-
--- The pairs are those of a tree that was closed when nothing was under way: its seats, of which these are as they were when it was opened, had all gone
--- on, and none had an operation.
-pub record ArePairsLeft (firsts : List Seat) (pairs : List (List ℕ × List ℕ)) : Type 0 where
+-- The pairs are those of a tree that was closed when nothing was under way, with these seats.
+pub record ArePairsLeft (seats : List Seat) (pairs : List (List ℕ × List ℕ)) : Type 0 where
   pub limits : Limits
-  pub each : AreOfLimits limits firsts
-  pub seats : List Seat
-  pub later : HaveGoneOn firsts seats
+  pub each : AreOfLimits limits seats
   pub idle : AreIdle seats
   pub closed : AreClosed limits seats pairs
 
--- The seats that were taken out of slots, behind those before: each has gone on, and has no operation.
-abbrev pub AreTakenOut : List Seat → List Seat → List Seat → Type 0
-AreTakenOut [] old new = new ≡ old
-AreTakenOut (first ∷ firsts) old new = (others : List Seat) × (seat : Seat) × AreTakenOut firsts old others × IsLater first seat × (unfinished_command seat ≡ None) × (new ≡ others ++ seat ∷ [])
+-- The pairs are those that the log of the handle says: the tree is closed, with the seats as the last calls on them left them, and the pairs wait.
+pub record IsLeftAt (which : TableId) (opened : List Seat) (left : LeftPairs) : Type 0 where
+  pub log : List (Event Seat)
+  pub table : left.hand.table_id ≡ which
+  pub me : left.hand.me ≡ (record { first = 0; here = seats_after opened log; stage = 1; logs = known opened log ∷ [] }, [])
+  pub legal : IsLog IsLater opened log
+  pub stage : stage_of log ≡ 1
+  pub count : length (seats_after opened log) ≡ length opened
+  pub some : 0 < length opened
+  pub pairs : ArePairsLeft (seats_after opened log) left.pairs.items
 
--- The first seat is one of the tree.
-abbrev pub OwnsFirst : List Seat → Tree → Type 0
-OwnsFirst [] tree = ⊥
-OwnsFirst (first ∷ firsts) tree = IsSeatOf tree first
+abbrev pub IsLeft : Hand → LeftPairs → Type 0
+IsLeft slot left = IsLeftAt slot.table_id (opened_of slot) left
+
+-- What waits in the slot is what the tree of the slot's handle left, once its receipt is a hand again.
+pub record WaitsIn (slot : Hand) (waiting : Waiting) : Type 0 where
+  pub view : Knows Seat
+  pub table : waiting.hand.table_id ≡ slot.table_id
+  pub is : waiting.hand.views ≡ view ∷ []
+  pub left : (hand : Hand) → hand.table_id ≡ slot.table_id → hand.me ≡ (view, []) → IsLeft slot (record { pairs = waiting.pairs; hand = hand })
+
+-- Seats that were taken out of slots: the hand has them, none has an operation, and each has gone on since the tree was opened.
+pub record AreTaken (table : TableId) (opened : List Seat) (count : ℕ) (tree : Tree) (seats : List Seat) (hand : Hand) : Type 0 where
+  pub all : HasBelow table opened count hand
+  pub here : hand.me.0.here ≡ seats
+  pub idle : AreIdle seats
+  pub later : (n : ℕ) (seat : Seat) → slice_get seats n ≡ Some seat → HasLater opened n seat
+  pub own : (n : ℕ) × (seat : Seat) × (slice_get seats n ≡ Some seat) × IsSeatOf tree seat

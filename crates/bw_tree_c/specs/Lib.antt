@@ -1,10 +1,13 @@
 pub mod Calls
 pub mod Closing
 pub mod Handles
+pub mod Hands
 pub mod Kept
 pub mod Left
 pub mod Loaded
 pub mod Opened
+pub mod Places
+pub mod Receipts
 pub mod Refused
 pub mod Running
 pub mod Seats

@@ -35,7 +35,7 @@ pub record IsLoadedWith (asked : Limits) (pairs : List (List ℕ × List ℕ)) (
 -- The pairs that are given are short, and the handle has the seats of a tree of the limits that are shown, which was opened with them.
 abbrev pub HasOpenedWith : TreeLimits → List Pair → Option Shared → Type 0
 HasOpenedWith shows given None = ⊥
-HasOpenedWith shows given (Some shared) = AreShort given × (limits : Limits) × ShowsLimits limits shows × IsLoadedWith limits (map given_pair given) shared.slots.items
+HasOpenedWith shows given (Some shared) = AreShort given × (limits : Limits) × ShowsLimits limits shows × IsLoadedWith limits (map given_pair given) shared.log.shared.key.items
 
 -- Why no tree of these limits is opened with the pairs: the pairs that are given are too long, or not in order; or the upsert of one of them, in a tree
 -- that is let go then, found nothing free or was spent; or memory was refused.

@@ -17,7 +17,7 @@ pub record IsOpenedAt (asked : Limits) (seats : List Seat) : Type 0 where
 -- The handle has the seats of a new tree of the limits that are shown.
 abbrev pub HasOpened : TreeLimits → Option Shared → Type 0
 HasOpened shows None = ⊥
-HasOpened shows (Some shared) = (limits : Limits) × ShowsLimits limits shows × IsOpenedAt limits shared.slots.items
+HasOpened shows (Some shared) = (limits : Limits) × ShowsLimits limits shows × IsOpenedAt limits shared.log.shared.key.items
 
 -- The limits that are shown are those of the rule for so many actors and keys.
 pub record ProposesLimits (seats keys : ℕ) (shows : TreeLimits) : Type 0 where

@@ -2,33 +2,45 @@
 ghost use Rattle.bw_tree_c.specs.Calls.{ComesIdle, ComesWatched};
 
 use crate::bytes::FreeRoom;
-use crate::handle::TreeHandle;
-use crate::slot::give;
+use crate::handle::{Taken, TreeHandle};
+use crate::receipt::{Receipt, Told};
+use crate::slot::finish;
 
 /// Whether a call may begin on the seat.
 #[unsafe(no_mangle)]
-pub extern "C" fn bwtree_raw_is_idle(tree: &TreeHandle, seat: u32) -> u32
-    ensures { ComesIdle tree.now.kept.value seat result }
+pub extern "C" fn bwtree_raw_is_idle(tree: &TreeHandle, seat: u32, since: Receipt) -> Told
+    ensures { ComesIdle tree.now.kept.value seat since result }
 {
-    let (slot, place) = match tree.take(seat) {
+    let Taken {
+        shared,
+        slot,
+        mut place,
+    } = match tree.take(seat) {
         Ok(taken) => taken,
-        Err(refusal) => return refusal.status(),
+        Err(refusal) => return Told::alone(refusal.status()),
     };
     let status = place.tell_idle();
-    give(slot, place);
-    status
+    finish(shared, slot, place, status, since)
 }
 
 /// How many PIDs and rows are free.
 #[unsafe(no_mangle)]
-pub extern "C" fn bwtree_raw_room(tree: &TreeHandle, seat: u32, room: &mut FreeRoom) -> u32
-    ensures { ComesWatched tree.now.kept.value seat result room.old room.new }
+pub extern "C" fn bwtree_raw_room(
+    tree: &TreeHandle,
+    seat: u32,
+    room: &mut FreeRoom,
+    since: Receipt,
+) -> Told
+    ensures { ComesWatched tree.now.kept.value seat since result room.old room.new }
 {
-    let (slot, mut place) = match tree.take(seat) {
+    let Taken {
+        shared,
+        slot,
+        mut place,
+    } = match tree.take(seat) {
         Ok(taken) => taken,
-        Err(refusal) => return refusal.status(),
+        Err(refusal) => return Told::alone(refusal.status()),
     };
     let status = place.watch_room(room);
-    give(slot, place);
-    status
+    finish(shared, slot, place, status, since)
 }

@@ -1,18 +1,21 @@
 //! All seats of a tree leave their slots, and the tree ends.
-ghost use Rattle.std.specs.Prelude.{◌≡◌, ◌≤◌, ◌+◌, ◌*◌, ◌++◌, ◌∷◌, [], IfErr, IfOk, IfSome, OnOk, length, vec_len};
+ghost use Rattle.std.specs.Prelude.{◌≡◌, ◌≤◌, ◌<◌, ◌+◌, ◌*◌, ◌++◌, ◌∷◌, [], IfErr, IfOk, MatchOption, None, Some, length, vec_len};
 ghost use Rattle.std.specs.Arc.{arc_value};
 ghost use Rattle.std.specs.Vec.{vec_capacity};
 ghost use Rattle.running_tree.specs.Trees.{AreClosed, AreSeatsOf, IsSeatOf};
 ghost use Rattle.seats.specs.Idle.{AreIdle};
-ghost use Rattle.bw_tree_c.specs.Left.{ArePairsLeft, AreTakenOut, OwnsFirst};
+ghost use Rattle.bw_tree_c.specs.Hands.{AreSlotsOf};
+ghost use Rattle.bw_tree_c.specs.Left.{AreTaken, IsLeftAt};
 ghost use Rattle.bw_tree_c.specs.Refused.{IsHindrance};
 
+use crate::handle_log::SeatHand;
 use crate::left::LeftPairs;
 use crate::place::Place;
 use crate::refusal::Refusal;
 use crate::shared::Shared;
-use crate::slot::{Slot, close, give, take};
+use crate::slot::{Slot, close, give, take, with_others};
 use bw_model::{Key, Value};
+use call_log::closed;
 use running_tree::{BwSeat, Tree};
 use std::alloc::Global;
 use std::sync::Arc;
@@ -21,7 +24,7 @@ impl Shared {
     /// Ends the tree, and lists its pairs; refused, with nothing changed, where a seat is away or has an unfinished operation, where the tree is closed, and
     /// for want of memory.
     pub(crate) fn end(&self, alloc: Global) -> Result<LeftPairs, Refusal>
-        ensures ok { IfOk result (λ left. ArePairsLeft self.now.slots.items left.pairs.items) }
+        ensures ok { IfOk result (IsLeftAt self.now.log.shared.table_id self.now.log.shared.key.items) }
         ensures refused { IfErr result IsHindrance }
     {
         let Ok(mut seats) = Vec::with_capacity(alloc, self.slots.len()) else {
@@ -31,28 +34,42 @@ impl Shared {
             return Err(Refusal::NoMemory);
         };
         // Each share of the tree lies with a seat, so the last one is here now, and there is a tree. No proof rests on that.
-        let Some(share) = take_out(self.slots.as_slice(), &mut seats)? else {
+        let Some(Out { share, mut hand }) = take_out(self, self.slots.as_slice(), &mut seats)?
+        else {
             return Err(Refusal::Closed);
         };
+        closed(&self.log.shared, &mut hand);
         match Arc::into_inner(share) {
             Some(tree) => Ok(LeftPairs {
                 pairs: listed(tree, seats, room),
+                hand,
             }),
             None => Err(Refusal::Closed),
         }
     }
 }
 
-/// Takes all seats out of their slots for good, and tells a share of their tree; or none. The last slot's comes first.
-fn take_out(slots: &[Slot], seats: &mut Vec<BwSeat>) -> Result<Option<Arc<Tree>>, Refusal>
-    requires room { vec_len seats.old + length slots.now ≤ vec_capacity seats.old }
-    ensures seats { OnOk result (AreTakenOut slots.now seats.old.items seats.new.items) }
-    ensures count { OnOk result (vec_len seats.new ≡ vec_len seats.old + length slots.now) }
+/// What was taken out of slots beside their seats: a share of the tree, and what has the seats at the log.
+struct Out {
+    share: Arc<Tree>,
+    hand: SeatHand,
+}
+
+/// Takes all seats out of their slots for good, and tells a share of their tree; or none.
+fn take_out(
+    shared: &Shared,
+    slots: &[Slot],
+    seats: &mut Vec<BwSeat>,
+) -> Result<Option<Out>, Refusal>
+    requires word { 0 < shared.now.log.shared.table_id.words }
+    requires slots { AreSlotsOf shared.now.log.shared.table_id shared.now.log.shared.key.items slots.now }
+    requires empty { seats.old.items ≡ [] }
+    requires room { length slots.now ≤ vec_capacity seats.old }
+    ensures none { IfOk result (λ found. MatchOption found ((length slots.now ≡ 0) × (seats.new.items ≡ [])) (λ out. AreTaken shared.now.log.shared.table_id shared.now.log.shared.key.items (length slots.now) (arc_value out.share) seats.new.items out.hand)) }
     ensures capacity { vec_capacity seats.new ≡ vec_capacity seats.old }
-    ensures tree { IfOk result (λ share. IfSome share (λ tree. OwnsFirst slots.now (arc_value tree))) }
     ensures refused { IfErr result IsHindrance }
 {
-    let Some((slot, others)) = slots.split_first() else {
+    let Some((slot, others)) = slots.split_last() else {
         return Ok(None);
     };
     let place = take(slot)?;
@@ -60,10 +77,12 @@ fn take_out(slots: &[Slot], seats: &mut Vec<BwSeat>) -> Result<Option<Arc<Tree>>
         give(slot, place);
         return Err(Refusal::Unfinished);
     }
-    match take_out(others, seats) {
-        Ok(_) => {
+    match take_out(shared, others, seats) {
+        Ok(before) => {
             close(slot);
-            Ok(Some(unpacked(place, seats)))
+            let Out { share, hand } = unpacked(place, seats);
+            let hand = with_others(shared, hand_of(before), hand);
+            Ok(Some(Out { share, hand }))
         }
         Err(refusal) => {
             give(slot, place);
@@ -72,21 +91,33 @@ fn take_out(slots: &[Slot], seats: &mut Vec<BwSeat>) -> Result<Option<Arc<Tree>>
     }
 }
 
-/// Adds the seat of a place to a list, and tells the share of its tree. Not inlined: the frames above it need no room for a seat.
+/// What has the seats that were taken out, if there are any.
+fn hand_of(found: Option<Out>) -> Option<SeatHand>
+    ensures { MatchOption found (result ≡ None) (λ out. result ≡ Some out.hand) }
+{
+    match found {
+        None => None,
+        Some(Out { share: _, hand }) => Some(hand),
+    }
+}
+
+/// Adds the seat of a place to a list, and gives the rest. Not inlined: the frames above it need no room for a seat.
 #[inline(never)]
-fn unpacked(place: Box<Place>, seats: &mut Vec<BwSeat>) -> Arc<Tree>
+fn unpacked(place: Box<Place>, seats: &mut Vec<BwSeat>) -> Out
     requires room { vec_len seats.old + 1 ≤ vec_capacity seats.old }
     ensures seats { seats.new.items ≡ seats.old.items ++ place.value.seat ∷ [] }
     ensures capacity { vec_capacity seats.new ≡ vec_capacity seats.old }
-    ensures tree { IsSeatOf (arc_value result) place.value.seat }
+    ensures tree { IsSeatOf (arc_value result.share) place.value.seat }
+    ensures hand { result.hand ≡ place.value.hand }
 {
     let Place {
         tree,
         seat,
         reply: _,
+        hand,
     } = Box::into_inner(place);
     seats.push_reserved(seat);
-    tree
+    Out { share: tree, hand }
 }
 
 /// The pairs of a tree with all its seats, which ends.

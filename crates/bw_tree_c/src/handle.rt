@@ -1,7 +1,7 @@
 //! The handle of a tree, which lies in the C program's memory.
-ghost use Rattle.std.specs.Prelude.{◌≡◌, ◌↔◌, None, Some, IfErr, IfOk, IsSome, MatchOption};
-ghost use Rattle.bw_tree_c.specs.Handles.{HasSeat, IsRefused};
-ghost use Rattle.bw_tree_c.specs.Seats.{IsLater};
+ghost use Rattle.std.specs.Prelude.{◌≡◌, ◌↔◌, None, Some, IfErr, IfOk, IsSome, MatchOption, slice_get};
+ghost use Rattle.bw_tree_c.specs.Handles.{IsRefused};
+ghost use Rattle.bw_tree_c.specs.Places.{IsKin};
 
 use crate::kept::Kept;
 use crate::place::Place;
@@ -51,30 +51,43 @@ impl TreeHandle {
         }
     }
 
-    /// The slot of a seat.
-    fn slot(&self, seat: u32) -> Result<&'static Slot, Refusal>
-        ensures slot { IfOk result (λ slot. HasSeat self.now.kept.value seat slot.now) }
+    /// What is shared, and the slot of a seat.
+    fn slot(&self, seat: u32) -> Result<(&'static Shared, &'static Slot), Refusal>
+        ensures shared { IfOk result (λ found. self.now.kept.value ≡ Some found.0.now) }
+        ensures slot { IfOk result (λ found. slice_get found.0.now.slots.items seat ≡ Some found.1.now) }
         ensures refused { IfErr result (IsRefused self.now.kept.value seat) }
     {
         let Some(shared) = self.shared() else {
             return Err(Refusal::Closed);
         };
         match shared.slots.get(seat as usize) {
-            Some(slot) => Ok(slot),
+            Some(slot) => Ok((shared, slot)),
             None => Err(Refusal::NoSeat),
         }
     }
 
     /// Takes a seat out of its slot, for a call.
-    pub(crate) fn take(&self, seat: u32) -> Result<(&'static Slot, Box<Place>), Refusal>
-        ensures seat { IfOk result (λ taken. HasSeat self.now.kept.value seat taken.0.now) }
-        ensures later { IfOk result (λ taken. IsLater taken.0.now taken.1.value.seat) }
+    pub(crate) fn take(&self, seat: u32) -> Result<Taken, Refusal>
+        ensures shared { IfOk result (λ taken. self.now.kept.value ≡ Some taken.shared.now) }
+        ensures slot { IfOk result (λ taken. slice_get taken.shared.now.slots.items seat ≡ Some taken.slot.now) }
+        ensures kin { IfOk result (λ taken. IsKin taken.slot.now taken.place.value) }
         ensures refused { IfErr result (IsRefused self.now.kept.value seat) }
     {
-        let slot = self.slot(seat)?;
+        let (shared, slot) = self.slot(seat)?;
         let place = take(slot)?;
-        Ok((slot, place))
+        Ok(Taken {
+            shared,
+            slot,
+            place,
+        })
     }
+}
+
+/// A seat that was taken out of its slot, and whose it is.
+pub struct Taken {
+    pub(crate) shared: &'static Shared,
+    pub(crate) slot: &'static Slot,
+    pub(crate) place: Box<Place>,
 }
 
 /// This handle.

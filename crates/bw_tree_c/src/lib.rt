@@ -4,6 +4,10 @@
 //! its threads share it. It leads to a slot for each seat. A call takes its seat out of the slot, with a share of the tree, runs on it, and puts
 //! it back: so a call finds a seat of its own tree that nobody else uses, or is refused. It takes no lock and no memory, and waits for nobody.
 //!
+//! Each call is written into the log of its handle (call_log), which takes no memory. An export returns a `Receipt` of that log beside its status, and takes one
+//! (`since`): both have no bytes, so C passes neither. By them the clauses connect the calls on one handle: what a call returns comes behind what its caller had
+//! seen, each call continues its seat from the last call on it, and a closing hands over what all of them left.
+//!
 //! Called by c/bwtree.h, which has the same for readers of C, and by what stands on that. It may not know a thread or anything that waits: a
 //! static library may link neither.
 #![tactic(auto)]
@@ -17,6 +21,7 @@ mod ending;
 mod given;
 mod handing;
 mod handle;
+mod handle_log;
 mod kept;
 mod left;
 mod loading;
@@ -24,8 +29,10 @@ mod loose;
 mod opening;
 mod pages;
 mod place;
+mod receipt;
 mod refusal;
 mod running;
+mod seeing;
 mod shared;
 mod slot;
 #[cfg(test)]

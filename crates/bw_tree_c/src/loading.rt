@@ -52,7 +52,7 @@ pub extern "C" fn bwtree_raw_open_from(
 
 /// A tree with these pairs, with its seats in their slots; or the status that says why there is none.
 fn shared_with(alloc: Global, limits: Limits, given: &[Pair]) -> Result<Box<Shared>, u32>
-    ensures ok { IfOk result (λ shared. IsLoadedWith limits (map given_pair given.now) shared.value.slots.items) }
+    ensures ok { IfOk result (λ shared. IsLoadedWith limits (map given_pair given.now) shared.value.log.shared.key.items) }
     ensures short { IfOk result (λ shared. AreShort given.now) }
     ensures err { IfErr result (IsUnloaded limits given.now) }
     ensures told { IfErr result TellsUnloaded }

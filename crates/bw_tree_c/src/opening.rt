@@ -1,8 +1,11 @@
 //! A tree is opened.
-ghost use Rattle.std.specs.Prelude.{◌≡◌, ◌⊎◌, ◌↔◌, IfSome, IsSome, IsTrue, None};
+ghost use Rattle.std.specs.Prelude.{◌≡◌, ◌<◌, ◌⊎◌, ◌↔◌, [], IfSome, IsSome, None, length};
 ghost use Rattle.std.specs.Arc.{arc_value};
 ghost use Rattle.tree_limits.specs.Room.{AreProposed, AreProposedLarge};
 ghost use Rattle.running_tree.specs.Trees.{AreSeatsOf};
+ghost use Rattle.call_log.specs.Rule.{all_of};
+ghost use Rattle.bw_tree_c.specs.Closing.{IsInUse, IsVacant};
+ghost use Rattle.bw_tree_c.specs.Hands.{AreSlotsOf};
 ghost use Rattle.bw_tree_c.specs.Left.{HaveOneTree};
 ghost use Rattle.bw_tree_c.specs.Opened.{HasOpened, IsOpenedAt, ProposesLargeLimits, ProposesLimits};
 ghost use Rattle.bw_tree_c.specs.Shown.{AreOpenable};
@@ -10,10 +13,13 @@ ghost use Rattle.bw_tree_c.specs.Shown.{AreOpenable};
 use crate::answers::{BAD_LIMITS, NO_MEMORY, OK, OPEN};
 use crate::bytes::TreeLimits;
 use crate::handle::TreeHandle;
-use crate::left::{is_nothing, nothing_left};
+use crate::handle_log::{SeatHand, SeatLog};
+use crate::left::nothing_left;
+use crate::receipt::{Receipt, Told};
 use crate::shared::Shared;
-use crate::slot::{Slot, are_closed, slot_of};
+use crate::slot::{Slot, slot_of};
 use bw_model::Limits;
+use call_log::{dealt, looked, observed, recalled};
 use running_tree::{BwSeat, Tree};
 use seats::opened;
 use std::alloc::Global;
@@ -78,37 +84,42 @@ pub extern "C" fn bwtree_raw_open(alloc: Global, limits: &TreeLimits, tree: &mut
     OK
 }
 
-/// Empties the handle of a tree that is closed and has left no pairs: it is then as one that was never opened. Whether the tree is closed, the words of
-/// its slots tell, of which no clause speaks.
+/// Empties the handle of a tree that is closed and of which no pairs wait: it is then as one that was never opened.
 #[unsafe(no_mangle)]
-pub extern "C" fn bwtree_raw_vacate(tree: &mut TreeHandle) -> u32
-    ensures told { (result ≡ OK) ⊎ (result ≡ OPEN) }
-    ensures ok { result ≡ OK → tree.new.kept.value ≡ None }
-    ensures open { result ≡ OPEN → IsSome tree.old.kept.value }
-    ensures same { result ≡ OPEN → tree.new ≡ tree.old }
+pub extern "C" fn bwtree_raw_vacate(tree: &mut TreeHandle, since: Receipt) -> Told
+    ensures told { (result.status ≡ OK) ⊎ (result.status ≡ OPEN) }
+    ensures ok { result.status ≡ OK → tree.new.kept.value ≡ None }
+    ensures vacant { result.status ≡ OK → IsVacant tree.old.kept.value since result.receipt }
+    ensures open { result.status ≡ OPEN → IsInUse tree.old.kept.value since result.receipt }
+    ensures same { result.status ≡ OPEN → tree.new ≡ tree.old }
 {
-    if tree.is_open() {
-        return OPEN;
+    let told = tree.stage(since);
+    if told.status == OK {
+        *tree = TreeHandle::unopened();
     }
-    *tree = TreeHandle::unopened();
-    OK
+    told
 }
 
 impl TreeHandle {
-    /// Whether it has a tree that isn't closed, or pairs that one has left.
-    fn is_open(&self) -> bool
-        ensures { IsTrue result → IsSome self.now.kept.value }
+    /// Whether it is vacant: OK, or OPEN of a tree that isn't closed, or whose pairs wait.
+    fn stage(&self, since: Receipt) -> Told
+        ensures told { (result.status ≡ OK) ⊎ (result.status ≡ OPEN) }
+        ensures vacant { result.status ≡ OK → IsVacant self.now.kept.value since result.receipt }
+        ensures open { result.status ≡ OPEN → IsInUse self.now.kept.value since result.receipt }
     {
-        match self.shared() {
-            Some(shared) => !are_closed(shared.slots.as_slice()) || !is_nothing(&shared.left),
-            None => false,
-        }
+        let Some(shared) = self.shared() else {
+            return Told::alone(OK);
+        };
+        let (_, mut note) = looked(&shared.log.shared);
+        observed(&shared.log.shared, &mut note, shared.seen_by(since));
+        let stage = recalled(&shared.log.shared, &mut note);
+        Told::of(if stage == 2 { OK } else { OPEN }, note)
     }
 }
 
 /// A new tree, with its seats in their slots.
 fn shared_of(alloc: Global, limits: Limits) -> Option<Box<Shared>>
-    ensures { IfSome result (λ shared. IsOpenedAt limits shared.value.slots.items) }
+    ensures { IfSome result (λ shared. IsOpenedAt limits shared.value.log.shared.key.items) }
 {
     let Ok((tree, seats)) = opened(alloc, limits) else {
         return None;
@@ -126,27 +137,39 @@ pub(crate) fn shared_with_seats(
 ) -> Option<Box<Shared>>
     requires own { AreSeatsOf tree seats.items }
     requires one { HaveOneTree limits seats.items }
-    ensures { IfSome result (λ shared. shared.value.slots.items ≡ seats.items) }
+    ensures { IfSome result (λ shared. shared.value.log.shared.key.items ≡ seats.items) }
 {
     let Ok(tree) = Arc::new(alloc, tree) else {
         return None;
     };
-    let left = nothing_left(&seats);
-    let slots = slots_of(alloc, &tree, seats)?;
-    match Box::new(alloc, Shared::of(limits, slots, left)) {
+    let (log, mut hand) = call_log::opened(alloc, &seats)?;
+    let left = nothing_left(&hand);
+    let slots = slots_of(alloc, &log, &mut hand, &tree, seats)?;
+    match Box::new(alloc, Shared::of(limits, log, slots, left)) {
         Ok(shared) => Some(shared),
         Err(_) => None,
     }
 }
 
 /// A slot for each seat, in order.
-fn slots_of(alloc: Global, tree: &Arc<Tree>, seats: Vec<BwSeat>) -> Option<Vec<Slot>>
+fn slots_of(
+    alloc: Global,
+    log: &SeatLog,
+    hand: &mut SeatHand,
+    tree: &Arc<Tree>,
+    seats: Vec<BwSeat>,
+) -> Option<Vec<Slot>>
     requires own { AreSeatsOf (arc_value tree.now) seats.items }
-    ensures { IfSome result (λ slots. slots.items ≡ seats.items) }
+    requires word { 0 < log.now.shared.table_id.words }
+    requires table { hand.old.table_id ≡ log.now.shared.table_id }
+    requires hand { hand.old.me ≡ (all_of seats.items, []) }
+    ensures count { IfSome result (λ slots. length slots.items ≡ length seats.items) }
+    ensures own { IfSome result (λ slots. AreSlotsOf log.now.shared.table_id seats.items slots.items) }
 {
     let mut slots = Vec::with_capacity(alloc, seats.len()).ok()?;
     for seat in seats {
-        slots.push(slot_of(alloc, tree, seat)?).ok()?;
+        let one = dealt(&log.shared, hand);
+        slots.push(slot_of(alloc, tree, seat, one)?).ok()?;
     }
     Some(slots)
 }

@@ -6,47 +6,63 @@ ghost use Rattle.bw_tree_c.specs.Calls.{ComesOn, ComesToPage};
 
 use crate::answers::TOO_LONG;
 use crate::bytes::{Bytes, Page};
-use crate::handle::TreeHandle;
-use crate::slot::give;
+use crate::handle::{Taken, TreeHandle};
+use crate::receipt::{Receipt, Told};
+use crate::slot::finish;
 use bw_model::{Command, Key};
 
 impl TreeHandle {
     /// Runs a command whose reply is a page on a seat.
-    fn page(&self, seat: u32, command: Command, page: &mut Page) -> u32
-        ensures { ComesToPage self.now.kept.value seat command result page.old page.new }
+    fn page(&self, seat: u32, command: Command, page: &mut Page, since: Receipt) -> Told
+        ensures { ComesToPage self.now.kept.value seat command since result page.old page.new }
     {
-        let (slot, mut place) = match self.take(seat) {
+        let Taken {
+            shared,
+            slot,
+            mut place,
+        } = match self.take(seat) {
             Ok(taken) => taken,
-            Err(refusal) => return refusal.status(),
+            Err(refusal) => return Told::alone(refusal.status()),
         };
         let status = place.page(command, page);
-        give(slot, place);
-        status
+        finish(shared, slot, place, status, since)
     }
 }
 
 /// The pairs of the leaf that has the key, from the key on.
 #[unsafe(no_mangle)]
-pub extern "C" fn bwtree_raw_page(tree: &TreeHandle, seat: u32, from: &[u8], page: &mut Page) -> u32
-    ensures long { MAX_LENGTH < length from.now → (result ≡ TOO_LONG) × (page.new ≡ page.old) }
-    ensures called { length from.now ≤ MAX_LENGTH → ComesToPage tree.now.kept.value seat (command.Page from.now) result page.old page.new }
+pub extern "C" fn bwtree_raw_page(
+    tree: &TreeHandle,
+    seat: u32,
+    from: &[u8],
+    page: &mut Page,
+    since: Receipt,
+) -> Told
+    ensures long { MAX_LENGTH < length from.now → (result.status ≡ TOO_LONG) × (page.new ≡ page.old) }
+    ensures called { length from.now ≤ MAX_LENGTH → ComesToPage tree.now.kept.value seat (command.Page from.now) since result page.old page.new }
 {
     let Ok(from) = Key::from_slice(from) else {
-        return TOO_LONG;
+        return Told::alone(TOO_LONG);
     };
-    tree.page(seat, Command::Page(from), page)
+    tree.page(seat, Command::Page(from), page, since)
 }
 
 /// The pairs of the leaf that has the key, up to the key, and the key at which the next page backward goes on.
 #[unsafe(no_mangle)]
-pub extern "C" fn bwtree_raw_back(tree: &TreeHandle, seat: u32, upto: &[u8], page: &mut Page) -> u32
-    ensures long { MAX_LENGTH < length upto.now → (result ≡ TOO_LONG) × (page.new ≡ page.old) }
-    ensures called { length upto.now ≤ MAX_LENGTH → ComesToPage tree.now.kept.value seat (command.Back upto.now) result page.old page.new }
+pub extern "C" fn bwtree_raw_back(
+    tree: &TreeHandle,
+    seat: u32,
+    upto: &[u8],
+    page: &mut Page,
+    since: Receipt,
+) -> Told
+    ensures long { MAX_LENGTH < length upto.now → (result.status ≡ TOO_LONG) × (page.new ≡ page.old) }
+    ensures called { length upto.now ≤ MAX_LENGTH → ComesToPage tree.now.kept.value seat (command.Back upto.now) since result page.old page.new }
 {
     let Ok(upto) = Key::from_slice(upto) else {
-        return TOO_LONG;
+        return Told::alone(TOO_LONG);
     };
-    tree.page(seat, Command::Back(upto), page)
+    tree.page(seat, Command::Back(upto), page, since)
 }
 
 /// Goes on with a seat's unfinished operation.
@@ -57,14 +73,18 @@ pub extern "C" fn bwtree_raw_resume(
     budget: u32,
     old: &mut Bytes,
     page: &mut Page,
-) -> u32
-    ensures { ComesOn tree.now.kept.value seat budget result old.old old.new page.old page.new }
+    since: Receipt,
+) -> Told
+    ensures { ComesOn tree.now.kept.value seat budget since result old.old old.new page.old page.new }
 {
-    let (slot, mut place) = match tree.take(seat) {
+    let Taken {
+        shared,
+        slot,
+        mut place,
+    } = match tree.take(seat) {
         Ok(taken) => taken,
-        Err(refusal) => return refusal.status(),
+        Err(refusal) => return Told::alone(refusal.status()),
     };
     let status = place.resume(budget, old, page);
-    give(slot, place);
-    status
+    finish(shared, slot, place, status, since)
 }

@@ -1,19 +1,24 @@
 //! What runs on the seat that a call has.
-ghost use Rattle.std.specs.Prelude.{◌≡◌};
+ghost use Rattle.std.specs.Prelude.{◌≡◌, []};
 ghost use Rattle.bw_model.specs.declared.command.Command.TheVariants as command;
+ghost use Rattle.bw_tree_c.specs.Places.{CanWriteSeat, IsWritten};
 ghost use Rattle.bw_tree_c.specs.Running.{IsRunToValue, IsRunFurther, IsRunToPage, IsTidied, IsWatched, TellsIdle};
 ghost use Rattle.bw_tree_c.specs.Seats.{IsLater};
 
 use crate::answers::{IDLE, OK, UNFINISHED, status_of_called, tell_page, tell_value};
 use crate::bytes::{Bytes, FreeRoom, Page};
+use crate::handle_log::SeatHand;
 use crate::place::Place;
+use crate::shared::Shared;
 use bw_model::{Command, Key};
+use call_log::written;
 use seats::{BUDGET, called_in, resumed_in};
 
 impl Place {
     /// Runs a command, if the seat is idle.
     pub(crate) fn run(&mut self, command: Command, old: &mut Bytes) -> u32
         ensures later { IsLater self.old.seat self.new.seat }
+        ensures hand { self.new.hand ≡ self.old.hand }
         ensures run { IsRunToValue self.old.seat command result old.old old.new self.new.seat }
     {
         match called_in(&self.tree, &mut self.seat, command, BUDGET, &mut self.reply) {
@@ -25,6 +30,7 @@ impl Place {
     /// Does upkeep, if the seat is idle.
     pub(crate) fn tidy(&mut self, key: Key) -> u32
         ensures later { IsLater self.old.seat self.new.seat }
+        ensures hand { self.new.hand ≡ self.old.hand }
         ensures run { IsTidied self.old.seat (command.Tidy key) result self.new.seat }
     {
         match called_in(
@@ -42,6 +48,7 @@ impl Place {
     /// Runs a command whose reply is a page, if the seat is idle.
     pub(crate) fn page(&mut self, paging: Command, page: &mut Page) -> u32
         ensures later { IsLater self.old.seat self.new.seat }
+        ensures hand { self.new.hand ≡ self.old.hand }
         ensures run { IsRunToPage self.old.seat paging result page.old page.new self.new.seat }
     {
         match called_in(&self.tree, &mut self.seat, paging, BUDGET, &mut self.reply) {
@@ -53,6 +60,7 @@ impl Place {
     /// Goes on with the seat's operation, if it has one.
     pub(crate) fn resume(&mut self, budget: u32, old: &mut Bytes, page: &mut Page) -> u32
         ensures later { IsLater self.old.seat self.new.seat }
+        ensures hand { self.new.hand ≡ self.old.hand }
         ensures run { IsRunFurther self.old.seat budget result old.old old.new page.old page.new self.new.seat }
     {
         match resumed_in(&self.tree, &mut self.seat, budget, &mut self.reply) {
@@ -71,9 +79,20 @@ impl Place {
         if self.seat.is_idle() { OK } else { UNFINISHED }
     }
 
+    /// Writes into the log of the handle what a call made of the seat, behind what a hand has seen, and gives what has seen that.
+    pub(crate) fn write(&mut self, shared: &Shared, since: SeatHand) -> SeatHand
+        requires can { CanWriteSeat shared.now self.old }
+        requires since { (since.table_id ≡ shared.now.log.shared.table_id) × (since.me.1 ≡ []) }
+        ensures seat { self.new.seat ≡ self.old.seat }
+        ensures written { IsWritten shared.now since.me.0.logs self.old self.new result }
+    {
+        written(&shared.log.shared, &mut self.hand, since, &self.seat)
+    }
+
     /// How many PIDs and rows are free.
     pub(crate) fn watch_room(&mut self, room: &mut FreeRoom) -> u32
         ensures later { IsLater self.old.seat self.new.seat }
+        ensures hand { self.new.hand ≡ self.old.hand }
         ensures room { IsWatched self.old.seat result room.new self.new.seat }
     {
         room.set(&self.tree.room(&mut self.seat));

@@ -13,18 +13,24 @@ use crate::calls::{
 };
 use crate::closing::bwtree_raw_close;
 use crate::handing::bwtree_raw_close_pairs;
-use crate::handle::TreeHandle;
+use crate::handle::{Taken, TreeHandle};
 use crate::loading::bwtree_raw_open_from;
 use crate::opening::{
     bwtree_raw_limits_for_keys, bwtree_raw_limits_for_many_keys, bwtree_raw_open, bwtree_raw_vacate,
 };
 use crate::pages::{bwtree_raw_back, bwtree_raw_page, bwtree_raw_resume};
 use crate::place::Place;
+use crate::receipt::Receipt;
 use crate::slot::give;
 use bw_model::{Command, Key};
 use seats::called;
 use std::alloc::Global;
 use std::test::Fail;
+
+/// A receipt of nothing.
+fn nothing() -> Receipt {
+    Receipt::of_nothing()
+}
 
 /// No bytes.
 fn no_bytes() -> Bytes {
@@ -103,19 +109,19 @@ fn told_of_handles(alloc: Global) -> [u32; 14] {
     let mut limits = no_limits();
     let mut old = no_bytes();
     [
-        bwtree_raw_get(&tree, 0, b"a", &mut old),
+        bwtree_raw_get(&tree, 0, b"a", &mut old, nothing()).status,
         bwtree_raw_open(alloc, &limits, &mut tree),
         bwtree_raw_limits_for_keys(17, 100, &mut limits),
         bwtree_raw_limits_for_keys(2, 100, &mut limits),
         bwtree_raw_open(alloc, &limits, &mut tree),
         bwtree_raw_open(alloc, &limits, &mut tree),
-        bwtree_raw_vacate(&mut tree),
-        bwtree_raw_close(&tree),
-        bwtree_raw_close(&tree),
-        bwtree_raw_get(&tree, 0, b"a", &mut old),
+        bwtree_raw_vacate(&mut tree, nothing()).status,
+        bwtree_raw_close(&tree, nothing()).status,
+        bwtree_raw_close(&tree, nothing()).status,
+        bwtree_raw_get(&tree, 0, b"a", &mut old, nothing()).status,
         bwtree_raw_open(alloc, &limits, &mut tree),
-        bwtree_raw_vacate(&mut tree),
-        bwtree_raw_vacate(&mut tree),
+        bwtree_raw_vacate(&mut tree, nothing()).status,
+        bwtree_raw_vacate(&mut tree, nothing()).status,
         bwtree_raw_open(alloc, &limits, &mut tree),
     ]
 }
@@ -129,9 +135,9 @@ fn told_of_large(alloc: Global) -> [u32; 7] {
         bwtree_raw_limits_for_many_keys(64, 100, &mut limits),
         bwtree_raw_limits_for_many_keys(63, 100, &mut limits),
         bwtree_raw_open(alloc, &limits, &mut tree),
-        bwtree_raw_get(&tree, 62, b"a", &mut old),
-        bwtree_raw_get(&tree, 63, b"a", &mut old),
-        bwtree_raw_close(&tree),
+        bwtree_raw_get(&tree, 62, b"a", &mut old, nothing()).status,
+        bwtree_raw_get(&tree, 63, b"a", &mut old, nothing()).status,
+        bwtree_raw_close(&tree, nothing()).status,
     ];
     limits.large = 2;
     let [first, second, third, fourth, fifth, sixth] = told;
@@ -157,18 +163,18 @@ fn handles_are_opened_and_closed(rt: HostRuntime) {
 fn told_of_calls(tree: &TreeHandle) -> [u32; 12] {
     let mut old = no_bytes();
     [
-        bwtree_raw_insert(tree, 0, b"a", b"x", &mut old),
-        bwtree_raw_insert(tree, 1, b"a", b"y", &mut old),
-        bwtree_raw_upsert(tree, 1, b"a", b"y", &mut old),
-        bwtree_raw_swap(tree, 0, b"a", b"x", b"z", &mut old),
-        bwtree_raw_swap(tree, 0, b"a", b"y", b"z", &mut old),
-        bwtree_raw_get(tree, 0, b"a", &mut old),
-        bwtree_raw_delete(tree, 1, b"a", &mut old),
-        bwtree_raw_get(tree, 0, b"a", &mut old),
-        bwtree_raw_tidy(tree, 0, b"a"),
-        bwtree_raw_get(tree, 2, b"a", &mut old),
-        bwtree_raw_get(tree, 0, &[0; 65], &mut old),
-        bwtree_raw_insert(tree, 0, b"a", &[0; 65], &mut old),
+        bwtree_raw_insert(tree, 0, b"a", b"x", &mut old, nothing()).status,
+        bwtree_raw_insert(tree, 1, b"a", b"y", &mut old, nothing()).status,
+        bwtree_raw_upsert(tree, 1, b"a", b"y", &mut old, nothing()).status,
+        bwtree_raw_swap(tree, 0, b"a", b"x", b"z", &mut old, nothing()).status,
+        bwtree_raw_swap(tree, 0, b"a", b"y", b"z", &mut old, nothing()).status,
+        bwtree_raw_get(tree, 0, b"a", &mut old, nothing()).status,
+        bwtree_raw_delete(tree, 1, b"a", &mut old, nothing()).status,
+        bwtree_raw_get(tree, 0, b"a", &mut old, nothing()).status,
+        bwtree_raw_tidy(tree, 0, b"a", nothing()).status,
+        bwtree_raw_get(tree, 2, b"a", &mut old, nothing()).status,
+        bwtree_raw_get(tree, 0, &[0; 65], &mut old, nothing()).status,
+        bwtree_raw_insert(tree, 0, b"a", &[0; 65], &mut old, nothing()).status,
     ]
 }
 
@@ -184,13 +190,13 @@ fn calls_are_told(rt: HostRuntime) {
 fn told_of_deletions(tree: &TreeHandle) -> [u32; 7] {
     let mut old = no_bytes();
     [
-        bwtree_raw_delete_if(tree, 0, b"a", b"x", &mut old),
-        bwtree_raw_insert(tree, 0, b"a", b"x", &mut old),
-        bwtree_raw_delete_if(tree, 1, b"a", b"y", &mut old),
-        bwtree_raw_delete_if(tree, 1, b"a", b"x", &mut old),
-        bwtree_raw_get(tree, 0, b"a", &mut old),
-        bwtree_raw_delete_if(tree, 2, b"a", b"x", &mut old),
-        bwtree_raw_delete_if(tree, 0, b"a", &[0; 65], &mut old),
+        bwtree_raw_delete_if(tree, 0, b"a", b"x", &mut old, nothing()).status,
+        bwtree_raw_insert(tree, 0, b"a", b"x", &mut old, nothing()).status,
+        bwtree_raw_delete_if(tree, 1, b"a", b"y", &mut old, nothing()).status,
+        bwtree_raw_delete_if(tree, 1, b"a", b"x", &mut old, nothing()).status,
+        bwtree_raw_get(tree, 0, b"a", &mut old, nothing()).status,
+        bwtree_raw_delete_if(tree, 2, b"a", b"x", &mut old, nothing()).status,
+        bwtree_raw_delete_if(tree, 0, b"a", &[0; 65], &mut old, nothing()).status,
     ]
 }
 
@@ -205,13 +211,13 @@ fn told_of_additions(tree: &TreeHandle) -> ([u32; 7], Bytes) {
     let mut old = no_bytes();
     let mut sum = no_bytes();
     let told = [
-        bwtree_raw_add(tree, 0, b"a", 254, &mut old),
-        bwtree_raw_add(tree, 1, b"a", 3, &mut old),
-        bwtree_raw_insert(tree, 0, b"b", b"x", &mut old),
-        bwtree_raw_add(tree, 0, b"b", 1, &mut old),
-        bwtree_raw_get(tree, 0, b"a", &mut sum),
-        bwtree_raw_add(tree, 2, b"a", 1, &mut old),
-        bwtree_raw_add(tree, 0, &[0; 65], 1, &mut old),
+        bwtree_raw_add(tree, 0, b"a", 254, &mut old, nothing()).status,
+        bwtree_raw_add(tree, 1, b"a", 3, &mut old, nothing()).status,
+        bwtree_raw_insert(tree, 0, b"b", b"x", &mut old, nothing()).status,
+        bwtree_raw_add(tree, 0, b"b", 1, &mut old, nothing()).status,
+        bwtree_raw_get(tree, 0, b"a", &mut sum, nothing()).status,
+        bwtree_raw_add(tree, 2, b"a", 1, &mut old, nothing()).status,
+        bwtree_raw_add(tree, 0, &[0; 65], 1, &mut old, nothing()).status,
     ];
     (told, sum)
 }
@@ -228,12 +234,12 @@ fn shows_two_pairs(tree: &TreeHandle) -> bool {
     let mut old = no_bytes();
     let mut page = no_page();
     let told = [
-        bwtree_raw_upsert(tree, 0, b"c", b"z", &mut old),
-        bwtree_raw_upsert(tree, 0, b"a", b"x", &mut old),
-        bwtree_raw_upsert(tree, 0, b"b", b"y", &mut old),
-        bwtree_raw_back(tree, 1, b"b", &mut page),
-        bwtree_raw_back(tree, 2, b"b", &mut page),
-        bwtree_raw_back(tree, 1, &[0; 65], &mut page),
+        bwtree_raw_upsert(tree, 0, b"c", b"z", &mut old, nothing()).status,
+        bwtree_raw_upsert(tree, 0, b"a", b"x", &mut old, nothing()).status,
+        bwtree_raw_upsert(tree, 0, b"b", b"y", &mut old, nothing()).status,
+        bwtree_raw_back(tree, 1, b"b", &mut page, nothing()).status,
+        bwtree_raw_back(tree, 2, b"b", &mut page, nothing()).status,
+        bwtree_raw_back(tree, 1, &[0; 65], &mut page, nothing()).status,
     ];
     told == [OK, OK, OK, OK, NO_SEAT, TOO_LONG]
         && page.count == 2
@@ -252,11 +258,16 @@ fn pages_backward_are_shown(rt: HostRuntime) {
 fn resumes_a_page(tree: &TreeHandle) -> Option<bool> {
     let mut old = no_bytes();
     let mut page = no_page();
-    let set = bwtree_raw_upsert(tree, 1, b"", b"x", &mut old);
-    let (slot, mut place) = tree.take(0).ok()?;
+    let set = bwtree_raw_upsert(tree, 1, b"", b"x", &mut old, nothing()).status;
+    let Taken {
+        shared,
+        slot,
+        mut place,
+    } = tree.take(0).ok()?;
     let is_begun = begins(&mut place, Command::Back(Key::default()));
+    let _ = place.write(shared, shared.seen_by(nothing()));
     give(slot, place);
-    let told = bwtree_raw_resume(tree, 0, 65536, &mut old, &mut page);
+    let told = bwtree_raw_resume(tree, 0, 65536, &mut old, &mut page, nothing()).status;
     Some(
         is_begun
             && set == OK
@@ -284,9 +295,9 @@ fn shows_one_pair(tree: &TreeHandle) -> bool {
         free_rows: 0,
     };
     let told = [
-        bwtree_raw_upsert(tree, 0, b"key", b"value", &mut old),
-        bwtree_raw_page(tree, 1, b"a", &mut page),
-        bwtree_raw_room(tree, 1, &mut room),
+        bwtree_raw_upsert(tree, 0, b"key", b"value", &mut old, nothing()).status,
+        bwtree_raw_page(tree, 1, b"a", &mut page, nothing()).status,
+        bwtree_raw_room(tree, 1, &mut room, nothing()).status,
     ];
     told == [OK, OK, OK]
         && page.count == 1
@@ -329,8 +340,8 @@ fn told_of_loads(alloc: Global) -> [u32; 8] {
         bwtree_raw_open_from(alloc, &limits, &turned, &mut tree),
         bwtree_raw_open_from(alloc, &limits, &pairs[..2], &mut tree),
         bwtree_raw_open_from(alloc, &limits, &pairs[..1], &mut tree),
-        bwtree_raw_get(&tree, 1, b"b", &mut old),
-        bwtree_raw_insert(&tree, 0, b"a", b"z", &mut old),
+        bwtree_raw_get(&tree, 1, b"b", &mut old, nothing()).status,
+        bwtree_raw_insert(&tree, 0, b"a", b"z", &mut old, nothing()).status,
     ]
 }
 
@@ -345,15 +356,15 @@ fn told_of_pairs(alloc: Global, tree: &mut TreeHandle, pairs: &mut [Pair]) -> ([
     let mut old = no_bytes();
     let mut count = 0;
     let told = [
-        bwtree_raw_close_pairs(alloc, &TreeHandle::unopened(), pairs, &mut count),
-        bwtree_raw_insert(tree, 0, b"b", b"x", &mut old),
-        bwtree_raw_insert(tree, 1, b"a", b"y", &mut old),
-        bwtree_raw_close_pairs(alloc, tree, &mut [], &mut count),
-        bwtree_raw_get(tree, 0, b"a", &mut old),
-        bwtree_raw_vacate(tree),
-        bwtree_raw_close_pairs(alloc, tree, pairs, &mut count),
-        bwtree_raw_close_pairs(alloc, tree, pairs, &mut count),
-        bwtree_raw_vacate(tree),
+        bwtree_raw_close_pairs(alloc, &TreeHandle::unopened(), pairs, &mut count, nothing()).status,
+        bwtree_raw_insert(tree, 0, b"b", b"x", &mut old, nothing()).status,
+        bwtree_raw_insert(tree, 1, b"a", b"y", &mut old, nothing()).status,
+        bwtree_raw_close_pairs(alloc, tree, &mut [], &mut count, nothing()).status,
+        bwtree_raw_get(tree, 0, b"a", &mut old, nothing()).status,
+        bwtree_raw_vacate(tree, nothing()).status,
+        bwtree_raw_close_pairs(alloc, tree, pairs, &mut count, nothing()).status,
+        bwtree_raw_close_pairs(alloc, tree, pairs, &mut count, nothing()).status,
+        bwtree_raw_vacate(tree, nothing()).status,
     ];
     (told, count)
 }
@@ -374,11 +385,11 @@ fn told_of_dropped_pairs(alloc: Global, tree: &mut TreeHandle) -> [u32; 5] {
     let mut old = no_bytes();
     let mut count = 0;
     [
-        bwtree_raw_insert(tree, 0, b"a", b"x", &mut old),
-        bwtree_raw_close_pairs(alloc, tree, &mut [], &mut count),
-        bwtree_raw_close(tree),
-        bwtree_raw_close(tree),
-        bwtree_raw_vacate(tree),
+        bwtree_raw_insert(tree, 0, b"a", b"x", &mut old, nothing()).status,
+        bwtree_raw_close_pairs(alloc, tree, &mut [], &mut count, nothing()).status,
+        bwtree_raw_close(tree, nothing()).status,
+        bwtree_raw_close(tree, nothing()).status,
+        bwtree_raw_vacate(tree, nothing()).status,
     ]
 }
 
@@ -390,7 +401,8 @@ fn pairs_that_wait_are_dropped(rt: HostRuntime) {
 
 /// Begins a command on an idle seat, with a budget of one step.
 fn begins(place: &mut Place, command: Command) -> bool
-    ensures { IsLater place.old.seat place.new.seat }
+    ensures later { IsLater place.old.seat place.new.seat }
+    ensures hand { place.new.hand ≡ place.old.hand }
 {
     called(&place.tree, &mut place.seat, command, 1).is_some()
 }
@@ -400,15 +412,20 @@ fn told_of_seats(alloc: Global, tree: &TreeHandle) -> Option<[u32; 13]> {
     let mut old = no_bytes();
     let mut page = no_page();
     let mut count = 0;
-    let (slot, mut place) = tree.take(0).ok()?;
+    let Taken {
+        shared,
+        slot,
+        mut place,
+    } = tree.take(0).ok()?;
     let inside = [
-        bwtree_raw_get(tree, 0, b"a", &mut old),
-        bwtree_raw_is_idle(tree, 0),
-        bwtree_raw_close(tree),
-        bwtree_raw_close_pairs(alloc, tree, &mut [], &mut count),
-        bwtree_raw_is_idle(tree, 1),
+        bwtree_raw_get(tree, 0, b"a", &mut old, nothing()).status,
+        bwtree_raw_is_idle(tree, 0, nothing()).status,
+        bwtree_raw_close(tree, nothing()).status,
+        bwtree_raw_close_pairs(alloc, tree, &mut [], &mut count, nothing()).status,
+        bwtree_raw_is_idle(tree, 1, nothing()).status,
     ];
     let is_begun = begins(&mut place, Command::Get(Key::default()));
+    let _ = place.write(shared, shared.seen_by(nothing()));
     give(slot, place);
     if !is_begun {
         return None;
@@ -420,14 +437,14 @@ fn told_of_seats(alloc: Global, tree: &TreeHandle) -> Option<[u32; 13]> {
         third,
         fourth,
         fifth,
-        bwtree_raw_close_pairs(alloc, tree, &mut [], &mut count),
-        bwtree_raw_get(tree, 0, b"a", &mut old),
-        bwtree_raw_is_idle(tree, 0),
-        bwtree_raw_resume(tree, 0, 0, &mut old, &mut page),
-        bwtree_raw_resume(tree, 0, 65536, &mut old, &mut page),
-        bwtree_raw_resume(tree, 0, 1, &mut old, &mut page),
-        bwtree_raw_is_idle(tree, 0),
-        bwtree_raw_close(tree),
+        bwtree_raw_close_pairs(alloc, tree, &mut [], &mut count, nothing()).status,
+        bwtree_raw_get(tree, 0, b"a", &mut old, nothing()).status,
+        bwtree_raw_is_idle(tree, 0, nothing()).status,
+        bwtree_raw_resume(tree, 0, 0, &mut old, &mut page, nothing()).status,
+        bwtree_raw_resume(tree, 0, 65536, &mut old, &mut page, nothing()).status,
+        bwtree_raw_resume(tree, 0, 1, &mut old, &mut page, nothing()).status,
+        bwtree_raw_is_idle(tree, 0, nothing()).status,
+        bwtree_raw_close(tree, nothing()).status,
     ])
 }
 

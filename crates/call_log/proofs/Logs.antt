@@ -127,3 +127,7 @@ all_more opened log more (it ∷ logs) t = ((t.0.0, began_more log it.log more t
 pub all_both : {X : Type 0} (opened : List X) (log : List (Event X)) (some others : List (Known X)) → GoesOn opened log some → GoesOn opened log others → GoesOn opened log (some ++ others)
 all_both opened log [] others t u = u
 all_both opened log (it ∷ some) others t u = (t.0, all_both opened log some others t.1 u)
+
+pub second_of_both : {X : Type 0} (opened : List X) (log : List (Event X)) (some others : List (Known X)) → GoesOn opened log (some ++ others) → GoesOn opened log others
+second_of_both opened log [] others t = t
+second_of_both opened log (it ∷ some) others t = second_of_both opened log some others t.1

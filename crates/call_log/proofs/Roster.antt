@@ -11,7 +11,7 @@ use Rattle.atomic_table.proofs.Lists.{at_set, at_snoc, exchanged, set_again, set
 use Rattle.call_log.specs.declared.log.Event.{Event}
 use Rattle.call_log.specs.declared.log.Knows.{Knows}
 use Rattle.call_log.specs.Rule.{Fits, Holds, Owns, all_of, known, receipt}
-use Rattle.call_log.specs.Steps.{Adjoins, HasLooked, Looks, both, head_of, one, others, tail_of}
+use Rattle.call_log.specs.Steps.{Adjoins, HasLooked, Looks, both, head_of, observing, one, others, tail_of}
 use Rattle.call_log.proofs.Logs.{all_both, began_self, has_seat, nothing, only}
 
 pub snoc_at : {A : Type 0} (l : List A) (a b : A) (j : ℕ) → get_elem? (l ++ a ∷ []) j ≡ some b → (get_elem? l j ≡ some b) ⊎ ((j ≡ length l) × (a ≡ b))
@@ -186,5 +186,25 @@ module _ {X : Type 0} (goes_on : X → X → Type 0) (opened : List X) where
             (fits_both id other v w h.log h.owner behind (h.each id v at) (h.each other w there'))))
             (λ e. fits_else id other v w h.log h.owner j u t.0 (h.each j u e.1))
             (at_set s.views id j (both v w) u t.1))
+            (at_set first other j (receipt []) u is);
+      }
+
+  pub observes : (id other : ℕ) (v w : Knows X) → Joins R id v other w (observing v w) (receipt [])
+  observes id other v w s h at ne there =
+      let first = set s.views id (observing v w) in
+      let there' : get_elem? s.views other ≡ some w = sym (set_else s.views id other (observing v w) ne) ∙ there in record {
+        log = h.log;
+        owner = h.owner;
+        legal = h.legal;
+        word = h.word;
+        each = λ j u is. ⊎_elim
+            (λ t. subst (Fits opened h.log h.owner j) t.1 (record { own = λ n x q. nothing _ n x q; seen = tt }))
+            (λ t. ⊎_elim
+            (λ e. subst (Fits opened h.log h.owner j) e.1 (subst (λ i. Fits opened h.log h.owner i (observing v w)) (sym e.0) (record {
+              own = (h.each id v at).own;
+              seen = all_both opened h.log v.logs w.logs (h.each id v at).seen (h.each other w there').seen;
+            })))
+            (λ e. h.each j u e.1)
+            (at_set s.views id j (observing v w) u t.1))
             (at_set first other j (receipt []) u is);
       }

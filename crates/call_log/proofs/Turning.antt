@@ -11,7 +11,7 @@ use Rattle.call_log.specs.declared.log.Event.TheVariants.{Called, Closed, Emptie
 use Rattle.call_log.specs.declared.log.Knows.{Knows}
 use Rattle.call_log.specs.Logs.{IsLog, seats_after, stage_of}
 use Rattle.call_log.specs.Rule.{Fits, Holds, Owns, known}
-use Rattle.call_log.specs.Steps.{CanCall, CanEnd, HasCalled, HasClosed, HasEmptied, HasEnded, Mine}
+use Rattle.call_log.specs.Steps.{CanCall, CanEnd, HasCalled, HasClosed, HasEmptied, HasEnded, HasRecalled, Mine}
 use Rattle.call_log.proofs.Logs.{
   after_length,
   all_more,
@@ -96,6 +96,34 @@ module _ {X : Type 0} (goes_on : X → X → Type 0) (opened : List X) where
   pub calls : (slots id : ℕ) (me : Mine X) (after : X) → CanCall goes_on me.0 after → Allows R slots id me 0 (λ n. n) (λ n. HasCalled goes_on after me)
   calls slots id me after can s h _ at _ =
       let it = call_next id me after can s h at (set s.words 0 (get_or s.words 0 0)) (set-get_or s.words 0 0) in (it.0, keeps, tt, it.1, it.2.0)
+
+  pub recalls : (slots id : ℕ) (me : Mine X) → Allows R slots id me 0 (λ n. n) (λ n. HasRecalled goes_on me n)
+  recalls slots id me s h _ at _ =
+      let fits = h.each id me.0 at in
+      let w : Knows X = record { first = me.0.first; here = me.0.here; stage = me.0.stage; logs = known opened h.log ∷ [] } in (
+        w,
+        keeps,
+        tt,
+        record {
+          log = h.log;
+          owner = h.owner;
+          legal = h.legal;
+          word = set-get_or s.words 0 0 ∙ h.word;
+          each = λ j u there. ⊎_elim
+              (λ t. subst (λ z. Fits opened h.log h.owner j z) t.1 (subst (λ k. Fits opened h.log h.owner k w) (sym t.0) (record { own = fits.own; seen = ((refl, began_self h.log), tt) })))
+              (λ t. h.each j u t.1)
+              (at_set s.views id j w u there);
+        },
+        record {
+          opened = opened;
+          log = h.log;
+          legal = h.legal;
+          stage = ap (λ ws. get_or ws 0 0) h.word;
+          far = λ some. let one = has_seat me.0.here 0 some in (fits.own 0 one.0 one.1).2;
+          seen = fits.seen;
+          now = refl;
+        },
+      )
 
   -- An event that takes all seats, or that follows on that.
   pub ends : (event : Event X) (stage : ℕ) (rest : List X) (slots id : ℕ) (me : Mine X) → CanEnd opened stage me.0

@@ -8,6 +8,7 @@ use Rattle.call_log.specs.declared.log.Known.{Known}
 use Rattle.call_log.specs.declared.log.Knows.{Knows}
 use Rattle.call_log.specs.Logs.{IsLog}
 use Rattle.call_log.specs.Rule.{known, receipt}
+use Rattle.call_log.specs.Steps.{GoesOn}
 
 abbrev pub Hand : Type 0 → Type 0
 Hand X = Seat (Unit {0}) (Knows X)
@@ -33,9 +34,11 @@ module _ {X : Type 0} where
     pub has : Has which opened number (before ∷ []) hand
     pub goes : goes_on before after
 
-  -- The call is in the log, behind what was there: it found the seat as the hand had it, and left this one. The note has seen that.
-  pub record HasWritten (goes_on : X → X → Type 0) (which : TableId) (opened : List X) (after : X) (old new note : Hand X) : Type 0 where
+  -- The call is in the log, behind what was there, and behind what had been seen: it found the seat as the hand had it, and left this one. The note has
+  -- seen that.
+  pub record HasWritten (goes_on : X → X → Type 0) (which : TableId) (opened : List X) (seen : List (Known X)) (after : X) (old new note : Hand X) : Type 0 where
     pub log : List (Event X)
+    pub behind : GoesOn opened log seen
     pub before : X
     pub found : old.me.0.here ≡ before ∷ []
     pub has : Has which opened old.me.0.first (after ∷ []) new

@@ -64,6 +64,16 @@ module _ {X : Type 0} where
     pub stage : found ≡ stage_of log
     pub now : new ≡ (receipt (known opened log ∷ []), [])
 
+  -- The view has seen the log as it is, whose stage the word was; and the log is as far as a view with a seat knows.
+  pub record HasRecalled (goes_on : X → X → Type 0) (old : Mine X) (found : ℕ) (new : Mine X) : Type 0 where
+    pub opened : List X
+    pub log : List (Event X)
+    pub legal : IsLog goes_on opened log
+    pub stage : found ≡ stage_of log
+    pub far : 0 < length old.0.here → stage_of log ≡ old.0.stage
+    pub seen : GoesOn opened log old.0.logs
+    pub now : new ≡ (record { first = old.0.first; here = old.0.here; stage = old.0.stage; logs = known opened log ∷ [] }, old.1)
+
   -- An operation can't say the table's seats, and takes those of its first view.
   abbrev pub Looks : (X → X → Type 0) → Mine X → ℕ → Mine X → Type 0
   Looks goes_on first found new = (opened : List X) → first.0 ≡ all_of opened → HasLooked goes_on opened found new
@@ -78,6 +88,10 @@ module _ {X : Type 0} where
   -- two views as one
   abbrev pub both : Knows X → Knows X → Knows X
   both view other = record { first = view.first; here = view.here ++ other.here; stage = view.stage; logs = view.logs ++ other.logs }
+
+  -- the view, which has also seen what the other one has
+  abbrev pub observing : Knows X → Knows X → Knows X
+  observing view other = record { first = view.first; here = view.here; stage = view.stage; logs = view.logs ++ other.logs }
 
   -- The seats of the other view, if it has any, are those behind this one's.
   abbrev pub Adjoins : Knows X → Knows X → Type 0

@@ -88,6 +88,17 @@ impl<X, P: Course<X>> Play<(), Knows<X>> for Looking<X, P> {
     ghost then = { λ made. Looks P.goes_on };
 }
 
+/// The log is looked at by a hand.
+pub(crate) struct Recalling<X, P> {
+    of: PhantomData<(X, P)>,
+}
+
+impl<X, P: Course<X>> Play<(), Knows<X>> for Recalling<X, P> {
+    ghost use Rattle.call_log.specs.Steps.{HasRecalled};
+
+    ghost then = { λ made. HasRecalled P.goes_on };
+}
+
 /// A receipt is split off.
 pub(crate) struct Copying;
 
@@ -108,6 +119,19 @@ impl<X> Split<Knows<X>> for Dealing {
     ghost left = { others };
 
     ghost right = { one };
+}
+
+/// A view has also seen what another one has, whose seats, if it has any, are lost.
+pub(crate) struct Observing;
+
+impl<X> Join<Knows<X>> for Observing {
+    ghost use Rattle.std.specs.Prelude.{[]};
+    ghost use Rattle.call_log.specs.Rule.{receipt};
+    ghost use Rattle.call_log.specs.Steps.{observing};
+
+    ghost both = { observing };
+
+    ghost spent = { receipt [] };
 }
 
 /// Two views become one.

@@ -1,11 +1,11 @@
 //! Steps on the word of a log's table: each is one load or store, and writes into the log or sees it.
 ghost use Rattle.std.specs.Prelude.{◌≡◌, ◌<◌, ◌∷◌, [], Some, IfSome, length};
 ghost use Rattle.call_log.specs.Rule.{all_of, receipt};
-ghost use Rattle.call_log.specs.Steps.{Adjoins, CanCall, CanEnd, HasCalled, HasClosed, HasEmptied, HasLooked, both, one, others};
+ghost use Rattle.call_log.specs.Steps.{Adjoins, CanCall, CanEnd, HasCalled, HasClosed, HasEmptied, HasLooked, HasRecalled, both, observing, one, others};
 
 use crate::rule::{
-    Calling, Closing, Copying, Course, Dealing, Emptying, Hand, Log, LogTable, Looking, Telling,
-    Together,
+    Calling, Closing, Copying, Course, Dealing, Emptying, Hand, Log, LogTable, Looking, Observing,
+    Recalling, Telling, Together,
 };
 use atomic_table::Table;
 use std::alloc::Global;
@@ -60,6 +60,18 @@ pub fn joined<X, P: Course<X>>(log: &Log<X, P>, hand: &mut Hand<X>, other: Hand<
     log.join_seat::<Together>(hand, other);
 }
 
+/// Takes in what another seat has seen; the seats that it has, if any, are lost.
+pub fn observed<X, P: Course<X>>(log: &Log<X, P>, hand: &mut Hand<X>, other: Hand<X>)
+    requires table { hand.old.table_id ≡ log.now.table_id }
+    requires word { 0 < log.now.table_id.words }
+    requires other { other.table_id ≡ log.now.table_id }
+    requires empty { other.me.1 ≡ [] }
+    ensures same { hand.new.table_id ≡ hand.old.table_id }
+    ensures observed { hand.new.me ≡ (observing hand.old.me.0 other.me.0, hand.old.me.1) }
+{
+    log.join_seat::<Observing>(hand, other);
+}
+
 /// Writes a call into the log, which found the seat that this one has, and left another one.
 pub fn called<X, P: Course<X>>(log: &Log<X, P>, hand: &mut Hand<X>, after: &X)
     requires table { hand.old.table_id ≡ log.now.table_id }
@@ -104,6 +116,16 @@ pub fn emptied<X, P: Course<X>>(log: &Log<X, P>, hand: &mut Hand<X>)
     ensures emptied { HasEmptied P.goes_on hand.old.me hand.new.me }
 {
     log.store::<Emptying<X, P>>(hand, 0, 2);
+}
+
+/// How far the log is; the hand has seen all of it.
+pub fn recalled<X, P: Course<X>>(log: &Log<X, P>, hand: &mut Hand<X>) -> u64
+    requires table { hand.old.table_id ≡ log.now.table_id }
+    requires word { 0 < log.now.table_id.words }
+    ensures same { hand.new.table_id ≡ hand.old.table_id }
+    ensures recalled { HasRecalled P.goes_on hand.old.me result hand.new.me }
+{
+    log.load::<Recalling<X, P>>(hand, 0)
 }
 
 /// How far the log is, and a receipt of it.

@@ -1,8 +1,13 @@
-use Rattle.bw_tree_c.proofs.Coming.{on_seat}
+use Rattle.bw_tree_c.proofs.Places.{can_finish, on_seat}
 use Rattle.bw_tree_c.proofs.asking.bwtree_raw_room.Goals as goal
 
+pub finish-requires : goal.finish-requires
+finish-requires c = record {
+  can = can_finish c.in-Ok.taken.shared.now c.args.seat c.in-Ok.taken.slot.now c.in-Ok.ensures.slot c.in-Ok.taken.place.value
+      c.deref_mut.result.now c.watch_room-status.new.self c.in-Ok.ensures.kin c.deref_mut.ensures.value c.watch_room-status.ensures.later c.watch_room-status.ensures.hand;
+}
+
 pub returns : goal.returns
-returns c =
-    on_seat c.args.tree.now.kept.value c.args.seat c.watch_room-status.result _ _ c.in-Ok.taken.0.now c.in-Ok.taken.1.value c.deref_mut.result.now
-    c.watch_room-status.new.self c.in-Ok.ensures.seat c.in-Ok.ensures.later c.deref_mut.ensures.value c.watch_room-status.ensures.later
-    c.watch_room-status.ensures.room
+returns c = on_seat c.in-Ok.taken.shared.now c.args.seat c.in-Ok.taken.slot.now c.in-Ok.ensures.slot c.in-Ok.taken.place.value
+    c.deref_mut.result.now c.watch_room-status.new.self c.in-Ok.ensures.kin c.deref_mut.ensures.value c.watch_room-status.ensures.later c.watch_room-status.ensures.hand
+    c.args.tree.now.kept.value c.args.since c.finish.result _ _ c.in-Ok.ensures.shared (rw c.finish.ensures.status c.watch_room-status.ensures.room) c.finish.ensures.receipt

@@ -1,7 +1,13 @@
-use Rattle.bw_tree_c.proofs.Coming.{on_seat}
+use Rattle.bw_tree_c.proofs.Places.{can_finish, on_seat}
 use Rattle.bw_tree_c.proofs.handle.TreeHandle.tidy.Goals as goal
 
+pub finish-requires : goal.finish-requires
+finish-requires c = record {
+  can = can_finish c.in-Ok.taken.shared.now c.args.seat c.in-Ok.taken.slot.now c.in-Ok.ensures.slot c.in-Ok.taken.place.value
+      c.deref_mut.result.now c.tidy-status.new.self c.in-Ok.ensures.kin c.deref_mut.ensures.value c.tidy-status.ensures.later c.tidy-status.ensures.hand;
+}
+
 pub returns : goal.returns
-returns c =
-    on_seat c.args.self.now.kept.value c.args.seat c.tidy-status.result _ _ c.in-Ok.taken.0.now c.in-Ok.taken.1.value c.deref_mut.result.now
-    c.tidy-status.new.self c.in-Ok.ensures.seat c.in-Ok.ensures.later c.deref_mut.ensures.value c.tidy-status.ensures.later c.tidy-status.ensures.run
+returns c = on_seat c.in-Ok.taken.shared.now c.args.seat c.in-Ok.taken.slot.now c.in-Ok.ensures.slot c.in-Ok.taken.place.value
+    c.deref_mut.result.now c.tidy-status.new.self c.in-Ok.ensures.kin c.deref_mut.ensures.value c.tidy-status.ensures.later c.tidy-status.ensures.hand
+    c.args.self.now.kept.value c.args.since c.finish.result _ _ c.in-Ok.ensures.shared (rw c.finish.ensures.status c.tidy-status.ensures.run) c.finish.ensures.receipt
