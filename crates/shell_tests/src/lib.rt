@@ -41,6 +41,8 @@ mod parts;
 #[cfg(test)]
 mod picture_commands;
 #[cfg(test)]
+mod picture_items;
+#[cfg(test)]
 mod picture_keys;
 #[cfg(test)]
 mod picture_marks;

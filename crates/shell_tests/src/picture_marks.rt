@@ -24,7 +24,7 @@ fn marks_of(text: &[u8]) -> Marks {
 }
 
 /// Adds lines by which actor 0 runs a command on the keys of two digits from one number on and below another one.
-fn add_commands(
+pub(crate) fn add_commands(
     lines: &mut Vec<u8>,
     command: &[u8],
     value: &[u8],

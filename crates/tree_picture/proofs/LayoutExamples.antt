@@ -83,10 +83,10 @@ small_is = refl
 middle_is : page_height middle ≡ 129
 middle_is = refl
 
-large_is : page_height large ≡ 213
+large_is : page_height large ≡ 231
 large_is = refl
 
-level_is : level_height (small ∷ large ∷ middle ∷ []) ≡ 213
+level_is : level_height (small ∷ large ∷ middle ∷ []) ≡ 231
 level_is = refl
 
 levels_are : levels_height ((small ∷ []) ∷ (small ∷ middle ∷ []) ∷ []) ≡ 396

@@ -1,13 +1,14 @@
 -- How high is what is drawn of pages, in pixels.
 use Rattle.std.specs.Prelude.{ℕ, List, [], ◌∷◌, ◌+◌, ◌-◌, ◌*◌, length, sum_by}
 use Rattle.deltas.specs.declared.record.Record.{Record}
-use Rattle.deltas.specs.declared.record.Record.TheVariants.{Base}
+use Rattle.deltas.specs.declared.record.Record.TheVariants.{Base, Merge}
 use Rattle.traces.specs.chain.SideChain.{LivePage}
 use Rattle.tree_picture.specs.declared.places.TheConstants.{HEAD, FOOT, BASE, DELTA, ROW, DROP}
 
--- a delta, or a base by its items
+-- a base or a merge by its items, or any other delta
 abbrev pub record_height : Record → ℕ
 record_height (Base page) = length page.items * ROW + BASE
+record_height (Merge merge) = length merge.items * ROW + BASE
 record_height _ = DELTA
 
 abbrev pub page_height : LivePage → ℕ

@@ -7,12 +7,12 @@ ghost use Rattle.tree_picture.specs.declared.places.TheConstants.{PAGE_WIDTH};
 
 use crate::ScenePage;
 use crate::colour::Colour;
-use crate::places::{DELTA, HEAD, PAGE_WIDTH, ROW, page_height, record_height};
+use crate::places::{HEAD, PAGE_WIDTH, ROW, page_height, record_height};
 use crate::shape::{Mark, PageBox, Rectangle};
 use crate::sheet::Sheet;
 use crate::words::Words;
 use crate::write::{record_words, with_number, with_range, with_token};
-use base_page::{Content, Item, Page};
+use base_page::{Content, Item};
 use deltas::Record;
 use std::alloc::AllocError;
 
@@ -57,42 +57,45 @@ fn records(sheet: &mut Sheet, records: &[Record], x: u32, y: u32)
     let mut y = y;
     for record in records {
         record_box(sheet, record, x.saturating_add(8), y);
-        y = y.saturating_add(DELTA);
+        y = y.saturating_add(record_height(record));
     }
 }
 
-/// A delta in a box of its own, or a base with its items.
+/// A record in a box of its own, a base or a merge with its items.
 fn record_box(sheet: &mut Sheet, record: &Record, x: u32, y: u32)
     ensures { sheet.new ≡ sheet.old }
 {
+    let is_base = matches!(record, Record::Base(_));
+    let height = record_height(record);
+    sheet.rectangle(Rectangle {
+        x,
+        y,
+        width: PAGE_WIDTH - 16,
+        height: if is_base {
+            height
+        } else {
+            height.saturating_sub(3)
+        },
+        fill: if is_base {
+            Colour::Paper
+        } else {
+            Colour::Delta
+        },
+        edge: if is_base { Colour::Grey } else { Colour::Side },
+    });
     match record {
-        Record::Base(page) => base_box(sheet, page, x, y, record_height(record)),
-        _ => sheet.rectangle(Rectangle {
-            x,
-            y,
-            width: PAGE_WIDTH - 16,
-            height: DELTA - 3,
-            fill: Colour::Delta,
-            edge: Colour::Side,
-        }),
+        Record::Base(page) => item_lines(sheet, page.items().as_slice(), x, y),
+        Record::Merge(merge) => item_lines(sheet, merge.items.as_slice(), x, y),
+        _ => {}
     }
     let words = record_words(record);
     sheet.words(x.saturating_add(6), y.saturating_add(13), 11, words);
 }
 
-/// A base, and its items.
-fn base_box(sheet: &mut Sheet, page: &Page, x: u32, y: u32, height: u32)
+/// The items of a base or a merge, one under another.
+fn item_lines(sheet: &mut Sheet, items: &[Item], x: u32, y: u32)
     ensures { sheet.new ≡ sheet.old }
 {
-    let items = page.items().as_slice();
-    sheet.rectangle(Rectangle {
-        x,
-        y,
-        width: PAGE_WIDTH - 16,
-        height,
-        fill: Colour::Paper,
-        edge: Colour::Grey,
-    });
     let mut y = y.saturating_add(30);
     for item in items {
         sheet.words(x.saturating_add(16), y, 11, item_words(item));
@@ -100,7 +103,7 @@ fn base_box(sheet: &mut Sheet, page: &Page, x: u32, y: u32, height: u32)
     }
 }
 
-/// An item of a base.
+/// An item of a base or a merge.
 fn item_words(item: &Item) -> Words {
     let mut words = Words::new();
     with_token(&mut words, b"", item.key.as_slice());

@@ -21,7 +21,7 @@ pub(crate) const FOOT: u32 = 10;
 
 pub(crate) const DELTA: u32 = 21;
 
-/// A base without items.
+/// A base or a merge without items.
 pub(crate) const BASE: u32 = 24;
 
 pub(crate) const ROW: u32 = 15;
@@ -78,6 +78,7 @@ pub(crate) fn record_height(record: &Record) -> u32
 {
     match record {
         Record::Base(page) => pixels(page.items().as_slice().len()) * ROW + BASE,
+        Record::Merge(merge) => pixels(merge.items.as_slice().len()) * ROW + BASE,
         _ => DELTA,
     }
 }
