@@ -1,4 +1,5 @@
 //! The exports, called from Rattle: what each answers, in turn.
+ghost use Rattle.std.specs.Prelude.{◌≡◌};
 ghost use Rattle.bw_tree_c.specs.Seats.{IsLater};
 
 use crate::answers::{
