@@ -22,7 +22,7 @@ use crate::opening::{
 use crate::pages::{bwtree_raw_back, bwtree_raw_page, bwtree_raw_resume};
 use crate::place::Place;
 use crate::receipt::Receipt;
-use crate::slot::give;
+use crate::slot::finish;
 use bw_model::{Command, Key};
 use seats::called;
 use std::alloc::Global;
@@ -264,10 +264,12 @@ fn resumes_a_page(tree: &TreeHandle) -> Option<bool> {
         shared,
         slot,
         mut place,
-    } = tree.take(0).ok()?;
+    } = match tree.take(0) {
+        Ok(taken) => taken,
+        Err(_) => return None,
+    };
     let is_begun = begins(&mut place, Command::Back(Key::default()));
-    let _ = place.write(shared, shared.seen_by(nothing()));
-    give(slot, place);
+    let _ = finish(shared, slot, place, OK, nothing());
     let told = bwtree_raw_resume(tree, 0, 65536, &mut old, &mut page, nothing()).status;
     Some(
         is_begun
@@ -417,7 +419,10 @@ fn told_of_seats(alloc: Global, tree: &TreeHandle) -> Option<[u32; 13]> {
         shared,
         slot,
         mut place,
-    } = tree.take(0).ok()?;
+    } = match tree.take(0) {
+        Ok(taken) => taken,
+        Err(_) => return None,
+    };
     let inside = [
         bwtree_raw_get(tree, 0, b"a", &mut old, nothing()).status,
         bwtree_raw_is_idle(tree, 0, nothing()).status,
@@ -426,8 +431,7 @@ fn told_of_seats(alloc: Global, tree: &TreeHandle) -> Option<[u32; 13]> {
         bwtree_raw_is_idle(tree, 1, nothing()).status,
     ];
     let is_begun = begins(&mut place, Command::Get(Key::default()));
-    let _ = place.write(shared, shared.seen_by(nothing()));
-    give(slot, place);
+    let _ = finish(shared, slot, place, OK, nothing());
     if !is_begun {
         return None;
     }
