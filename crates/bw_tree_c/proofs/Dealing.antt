@@ -6,12 +6,12 @@ use Rattle.atomic_table.specs.Seated.{TableId}
 use Rattle.call_log.specs.Rule.{all_of, known}
 use Rattle.call_log.specs.Steps as steps
 use Rattle.running_tree.specs.Seats.{Seat}
-use Rattle.bw_tree_c.specs.Hands.{AreSlotsOf, Hand, HasLater, IsHandOf, IsLeftOf, IsSlotOf, first_opened, opened_of}
+use Rattle.bw_tree_c.specs.Hands.{AreSlotsOf, HasLater, IsHandOf, IsLeftOf, IsSlotOf, SeatHand, first_opened, opened_of}
 use Rattle.bw_tree_c.proofs.Hands.{is_last, pushed_at, stays}
 use Rattle.bw_tree_c.proofs.Later.{later_self}
 
 -- So many seats are in their slots, and the hand has the others.
-pub record HasDealt (table : TableId) (opened yielded : List Seat) (slots : List Hand) (hand : Hand) : Type 0 where
+pub record HasDealt (table : TableId) (opened yielded : List Seat) (slots : List SeatHand) (hand : SeatHand) : Type 0 where
   pub rest : List Seat
   pub is : opened ≡ yielded ++ rest
   pub table_is : hand.table_id ≡ table
@@ -19,7 +19,7 @@ pub record HasDealt (table : TableId) (opened yielded : List Seat) (slots : List
   pub count : length slots ≡ length yielded
   pub own : AreSlotsOf table opened slots
 
-pub nothing_dealt : (table : TableId) (opened : List Seat) (hand : Hand) (slots : List Hand) → slots ≡ [] → hand.table_id ≡ table → hand.me ≡ (all_of opened, []) → HasDealt table opened [] slots hand
+pub nothing_dealt : (table : TableId) (opened : List Seat) (hand : SeatHand) (slots : List SeatHand) → slots ≡ [] → hand.table_id ≡ table → hand.me ≡ (all_of opened, []) → HasDealt table opened [] slots hand
 nothing_dealt table opened hand slots none same me = subst (λ xs. HasDealt table opened [] xs hand) (sym none) (record {
   rest = opened;
   is = refl;
@@ -34,7 +34,7 @@ next_is [] [] x below is = absurd (omega (arith, below))
 next_is [] (r ∷ rest) x below is = (rest, λ i. sym is i ∷ rest)
 next_is (y ∷ xs) rest x below is = next_is xs rest x (omega (arith, below)) is
 
-module _ (table : TableId) (opened yielded : List Seat) (slots : List Hand) (hand : Hand) (so_far : HasDealt table opened yielded slots hand) (seat : Seat) (below : length yielded < length opened)
+module _ (table : TableId) (opened yielded : List Seat) (slots : List SeatHand) (hand : SeatHand) (so_far : HasDealt table opened yielded slots hand) (seat : Seat) (below : length yielded < length opened)
     (turn : seat ≡ get_or opened (length yielded) seat) where
   next : (more : List Seat) × (so_far.rest ≡ seat ∷ more)
   next = next_is yielded so_far.rest seat (subst (λ xs. length yielded < length xs) so_far.is below) (subst (λ xs. seat ≡ get_or xs (length yielded) seat) so_far.is turn)
@@ -42,7 +42,7 @@ module _ (table : TableId) (opened yielded : List Seat) (slots : List Hand) (han
   pub some : 0 < length hand.me.0.here
   some = subst (λ xs. 0 < length xs) (sym (ap (λ m. m.0.here) so_far.me ∙ next.1)) (omega arith)
 
-  module _ (one : Hand) (same : one.table_id ≡ hand.table_id) (me : one.me ≡ (steps.one hand.me.0, [])) where
+  module _ (one : SeatHand) (same : one.table_id ≡ hand.table_id) (me : one.me ≡ (steps.one hand.me.0, [])) where
     me_is : one.me ≡ (record { first = length yielded; here = seat ∷ []; stage = 0; logs = known opened [] ∷ [] }, [])
     me_is = me ∙ (λ i. (steps.one (so_far.me i).0, [])) ∙ (λ i. (record { first = length yielded; here = steps.head_of (next.1 i); stage = 0; logs = known opened [] ∷ [] }, []))
 
@@ -64,7 +64,7 @@ module _ (table : TableId) (opened yielded : List Seat) (slots : List Hand) (han
       later = later_self seat;
     }))
 
-    pub dealt : (slot hand' : Hand) (slots' : List Hand) → hand'.table_id ≡ hand.table_id → hand'.me ≡ (steps.others hand.me.0, hand.me.1) → slot ≡ one → slots' ≡ slots ++ slot ∷ []
+    pub dealt : (slot hand' : SeatHand) (slots' : List SeatHand) → hand'.table_id ≡ hand.table_id → hand'.me ≡ (steps.others hand.me.0, hand.me.1) → slot ≡ one → slots' ≡ slots ++ slot ∷ []
         → HasDealt table opened (yielded ++ seat ∷ []) slots' hand'
     dealt slot hand' slots' same' me' is more = subst (λ xs. HasDealt table opened (yielded ++ seat ∷ []) xs hand') (sym (more ∙ ap (λ x. slots ++ x ∷ []) is)) (record {
       rest = next.0;
@@ -81,7 +81,7 @@ module _ (table : TableId) (opened yielded : List Seat) (slots : List Hand) (han
     })
 
 -- What is shared of a tree has its slots, and one for what the tree leaves.
-pub leaves_of : (table : TableId) (opened firsts : List Seat) (hand left : Hand) → firsts ≡ opened → hand.table_id ≡ table → hand.me ≡ (all_of opened, []) → left ≡ hand → IsLeftOf table firsts left
+pub leaves_of : (table : TableId) (opened firsts : List Seat) (hand left : SeatHand) → firsts ≡ opened → hand.table_id ≡ table → hand.me ≡ (all_of opened, []) → left ≡ hand → IsLeftOf table firsts left
 leaves_of table opened firsts hand left is same me left_is = subst (IsLeftOf table firsts) (sym left_is) (record { table = same; opened = ap (λ m. first_opened m.0.logs) me ∙ sym is })
 
 pub items_of : {Z : Type 0} (one other : Vec Seat Z) → one ≡ other → one.items ≡ other.items

@@ -5,12 +5,12 @@ use Rattle.call_log.specs.declared.log.Event.{Event}
 use Rattle.call_log.specs.declared.log.Event.TheVariants.{Called, Closed, Emptied}
 use Rattle.call_log.specs.declared.log.Known.{Known}
 use Rattle.call_log.specs.Logs.{BeganAs, IsLog, seats_after, stage_of}
-use Rattle.call_log.specs.Rule.{known, receipt}
-use Rattle.call_log.specs.Steps.{CanEnd, GoesOn, HasClosed, HasEmptied, HasEnded, HasRecalled, observing}
+use Rattle.call_log.specs.Rule.{ExtendsAll, known, receipt}
+use Rattle.call_log.specs.Steps.{CanEnd, HasEnded, HasLoggedClosing, HasLoggedEmptying, HasRecalled, observing}
 use Rattle.call_log.proofs.Logs.{began_more, second_of_both}
 use Rattle.running_tree.specs.Seats.{Seat}
 use Rattle.bw_tree_c.specs.Closing.{CanEmpty, HandsOver, HasMore, IsForgotten, IsHandedOver, IsKept}
-use Rattle.bw_tree_c.specs.Hands.{Hand, HasBelow, opened_of}
+use Rattle.bw_tree_c.specs.Hands.{HasBelow, SeatHand, opened_of}
 use Rattle.bw_tree_c.specs.Left.{ArePairsLeft, IsLeft, IsLeftAt}
 use Rattle.bw_tree_c.specs.Places.{HasObserved}
 use Rattle.bw_tree_c.specs.Seats.{IsLater}
@@ -21,11 +21,11 @@ use Rattle.bw_tree_c.specs.declared.receipt.Receipt.{Receipt}
 use Rattle.bw_tree_c.specs.declared.shared.Shared.{Shared}
 
 -- the logs that a view has seen are of these seats
-same_opened : (opened other : List Seat) (log seen : List (Event Seat)) (rest logs : List (Known Seat)) → logs ≡ known opened seen ∷ rest → GoesOn other log logs → opened ≡ other
-same_opened opened other log seen rest logs is t = (subst (GoesOn other log) is t).0.0
+same_opened : (opened other : List Seat) (log seen : List (Event Seat)) (rest logs : List (Known Seat)) → logs ≡ known opened seen ∷ rest → ExtendsAll other log logs → opened ≡ other
+same_opened opened other log seen rest logs is t = (subst (ExtendsAll other log) is t).0.0
 
 -- All seats of a handle were in a hand, and the log has the event.
-module _ (opened : List Seat) (event : Event Seat) (stage : ℕ) (left : List Seat) (seen : List (Event Seat)) (rest : List (Known Seat)) (old new : Hand)
+module _ (opened : List Seat) (event : Event Seat) (stage : ℕ) (left : List Seat) (seen : List (Event Seat)) (rest : List (Known Seat)) (old new : SeatHand)
     (none : old.me.1 ≡ []) (logs : old.me.0.logs ≡ known opened seen ∷ rest) (ended : HasEnded IsLater event stage left old.me new.me) where
   pub whole : List (Event Seat)
   whole = ended.log ++ event ∷ []
@@ -42,14 +42,14 @@ module _ (opened : List Seat) (event : Event Seat) (stage : ℕ) (left : List Se
   pub now : new.me ≡ (record { first = 0; here = left; stage = stage; logs = known opened (ended.log ++ event ∷ []) ∷ [] }, [])
   now = ended.now ∙ (λ i. (record { first = 0; here = left; stage = stage; logs = known (is i) (ended.log ++ event ∷ []) ∷ [] }, none i))
 
-  pub view : (note : Hand) (it : Receipt) → note.me ≡ (receipt new.me.0.logs, []) → it.views ≡ note.me.0 ∷ [] → it.views ≡ receipt (known opened (ended.log ++ event ∷
+  pub view : (note : SeatHand) (it : Receipt) → note.me ≡ (receipt new.me.0.logs, []) → it.views ≡ note.me.0 ∷ [] → it.views ≡ receipt (known opened (ended.log ++ event ∷
       []) ∷ []) ∷ []
   view note it noted views = views ∙ ap (λ m. m.0 ∷ []) noted ∙ ap (λ m. receipt m.0.logs ∷ []) now
 
   -- the log came behind what others had seen, whose logs stand behind these
   pub behind : (some others : List (Known Seat)) → old.me.0.logs ≡ some ++ others → (it : List (Event Seat)) → others ≡ known opened it ∷ [] → BeganAs (ended.log ++ event ∷ []) it
   behind some others both it one = began_more ended.log it (event ∷ [])
-      (subst (GoesOn ended.opened ended.log) one (second_of_both ended.opened ended.log some others (subst (GoesOn ended.opened ended.log) both ended.seen))).0.1
+      (subst (ExtendsAll ended.opened ended.log) one (second_of_both ended.opened ended.log some others (subst (ExtendsAll ended.opened ended.log) both ended.seen))).0.1
 
 not_one : (P : Type 0) (n : ℕ) → suc (suc n) ≡ 1 → P
 not_one P n e = absurd (omega (arith, e))
@@ -67,9 +67,9 @@ same_stage : (log more : List (Event Seat)) → BeganAs more log → stage_of lo
 same_stage log more began is now = began.1 ∙ nothing_more log began.0 is (ap stage_of (sym began.1) ∙ now)
 
 -- The seats of a hand are of a tree that is closed now, and left these pairs.
-pub left_at : (table : TableId) (opened : List Seat) (seen : List (Event Seat)) (rest : List (Known Seat)) (old : Hand) (left : LeftPairs) → old.me.1 ≡ [] →
+pub left_at : (table : TableId) (opened : List Seat) (seen : List (Event Seat)) (rest : List (Known Seat)) (old : SeatHand) (left : LeftPairs) → old.me.1 ≡ [] →
     old.me.0.logs ≡ known opened seen ∷ rest
-    → HasClosed IsLater old.me left.hand.me → left.hand.table_id ≡ table → length old.me.0.here ≡ length opened → 0 < length opened
+    → HasLoggedClosing IsLater old.me left.hand.me → left.hand.table_id ≡ table → length old.me.0.here ≡ length opened → 0 < length opened
     → ArePairsLeft old.me.0.here left.pairs.items → IsLeftAt table opened left
 left_at table opened seen rest old left none logs closed same count some pairs =
     let new = left.hand in
@@ -95,7 +95,7 @@ left_at table opened seen rest old left none logs closed same count some pairs =
     }
 
 -- A hand with all seats has also seen what the caller had.
-module _ (shared : Shared) (hand : Hand) (can : CanEmpty shared hand) (since : Receipt) (other heard : Hand) (observes : HasObserved shared since other)
+module _ (shared : Shared) (hand : SeatHand) (can : CanEmpty shared hand) (since : Receipt) (other heard : SeatHand) (observes : HasObserved shared since other)
     (hears : heard.me ≡ (observing hand.me.0 other.me.0, hand.me.1)) where
   logs : heard.me.0.logs ≡ known shared.log.shared.key.items can.log ∷ (can.rest ++ other.me.0.logs)
   logs = ap (λ m. m.0.logs) hears ∙ ap (λ m. m.0.logs ++ other.me.0.logs) can.me
@@ -114,7 +114,7 @@ module _ (shared : Shared) (hand : Hand) (can : CanEmpty shared hand) (since : R
   none : heard.me.1 ≡ []
   none = ap (λ m. m.1) hears ∙ ap (λ m. m.1) can.me
 
-  module _ (new note : Hand) (same_heard : heard.table_id ≡ hand.table_id) (same : new.table_id ≡ heard.table_id) (emptied : HasEmptied IsLater heard.me new.me)
+  module _ (new note : SeatHand) (same_heard : heard.table_id ≡ hand.table_id) (same : new.table_id ≡ heard.table_id) (emptied : HasLoggedEmptying IsLater heard.me new.me)
       (noted : note.table_id ≡ new.table_id) (me : note.me ≡ (receipt new.me.0.logs, [])) where
     pub no_slots : note.me.1 ≡ []
     no_slots = ap (λ m. m.1) me
@@ -137,7 +137,7 @@ module _ (shared : Shared) (hand : Hand) (can : CanEmpty shared hand) (since : R
         }
 
 -- What has the seats of all slots can close the tree.
-pub can_empty : (shared : Shared) (many : ℕ) (hand : Hand) → many ≡ length shared.slots.items → HasBelow shared.log.shared.table_id shared.log.shared.key.items many hand
+pub can_empty : (shared : Shared) (many : ℕ) (hand : SeatHand) → many ≡ length shared.slots.items → HasBelow shared.log.shared.table_id shared.log.shared.key.items many hand
     → CanEmpty shared hand
 can_empty shared many hand is it = record {
   log = it.has.log;
@@ -170,7 +170,7 @@ module _ (shared : Shared) (left : LeftPairs) (it : IsLeftAt shared.log.shared.t
   }
 
   -- The pairs wait on: the log is as it was when they were left.
-  module _ (since : Receipt) (other heard again kept note : Hand) (put : LeftPairs) (observes : HasObserved shared since other) (hears : heard.me ≡ (
+  module _ (since : Receipt) (other heard again kept note : SeatHand) (put : LeftPairs) (observes : HasObserved shared since other) (hears : heard.me ≡ (
     observing
         left.hand.me.0 other.me.0,
     left.hand.me.1,
@@ -184,8 +184,8 @@ module _ (shared : Shared) (left : LeftPairs) (it : IsLeftAt shared.log.shared.t
     all_logs : heard.me.0.logs ≡ (known seats it.log ∷ []) ++ other.me.0.logs
     all_logs = ap (λ m. m.0.logs) hears ∙ ap (λ m. m.0.logs ++ other.me.0.logs) it.me
 
-    goes : GoesOn recalled.opened recalled.log ((known seats it.log ∷ []) ++ other.me.0.logs)
-    goes = subst (GoesOn recalled.opened recalled.log) all_logs recalled.seen
+    goes : ExtendsAll recalled.opened recalled.log ((known seats it.log ∷ []) ++ other.me.0.logs)
+    goes = subst (ExtendsAll recalled.opened recalled.log) all_logs recalled.seen
 
     opened_is : recalled.opened ≡ seats
     opened_is = sym goes.0.0
@@ -231,7 +231,7 @@ module _ (shared : Shared) (left : LeftPairs) (it : IsLeftAt shared.log.shared.t
     is_kept = record {
       log = it.log;
       behind = λ old is. subst (λ l. BeganAs l old) log_is
-          (subst (GoesOn recalled.opened recalled.log) (observes.sees old is) (second_of_both recalled.opened recalled.log (known seats it.log ∷ []) other.me.0.logs goes)).0.1;
+          (subst (ExtendsAll recalled.opened recalled.log) (observes.sees old is) (second_of_both recalled.opened recalled.log (known seats it.log ∷ []) other.me.0.logs goes)).0.1;
       table = noted ∙ same ∙ same_heard ∙ it.table;
       me = me ∙ ap (λ m. (receipt m.0.logs, [])) again_is;
       legal = it.legal;
@@ -239,7 +239,7 @@ module _ (shared : Shared) (left : LeftPairs) (it : IsLeftAt shared.log.shared.t
       pairs = it.pairs;
     }
 
-  pub has_more : (kept : Option Shared) (since told : Receipt) (note : Hand) (room count : ℕ) → kept ≡ Some shared → IsKept shared left since note
+  pub has_more : (kept : Option Shared) (since told : Receipt) (note : SeatHand) (room count : ℕ) → kept ≡ Some shared → IsKept shared left since note
       → told.table_id ≡ note.table_id → told.views ≡ note.me.0 ∷ [] → count ≡ length left.pairs.items → room < length left.pairs.items → HasMore kept since told room count
   has_more kept since told note room count is waits table views many more = subst (λ k. HasMore k since told room count) (sym is) (record {
     log = waits.log;
@@ -252,13 +252,13 @@ module _ (shared : Shared) (left : LeftPairs) (it : IsLeftAt shared.log.shared.t
     more = more;
   })
 
-  pub handed : (since told : Receipt) (hand : Hand) → hand ≡ left.hand → IsForgotten shared hand.me.0.here since told → IsHandedOver shared left.pairs.items since told
+  pub handed : (since told : Receipt) (hand : SeatHand) → hand ≡ left.hand → IsForgotten shared hand.me.0.here since told → IsHandedOver shared left.pairs.items since told
   handed since told hand same gone = record {
     log = gone.by.log;
     behind = gone.by.behind;
     seen = gone.by.seen;
     stage = gone.by.stage;
-    left = subst (λ xs. ArePairsLeft xs left.pairs.items) (sym (gone.left ∙ ap (λ (h : Hand). h.me.0.here) same ∙ ap (λ m. m.0.here) it.me)) it.pairs;
+    left = subst (λ xs. ArePairsLeft xs left.pairs.items) (sym (gone.left ∙ ap (λ (h : SeatHand). h.me.0.here) same ∙ ap (λ m. m.0.here) it.me)) it.pairs;
   }
 
   pub hands_over : (kept : Option Shared) (since told : Receipt) (count : ℕ) (written : List Pair) → kept ≡ Some shared → IsHandedOver shared left.pairs.items since told

@@ -7,7 +7,7 @@ use Rattle.atomic_table.specs.Seated.{TableId}
 use Rattle.call_log.specs.Rule.{known}
 use Rattle.call_log.specs.Steps.{Adjoins, both}
 use Rattle.running_tree.specs.Seats.{Seat}
-use Rattle.bw_tree_c.specs.Hands.{AreSlotsOf, Hand, HasBelow, HasLater, IsHandOf, IsSlotOf, here_of, opened_of}
+use Rattle.bw_tree_c.specs.Hands.{AreSlotsOf, HasBelow, HasLater, IsHandOf, IsSlotOf, SeatHand, here_of, opened_of}
 use Rattle.bw_tree_c.specs.Places.{IsKin}
 use Rattle.bw_tree_c.specs.declared.place.Place.{Place}
 
@@ -35,7 +35,7 @@ pushed_at P [] last all one (suc n) x e = cc
 pushed_at P (first ∷ xs) last all one zero x e = all zero x e
 pushed_at P (first ∷ xs) last all one (suc n) x e = pushed_at (λ m y. P (suc m) y) xs last (λ m y h. all (suc m) y h) one n x e
 
-module _ (table : TableId) (opened : List Seat) (slots others : List Hand) (slot : Hand) (is : slots ≡ others ++ slot ∷ []) (own : AreSlotsOf table opened slots) where
+module _ (table : TableId) (opened : List Seat) (slots others : List SeatHand) (slot : SeatHand) (is : slots ≡ others ++ slot ∷ []) (own : AreSlotsOf table opened slots) where
   pub others_of : AreSlotsOf table opened others
   others_of n it at = own n it (subst (λ xs. slice_get xs n ≡ Some it) (sym is) (stays others (slot ∷ []) n it at))
 
@@ -52,7 +52,7 @@ module _ (table : TableId) (opened : List Seat) (slots others : List Hand) (slot
         (subst (λ o. IsHandOf table o slot.me.0.first place.seat place.hand) last_of.opened
         (subst (λ t. IsHandOf t (opened_of slot) slot.me.0.first place.seat place.hand) last_of.table kin.hand))
 
-    pub one_here : (hand : Hand) → hand ≡ place.hand → hand.me.0.here ≡ place.seat ∷ []
+    pub one_here : (hand : SeatHand) → hand ≡ place.hand → hand.me.0.here ≡ place.seat ∷ []
     one_here hand same = ap (λ x. x.me.0.here) same ∙ ap (λ m. m.0.here) last_hand.me
 
     pub last_later : HasLater opened (length others) place.seat
@@ -61,21 +61,21 @@ module _ (table : TableId) (opened : List Seat) (slots others : List Hand) (slot
     pub first_is : place.hand.me.0.first ≡ length others
     first_is = ap (λ m. m.0.first) last_hand.me
 
-    pub some_hand : (hand : Hand) → hand ≡ place.hand → (seat : Seat) × IsHandOf table opened hand.me.0.first seat hand
+    pub some_hand : (hand : SeatHand) → hand ≡ place.hand → (seat : Seat) × IsHandOf table opened hand.me.0.first seat hand
     some_hand hand same = (
       place.seat,
       subst (λ h. IsHandOf table opened h.me.0.first place.seat h) (sym same)
           (subst (λ n. IsHandOf table opened n place.seat place.hand) (sym first_is) last_hand),
     )
 
-    pub below_it : (hand : Hand) → hand ≡ place.hand → (others' : Option Hand) → MatchOption others' (length others ≡ 0) (HasBelow table opened (length others))
+    pub below_it : (hand : SeatHand) → hand ≡ place.hand → (others' : Option SeatHand) → MatchOption others' (length others ≡ 0) (HasBelow table opened (length others))
         → MatchOption others' (hand.me.0.first ≡ 0) (HasBelow table opened hand.me.0.first)
     below_it hand same others' h = subst (λ n. MatchOption others' (n ≡ 0) (HasBelow table opened n)) (sym (ap (λ x. x.me.0.first) same ∙ first_is)) h
 
-    pub all_of_them : (hand all : Hand) → hand ≡ place.hand → HasBelow table opened (hand.me.0.first + 1) all → HasBelow table opened (length slots) all
+    pub all_of_them : (hand all : SeatHand) → hand ≡ place.hand → HasBelow table opened (hand.me.0.first + 1) all → HasBelow table opened (length slots) all
     all_of_them hand all same h = subst (λ n. HasBelow table opened n all) (ap (λ n. n + 1) (ap (λ x. x.me.0.first) same ∙ first_is) ∙ sym one_more) h
 
-module _ (table : TableId) (opened : List Seat) (n : ℕ) (all hand : Hand) (below : HasBelow table opened n all) (seat : Seat) (it : IsHandOf table opened n seat hand) where
+module _ (table : TableId) (opened : List Seat) (n : ℕ) (all hand : SeatHand) (below : HasBelow table opened n all) (seat : Seat) (it : IsHandOf table opened n seat hand) where
   pub behind : Adjoins all.me.0 hand.me.0
   behind = (
     let a = ap (λ m. m.0.first) it.me in let b = below.count in let c = ap (λ m. m.0.first) below.has.me in let d = ap (λ m. length m.0.here) below.has.me in
@@ -83,7 +83,7 @@ module _ (table : TableId) (opened : List Seat) (n : ℕ) (all hand : Hand) (bel
     ap (λ m. m.0.stage) it.me ∙ sym (ap (λ m. m.0.stage) below.has.me),
   )
 
-  pub joined_below : (new : Hand) → new.table_id ≡ all.table_id → new.me ≡ (both all.me.0 hand.me.0, all.me.1) → HasBelow table opened (n + 1) new
+  pub joined_below : (new : SeatHand) → new.table_id ≡ all.table_id → new.me ≡ (both all.me.0 hand.me.0, all.me.1) → HasBelow table opened (n + 1) new
   joined_below new table_is me = record {
     seats = below.seats ++ seat ∷ [];
     has = record {
@@ -96,7 +96,7 @@ module _ (table : TableId) (opened : List Seat) (n : ℕ) (all hand : Hand) (bel
     some = omega arith;
   }
 
-pub alone_below : (table : TableId) (opened : List Seat) (n : ℕ) (hand : Hand) (seat : Seat) → n ≡ 0 → IsHandOf table opened n seat hand → HasBelow table opened (n + 1) hand
+pub alone_below : (table : TableId) (opened : List Seat) (n : ℕ) (hand : SeatHand) (seat : Seat) → n ≡ 0 → IsHandOf table opened n seat hand → HasBelow table opened (n + 1) hand
 alone_below table opened n hand seat none it = record {
   seats = seat ∷ [];
   has = subst (λ k. IsHandOf table opened k seat hand) none it;

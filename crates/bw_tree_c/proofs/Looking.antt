@@ -4,12 +4,12 @@ use Rattle.std.specs.Prelude.{slice_set}
 use Rattle.call_log.specs.declared.log.Event.{Event}
 use Rattle.call_log.specs.declared.log.Event.TheVariants.{Called, Closed, Emptied}
 use Rattle.call_log.specs.Logs.{IsLog, stage_of}
-use Rattle.call_log.specs.Rule.{known, receipt}
-use Rattle.call_log.specs.Steps.{GoesOn, HasLooked, HasRecalled, observing}
+use Rattle.call_log.specs.Rule.{ExtendsAll, known, receipt}
+use Rattle.call_log.specs.Steps.{HasLooked, HasRecalled, observing}
 use Rattle.call_log.proofs.Logs.{second_of_both}
 use Rattle.running_tree.specs.Seats.{Seat}
 use Rattle.bw_tree_c.specs.Closing.{IsAtStage, IsInUse, IsVacant}
-use Rattle.bw_tree_c.specs.Hands.{Hand}
+use Rattle.bw_tree_c.specs.Hands.{SeatHand}
 use Rattle.bw_tree_c.specs.Places.{HasObserved}
 use Rattle.bw_tree_c.specs.Seats.{IsLater}
 use Rattle.bw_tree_c.specs.declared.receipt.Receipt.{Receipt}
@@ -23,7 +23,7 @@ stage_most opened (Closed ∷ log) (inr e) = subst (λ l. suc (length l) ≤ 2) 
 stage_most opened (Emptied ∷ log) h = omega arith
 
 -- A note has seen the log as it is, and what the caller had seen before.
-module _ (shared : Shared) (since : Receipt) (other note heard again : Hand) (first found : ℕ) (looked : HasLooked IsLater shared.log.shared.key.items first note.me)
+module _ (shared : Shared) (since : Receipt) (other note heard again : SeatHand) (first found : ℕ) (looked : HasLooked IsLater shared.log.shared.key.items first note.me)
     (observes : HasObserved shared since other) (hears : heard.me ≡ (observing note.me.0 other.me.0, note.me.1)) (recalled : HasRecalled IsLater heard.me found again.me) where
   abbrev seats : List Seat
   seats = shared.log.shared.key.items
@@ -31,8 +31,8 @@ module _ (shared : Shared) (since : Receipt) (other note heard again : Hand) (fi
   logs : heard.me.0.logs ≡ (known seats looked.log ∷ []) ++ other.me.0.logs
   logs = ap (λ m. m.0.logs) hears ∙ ap (λ m. m.0.logs ++ other.me.0.logs) looked.now
 
-  seen : GoesOn recalled.opened recalled.log ((known seats looked.log ∷ []) ++ other.me.0.logs)
-  seen = subst (GoesOn recalled.opened recalled.log) logs recalled.seen
+  seen : ExtendsAll recalled.opened recalled.log ((known seats looked.log ∷ []) ++ other.me.0.logs)
+  seen = subst (ExtendsAll recalled.opened recalled.log) logs recalled.seen
 
   opened_is : recalled.opened ≡ seats
   opened_is = sym seen.0.0
@@ -52,7 +52,7 @@ module _ (shared : Shared) (since : Receipt) (other note heard again : Hand) (fi
     at_stage : IsAtStage shared found since it
     at_stage = record {
       log = recalled.log;
-      behind = λ old is. (subst (GoesOn recalled.opened recalled.log) (observes.sees old is)
+      behind = λ old is. (subst (ExtendsAll recalled.opened recalled.log) (observes.sees old is)
           (second_of_both recalled.opened recalled.log (known seats looked.log ∷ []) other.me.0.logs seen)).0.1;
       seen = record { table = same ∙ same_again ∙ same_heard ∙ table; view = views ∙ ap (λ m. m.0 ∷ []) again_is; legal = legal };
       stage = sym recalled.stage;

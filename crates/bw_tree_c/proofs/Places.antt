@@ -3,10 +3,10 @@ use Rattle.std.proofs.Common.{◌≡◌, ◌++◌, ◌∷◌, ◌∙◌, ℕ, Li
 use Rattle.std.specs.Prelude.{slice_get}
 use Rattle.call_log.specs.declared.log.Event.{Event}
 use Rattle.call_log.specs.declared.log.Event.TheVariants.{Called}
-use Rattle.call_log.specs.Steps.{GoesOn}
+use Rattle.call_log.specs.Rule.{ExtendsAll}
 use Rattle.running_tree.specs.Seats.{Seat}
 use Rattle.bw_tree_c.specs.Handles.{HasSeenLog, IsReceipt, IsSince, OnSeat}
-use Rattle.bw_tree_c.specs.Hands.{Hand, HasLater, IsHandOf, IsSlotOf, opened_of}
+use Rattle.bw_tree_c.specs.Hands.{HasLater, IsHandOf, IsSlotOf, SeatHand, opened_of}
 use Rattle.bw_tree_c.specs.Places.{CanFinish, CanWriteSeat, HasObserved, IsFinished, IsKin, IsWritten}
 use Rattle.bw_tree_c.specs.Seats.{IsLater}
 use Rattle.bw_tree_c.specs.declared.place.Place.{Place}
@@ -20,18 +20,18 @@ first_or seat [] = seat
 first_or seat (x ∷ xs) = x
 
 -- a hand of a slot is one of the handle that the slot is of
-pub hand_in : (shared : Shared) (slot : Hand) (number : ℕ) (seat : Seat) (hand : Hand) → slot.table_id ≡ shared.log.shared.table_id → opened_of slot ≡ shared.log.shared.key.items
+pub hand_in : (shared : Shared) (slot : SeatHand) (number : ℕ) (seat : Seat) (hand : SeatHand) → slot.table_id ≡ shared.log.shared.table_id → opened_of slot ≡ shared.log.shared.key.items
     → IsHandOf slot.table_id (opened_of slot) number seat hand → IsHandOf shared.log.shared.table_id shared.log.shared.key.items number seat hand
 hand_in shared slot number seat hand table is it =
     subst (λ t. IsHandOf t shared.log.shared.key.items number seat hand) table (subst (λ o. IsHandOf slot.table_id o number seat hand) is it)
 
-pub hand_out : (shared : Shared) (slot : Hand) (number : ℕ) (seat : Seat) (hand : Hand) → slot.table_id ≡ shared.log.shared.table_id → opened_of slot ≡ shared.log.shared.key.items
+pub hand_out : (shared : Shared) (slot : SeatHand) (number : ℕ) (seat : Seat) (hand : SeatHand) → slot.table_id ≡ shared.log.shared.table_id → opened_of slot ≡ shared.log.shared.key.items
     → IsHandOf shared.log.shared.table_id shared.log.shared.key.items number seat hand → IsHandOf slot.table_id (opened_of slot) number seat hand
 hand_out shared slot number seat hand table is it =
     subst (λ t. IsHandOf t (opened_of slot) number seat hand) (sym table) (subst (λ o. IsHandOf shared.log.shared.table_id o number seat hand) (sym is) it)
 
 -- A place whose seat went on is written of.
-module _ (shared : Shared) (slot : Hand) (place lent : Place) (lends : lent ≡ place) (can : CanFinish shared slot place) where
+module _ (shared : Shared) (slot : SeatHand) (place lent : Place) (lends : lent ≡ place) (can : CanFinish shared slot place) where
   lent_hand : IsHandOf slot.table_id (opened_of slot) slot.me.0.first can.before lent.hand
   lent_hand = subst (λ p. IsHandOf slot.table_id (opened_of slot) slot.me.0.first can.before p.hand) (sym lends) can.hand
 
@@ -46,7 +46,7 @@ module _ (shared : Shared) (slot : Hand) (place lent : Place) (lends : lent ≡ 
   number_is : lent.hand.me.0.first ≡ slot.me.0.first
   number_is = ap (λ m. m.0.first) lent_hand.me
 
-  module _ (since : Receipt) (heard : Hand) (hears : HasObserved shared since heard) (next : Place) (note : Hand) (wrote : IsWritten shared heard.me.0.logs lent next note) where
+  module _ (since : Receipt) (heard : SeatHand) (hears : HasObserved shared since heard) (next : Place) (note : SeatHand) (wrote : IsWritten shared heard.me.0.logs lent next note) where
     pub kin_after : next.seat ≡ lent.seat → IsKin slot next
     kin_after is = record {
       hand = subst (λ s. IsHandOf slot.table_id (opened_of slot) slot.me.0.first s next.hand) (sym is)
@@ -66,7 +66,7 @@ module _ (shared : Shared) (slot : Hand) (place lent : Place) (lends : lent ≡ 
     pub finished : (told : Told) → told.receipt.table_id ≡ note.table_id → told.receipt.views ≡ note.me.0 ∷ [] → IsFinished shared slot place since told.receipt
     finished told table view = record {
       log = wrote.log;
-      behind = λ it is. (subst (GoesOn shared.log.shared.key.items wrote.log) (hears.sees it is) wrote.behind).0.1;
+      behind = λ it is. (subst (ExtendsAll shared.log.shared.key.items wrote.log) (hears.sees it is) wrote.behind).0.1;
       before = wrote.before;
       found = subst (λ p. p.hand.me.0.here ≡ wrote.before ∷ []) lends wrote.found;
       seen = subst (λ p. HasSeenLog shared (wrote.log ++ Called slot.me.0.first wrote.before p.seat ∷ []) told.receipt) lends
@@ -78,7 +78,7 @@ module _ (shared : Shared) (slot : Hand) (place lent : Place) (lends : lent ≡ 
     }
 
 -- A place is taken out of its slot and lent, and its seat goes on.
-module _ (shared : Shared) (number : ℕ) (slot : Hand) (at : slice_get shared.slots.items number ≡ Some slot) where
+module _ (shared : Shared) (number : ℕ) (slot : SeatHand) (at : slice_get shared.slots.items number ≡ Some slot) where
   is_slot : IsSlotOf shared.log.shared.table_id shared.log.shared.key.items number slot
   is_slot = shared.own number slot at
 

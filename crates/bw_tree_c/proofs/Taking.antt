@@ -4,13 +4,13 @@ use Rattle.std.specs.Prelude.{MatchOption, Option, slice_get}
 use Rattle.std.specs.Arc.{arc_value}
 use Rattle.std.proofs.lemmas.Option.{same_Some}
 use Rattle.atomic_table.specs.Seated.{TableId}
-use Rattle.call_log.specs.Steps.{CanEnd, HasClosed}
+use Rattle.call_log.specs.Steps.{CanEnd, HasLoggedClosing}
 use Rattle.tree_limits.specs.declared.limits.Limits.{Limits}
 use Rattle.running_tree.specs.Seats.{Seat, unfinished_command}
 use Rattle.running_tree.specs.Trees.{AreClosed, AreSeatsOf, IsSeatOf, Tree}
 use Rattle.seats.specs.Idle.{AreIdle}
 use Rattle.seats.proofs.Pushed.{all_pushed, one_longer}
-use Rattle.bw_tree_c.specs.Hands.{Hand, HasBelow, HasLater, here_of}
+use Rattle.bw_tree_c.specs.Hands.{HasBelow, HasLater, SeatHand, here_of}
 use Rattle.bw_tree_c.specs.Left.{ArePairsLeft, AreTaken, HaveOneTree, IsLeftAt}
 use Rattle.bw_tree_c.specs.Seats.{IsLater}
 use Rattle.bw_tree_c.specs.declared.ending.Out.{Out}
@@ -30,7 +30,7 @@ some_there [] n x e = cc
 some_there (y ∷ xs) n x e = omega arith
 
 -- the seats of the slots before one
-pub record AreHad (table : TableId) (opened : List Seat) (many : ℕ) (seats : List Seat) (o : Option Hand) : Type 0 where
+pub record AreHad (table : TableId) (opened : List Seat) (many : ℕ) (seats : List Seat) (o : Option SeatHand) : Type 0 where
   pub long : length seats ≡ many
   pub idle : AreIdle seats
   pub later : (n : ℕ) (seat : Seat) → slice_get seats n ≡ Some seat → HasLater opened n seat
@@ -47,7 +47,7 @@ module _ (table : TableId) (opened : List Seat) (many : ℕ) (seats : List Seat)
     here = refl;
   })
 
-  some_had : (tree : Tree) (hand : Hand) → AreTaken table opened many tree seats hand → AreHad table opened many seats (Some hand)
+  some_had : (tree : Tree) (hand : SeatHand) → AreTaken table opened many tree seats hand → AreHad table opened many seats (Some hand)
   some_had tree hand t = record {
     long = ap length (sym t.here ∙ ap (λ m. m.0.here) t.all.has.me) ∙ t.all.count;
     idle = t.idle;
@@ -56,7 +56,7 @@ module _ (table : TableId) (opened : List Seat) (many : ℕ) (seats : List Seat)
     here = t.here;
   }
 
-  pub had : (found : Option Out) (o : Option Hand) → MatchOption found ((many ≡ 0) × (seats ≡ [])) (λ out. AreTaken table opened many (arc_value out.share) seats out.hand)
+  pub had : (found : Option Out) (o : Option SeatHand) → MatchOption found ((many ≡ 0) × (seats ≡ [])) (λ out. AreTaken table opened many (arc_value out.share) seats out.hand)
       → MatchOption found (o ≡ None) (λ out. o ≡ Some out.hand) → AreHad table opened many seats o
   had None o h is = subst (AreHad table opened many seats) (sym is) (none_had h.0 (sym h.1))
   had (Some out) o h is = subst (AreHad table opened many seats) (sym is) (some_had (arc_value out.share) out.hand h)
@@ -65,14 +65,14 @@ module _ (table : TableId) (opened : List Seat) (many : ℕ) (seats : List Seat)
   long_of None h = ap length h.1 ∙ sym h.0
   long_of (Some out) h = (some_had (arc_value out.share) out.hand h).long
 
-  pub taken_of : (found : Option Out) (out : Out) (tree : Tree) (hand : Hand) → found ≡ Some out → arc_value out.share ≡ tree → out.hand ≡ hand
+  pub taken_of : (found : Option Out) (out : Out) (tree : Tree) (hand : SeatHand) → found ≡ Some out → arc_value out.share ≡ tree → out.hand ≡ hand
       → MatchOption found ((many ≡ 0) × (seats ≡ [])) (λ o. AreTaken table opened many (arc_value o.share) seats o.hand) → AreTaken table opened many tree seats hand
   taken_of found out tree hand is same_tree same_hand h = subst (AreTaken table opened many tree seats) same_hand
       (subst (λ t. AreTaken table opened many t seats out.hand) same_tree
       (some_case ((many ≡ 0) × (seats ≡ [])) (λ (o : Out). AreTaken table opened many (arc_value o.share) seats o.hand) found out is h))
 
   -- one slot more
-  pub taken_one : (o : Option Hand) → AreHad table opened many seats o → (count : ℕ) (tree : Tree) (new : List Seat) (seat : Seat) (hand all : Hand) → new ≡ seats ++ seat ∷ []
+  pub taken_one : (o : Option SeatHand) → AreHad table opened many seats o → (count : ℕ) (tree : Tree) (new : List Seat) (seat : Seat) (hand all : SeatHand) → new ≡ seats ++ seat ∷ []
       → HasLater opened many seat → IsSeatOf tree seat → unfinished_command seat ≡ None → hand.me.0.here ≡ seat ∷ [] → HasBelow table opened count all
       → all.me.0.here ≡ here_of o ++ hand.me.0.here → AreTaken table opened count tree new all
   taken_one o h count tree new seat hand all is later own rests one below here = subst (λ xs. AreTaken table opened count tree xs all) (sym is) (record {
@@ -84,7 +84,7 @@ module _ (table : TableId) (opened : List Seat) (many : ℕ) (seats : List Seat)
   })
 
 -- all seats of a handle were taken out
-module _ (limits : Limits) (table : TableId) (opened : List Seat) (count : ℕ) (tree : Tree) (seats : List Seat) (hand : Hand) (one : HaveOneTree limits opened)
+module _ (limits : Limits) (table : TableId) (opened : List Seat) (count : ℕ) (tree : Tree) (seats : List Seat) (hand : SeatHand) (one : HaveOneTree limits opened)
     (taken : AreTaken table opened count tree seats hand) (many : count ≡ length opened) where
   first_limits : (n : ℕ) (seat : Seat) → slice_get seats n ≡ Some seat → seat.limits ≡ limits
   first_limits n seat at = let it = taken.later n seat at in it.later.same.limits ∙ one.each n it.first it.at
@@ -127,7 +127,7 @@ module _ (limits : Limits) (table : TableId) (opened : List Seat) (count : ℕ) 
     closed = subst (λ (l : Limits). AreClosed l seats pairs) limits_are closed;
   })
 
-  pub leaves : (left : LeftPairs) → left.hand.table_id ≡ hand.table_id → HasClosed IsLater hand.me left.hand.me → AreClosed tree.limits seats left.pairs.items → IsLeftAt table opened left
+  pub leaves : (left : LeftPairs) → left.hand.table_id ≡ hand.table_id → HasLoggedClosing IsLater hand.me left.hand.me → AreClosed tree.limits seats left.pairs.items → IsLeftAt table opened left
   leaves left same closed pairs =
       left_at table opened taken.all.has.log taken.all.has.rest hand left (ap (λ m. m.1) taken.all.has.me) (ap (λ m. m.0.logs) taken.all.has.me) closed (same ∙ taken.all.has.table)
       (ap length taken.here ∙ long) some (are_left left.pairs.items pairs)

@@ -5,7 +5,7 @@ use Rattle.call_log.specs.declared.log.Known.{Known}
 use Rattle.call_log.specs.Logs.{IsLog, seats_after, stage_of}
 use Rattle.call_log.specs.Rule.{known, receipt}
 use Rattle.running_tree.specs.Seats.{Seat}
-use Rattle.bw_tree_c.specs.Hands.{Hand}
+use Rattle.bw_tree_c.specs.Hands.{SeatHand}
 use Rattle.bw_tree_c.specs.Handles.{HasSeenLog, IsBehind, IsReceipt, IsSince}
 use Rattle.bw_tree_c.specs.Left.{ArePairsLeft}
 use Rattle.bw_tree_c.specs.Seats.{IsLater}
@@ -36,7 +36,7 @@ pub record IsForgotten (shared : Shared) (seats : List Seat) (since it : Receipt
   pub left : seats_after shared.log.shared.key.items by.log ≡ seats
 
 -- The hand has all seats of the handle, which nobody had taken for good or whose pairs wait.
-pub record CanEmpty (shared : Shared) (hand : Hand) : Type 0 where
+pub record CanEmpty (shared : Shared) (hand : SeatHand) : Type 0 where
   pub log : List (Event Seat)
   pub rest : List (Known Seat)
   pub seats : List Seat
@@ -61,7 +61,7 @@ pub record IsHandedOver (shared : Shared) (pairs : List (List ℕ × List ℕ)) 
   pub left : ArePairsLeft (seats_after shared.log.shared.key.items log) pairs
 
 -- The pairs wait, as the log still has it, and so has the note, which has seen all that the caller had.
-pub record IsKept (shared : Shared) (left : LeftPairs) (since : Receipt) (note : Hand) : Type 0 where
+pub record IsKept (shared : Shared) (left : LeftPairs) (since : Receipt) (note : SeatHand) : Type 0 where
   pub log : List (Event Seat)
   pub behind : IsBehind shared since log
   pub table : note.table_id ≡ shared.log.shared.table_id

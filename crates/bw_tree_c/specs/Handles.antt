@@ -5,7 +5,7 @@ use Rattle.call_log.specs.declared.log.Event.TheVariants.{Called}
 use Rattle.call_log.specs.Logs.{BeganAs, IsLog}
 use Rattle.call_log.specs.Rule.{known, receipt}
 use Rattle.running_tree.specs.Seats.{Seat}
-use Rattle.bw_tree_c.specs.Hands.{Hand}
+use Rattle.bw_tree_c.specs.Hands.{SeatHand}
 use Rattle.bw_tree_c.specs.Refused.{IsPassing}
 use Rattle.bw_tree_c.specs.Seats.{IsLater}
 use Rattle.bw_tree_c.specs.Statuses.{status_of_refusal}
@@ -16,11 +16,11 @@ use Rattle.bw_tree_c.specs.declared.refusal.Refusal.TheVariants.{Closed, NoSeat}
 use Rattle.bw_tree_c.specs.declared.shared.Shared.{Shared}
 
 -- The slot of this number.
-abbrev pub HasSlot : Option Shared → ℕ → Hand → Type 0
+abbrev pub HasSlot : Option Shared → ℕ → SeatHand → Type 0
 HasSlot None number slot = ⊥
 HasSlot (Some shared) number slot = slice_get shared.slots.items number ≡ Some slot
 
-abbrev pub IsReason : Option Hand → Refusal → Type 0
+abbrev pub IsReason : Option SeatHand → Refusal → Type 0
 IsReason None refusal = refusal ≡ NoSeat
 IsReason (Some slot) refusal = IsPassing refusal
 

@@ -9,7 +9,7 @@ use Rattle.tree_limits.specs.declared.limits.Limits.{Limits}
 use Rattle.running_tree.specs.Seats.{Seat}
 use Rattle.running_tree.specs.Trees.{AreClosed, IsSeatOf, Tree}
 use Rattle.seats.specs.Idle.{AreIdle}
-use Rattle.bw_tree_c.specs.Hands.{Hand, HasBelow, HasLater, opened_of}
+use Rattle.bw_tree_c.specs.Hands.{HasBelow, HasLater, SeatHand, opened_of}
 use Rattle.bw_tree_c.specs.Seats.{IsLater}
 use Rattle.bw_tree_c.specs.declared.left.LeftPairs.{LeftPairs}
 use Rattle.bw_tree_c.specs.declared.left.Waiting.{Waiting}
@@ -42,18 +42,18 @@ pub record IsLeftAt (which : TableId) (opened : List Seat) (left : LeftPairs) : 
   pub some : 0 < length opened
   pub pairs : ArePairsLeft (seats_after opened log) left.pairs.items
 
-abbrev pub IsLeft : Hand → LeftPairs → Type 0
+abbrev pub IsLeft : SeatHand → LeftPairs → Type 0
 IsLeft slot left = IsLeftAt slot.table_id (opened_of slot) left
 
 -- What waits in the slot is what the tree of the slot's handle left, once its receipt is a hand again.
-pub record WaitsIn (slot : Hand) (waiting : Waiting) : Type 0 where
+pub record WaitsIn (slot : SeatHand) (waiting : Waiting) : Type 0 where
   pub view : Knows Seat
   pub table : waiting.hand.table_id ≡ slot.table_id
   pub is : waiting.hand.views ≡ view ∷ []
-  pub left : (hand : Hand) → hand.table_id ≡ slot.table_id → hand.me ≡ (view, []) → IsLeft slot (record { pairs = waiting.pairs; hand = hand })
+  pub left : (hand : SeatHand) → hand.table_id ≡ slot.table_id → hand.me ≡ (view, []) → IsLeft slot (record { pairs = waiting.pairs; hand = hand })
 
 -- Seats that were taken out of slots: the hand has them, none has an operation, and each has gone on since the tree was opened.
-pub record AreTaken (table : TableId) (opened : List Seat) (count : ℕ) (tree : Tree) (seats : List Seat) (hand : Hand) : Type 0 where
+pub record AreTaken (table : TableId) (opened : List Seat) (count : ℕ) (tree : Tree) (seats : List Seat) (hand : SeatHand) : Type 0 where
   pub all : HasBelow table opened count hand
   pub here : hand.me.0.here ≡ seats
   pub idle : AreIdle seats

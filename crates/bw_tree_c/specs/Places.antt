@@ -7,19 +7,19 @@ use Rattle.call_log.specs.Hands.{CanWrite, HasWritten}
 use Rattle.call_log.specs.Rule.{known}
 use Rattle.running_tree.specs.Seats.{Seat}
 use Rattle.bw_tree_c.specs.Handles.{HasSeenLog, IsBehind}
-use Rattle.bw_tree_c.specs.Hands.{Hand, HasLater, IsHandOf, opened_of}
+use Rattle.bw_tree_c.specs.Hands.{HasLater, IsHandOf, SeatHand, opened_of}
 use Rattle.bw_tree_c.specs.Seats.{IsLater}
 use Rattle.bw_tree_c.specs.declared.place.Place.{Place}
 use Rattle.bw_tree_c.specs.declared.receipt.Receipt.{Receipt}
 use Rattle.bw_tree_c.specs.declared.shared.Shared.{Shared}
 
 -- The place has the slot's seat, as the log has it.
-pub record IsKin (slot : Hand) (place : Place) : Type 0 where
+pub record IsKin (slot : SeatHand) (place : Place) : Type 0 where
   pub hand : IsHandOf slot.table_id (opened_of slot) slot.me.0.first place.seat place.hand
   pub later : HasLater (opened_of slot) slot.me.0.first place.seat
 
 -- The slot is the handle's, and the place has its seat, which went on from the one that the log has.
-pub record CanFinish (shared : Shared) (slot : Hand) (place : Place) : Type 0 where
+pub record CanFinish (shared : Shared) (slot : SeatHand) (place : Place) : Type 0 where
   pub table : slot.table_id ≡ shared.log.shared.table_id
   pub opened : opened_of slot ≡ shared.log.shared.key.items
   pub before : Seat
@@ -31,17 +31,17 @@ abbrev pub CanWriteSeat : Shared → Place → Type 0
 CanWriteSeat shared place = CanWrite IsLater shared.log.shared.table_id shared.log.shared.key.items place.seat place.hand
 
 -- The hand is of this handle's log, and has seen all that the receipt has, if that is of this log too.
-pub record HasObserved (shared : Shared) (since : Receipt) (hand : Hand) : Type 0 where
+pub record HasObserved (shared : Shared) (since : Receipt) (hand : SeatHand) : Type 0 where
   pub table : hand.table_id ≡ shared.log.shared.table_id
   pub none : hand.me.1 ≡ []
   pub sees : (seen : List (Event Seat)) → HasSeenLog shared seen since → hand.me.0.logs ≡ known shared.log.shared.key.items seen ∷ []
 
 -- The call is in the log, behind what had been seen: it found the seat as the log had it, and left it as it is.
-abbrev pub IsWritten : Shared → List (Known Seat) → Place → Place → Hand → Type 0
+abbrev pub IsWritten : Shared → List (Known Seat) → Place → Place → SeatHand → Type 0
 IsWritten shared seen old new note = HasWritten IsLater shared.log.shared.table_id shared.log.shared.key.items seen old.seat old.hand new.hand note
 
 -- The receipt has seen the call of the place's seat, which found it as the hand had it, and came behind all that the other receipt has seen.
-pub record IsFinished (shared : Shared) (slot : Hand) (place : Place) (since it : Receipt) : Type 0 where
+pub record IsFinished (shared : Shared) (slot : SeatHand) (place : Place) (since it : Receipt) : Type 0 where
   pub log : List (Event Seat)
   pub behind : IsBehind shared since log
   pub before : Seat

@@ -11,7 +11,8 @@ use Rattle.call_log.specs.declared.log.Event.TheVariants.{Called, Closed, Emptie
 use Rattle.call_log.specs.declared.log.Known.{Known}
 use Rattle.call_log.specs.Laws.{CallsComeLast, CallsFollow, EndsFollow, IsOrder, LogsAgree}
 use Rattle.call_log.specs.Logs.{BeganAs, IsLog, seats_after}
-use Rattle.call_log.specs.Steps.{GoesOn, tail_of}
+use Rattle.call_log.specs.Rule.{ExtendsAll}
+use Rattle.call_log.specs.Steps.{tail_of}
 use Rattle.call_log.proofs.Logs.{set_hit, set_miss}
 use Rattle.call_log.proofs.Turning.{call_next}
 
@@ -74,7 +75,7 @@ one_begins (x ∷ xs) (y ∷ ys) r s e =
     let head : x ≡ y = ap (head_or x) e in
     ⊎_elim (λ t. inl (t.0, λ i. head i ∷ t.1 i)) (λ t. inr (t.0, λ i. sym head i ∷ t.1 i)) (one_begins xs ys r s (ap tail_of e))
 
-seen_at : {X : Type 0} (opened : List X) (log : List (Event X)) (logs : List (Known X)) (n : ℕ) (it : Known X) → GoesOn opened log logs → get_elem? logs n ≡ some it → BeganAs log it.log
+seen_at : {X : Type 0} (opened : List X) (log : List (Event X)) (logs : List (Known X)) (n : ℕ) (it : Known X) → ExtendsAll opened log logs → get_elem? logs n ≡ some it → BeganAs log it.log
 seen_at opened log [] n it t e = absurd (some-ne-none it (sym e))
 seen_at opened log (k ∷ logs) zero it t e = subst (λ z. BeganAs log z.log) (some-injective k it e) t.0.1
 seen_at opened log (k ∷ logs) (suc n) it t e = seen_at opened log logs n it t.1 e

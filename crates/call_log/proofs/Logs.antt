@@ -6,7 +6,7 @@ use Rattle.call_log.specs.declared.log.Event.{Event}
 use Rattle.call_log.specs.declared.log.Event.TheVariants.{Called, Closed, Emptied}
 use Rattle.call_log.specs.declared.log.Known.{Known}
 use Rattle.call_log.specs.Logs.{BeganAs, IsLog, seats_after, stage_of}
-use Rattle.call_log.specs.Steps.{GoesOn}
+use Rattle.call_log.specs.Rule.{ExtendsAll}
 
 module _ {X : Type 0} where
   pub assoc : (xs ys zs : List X) → (xs ++ ys) ++ zs ≡ xs ++ (ys ++ zs)
@@ -120,14 +120,14 @@ began_self log = ([], sym (append-nil log))
 pub began_more : {X : Type 0} (log start more : List (Event X)) → BeganAs log start → BeganAs (log ++ more) start
 began_more log start more began = (began.0 ++ more, ap (λ l. l ++ more) began.1 ∙ assoc start began.0 more)
 
-pub all_more : {X : Type 0} (opened : List X) (log more : List (Event X)) (logs : List (Known X)) → GoesOn opened log logs → GoesOn opened (log ++ more) logs
+pub all_more : {X : Type 0} (opened : List X) (log more : List (Event X)) (logs : List (Known X)) → ExtendsAll opened log logs → ExtendsAll opened (log ++ more) logs
 all_more opened log more [] t = tt
 all_more opened log more (it ∷ logs) t = ((t.0.0, began_more log it.log more t.0.1), all_more opened log more logs t.1)
 
-pub all_both : {X : Type 0} (opened : List X) (log : List (Event X)) (some others : List (Known X)) → GoesOn opened log some → GoesOn opened log others → GoesOn opened log (some ++ others)
+pub all_both : {X : Type 0} (opened : List X) (log : List (Event X)) (some others : List (Known X)) → ExtendsAll opened log some → ExtendsAll opened log others → ExtendsAll opened log (some ++ others)
 all_both opened log [] others t u = u
 all_both opened log (it ∷ some) others t u = (t.0, all_both opened log some others t.1 u)
 
-pub second_of_both : {X : Type 0} (opened : List X) (log : List (Event X)) (some others : List (Known X)) → GoesOn opened log (some ++ others) → GoesOn opened log others
+pub second_of_both : {X : Type 0} (opened : List X) (log : List (Event X)) (some others : List (Known X)) → ExtendsAll opened log (some ++ others) → ExtendsAll opened log others
 second_of_both opened log [] others t = t
 second_of_both opened log (it ∷ some) others t = second_of_both opened log some others t.1

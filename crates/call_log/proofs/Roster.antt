@@ -10,7 +10,7 @@ use Rattle.atomic_table.specs.Table.{Enters as NewSeat, Joins, Splits, State, op
 use Rattle.atomic_table.proofs.Lists.{at_set, at_snoc, exchanged, set_again, set_else}
 use Rattle.call_log.specs.declared.log.Event.{Event}
 use Rattle.call_log.specs.declared.log.Knows.{Knows}
-use Rattle.call_log.specs.Rule.{Fits, Holds, Owns, all_of, known, receipt}
+use Rattle.call_log.specs.Rule.{Holds, IsTrueView, Owns, all_of, known, receipt}
 use Rattle.call_log.specs.Steps.{Adjoins, HasLooked, Looks, both, head_of, observing, one, others, tail_of}
 use Rattle.call_log.proofs.Logs.{all_both, began_self, has_seat, nothing, only}
 
@@ -51,15 +51,15 @@ module _ {X : Type 0} (goes_on : X → X → Type 0) (opened : List X) where
   abbrev pub R : State (Unit {0}) (Knows X) → Type 0
   R = Holds goes_on opened
 
-  opens_each : (i : ℕ) (view : Knows X) → get_elem? (all_of opened ∷ []) i ≡ some view → Fits opened [] (λ n. 0) i view
-  opens_each zero view at = subst (Fits opened [] (λ n. 0) 0) (some-injective (all_of opened) view at)
+  opens_each : (i : ℕ) (view : Knows X) → get_elem? (all_of opened ∷ []) i ≡ some view → IsTrueView opened [] (λ n. 0) i view
+  opens_each zero view at = subst (IsTrueView opened [] (λ n. 0) 0) (some-injective (all_of opened) view at)
       (record { own = λ n x e. subst (λ m. Owns opened [] (λ k. 0) 0 0 m x) (omega arith) (refl, e, refl); seen = ((refl, began_self []), tt) })
   opens_each (suc i) view at = absurd (some-ne-none view (sym at))
 
   pub opens : R (opening (0 ∷ []) [] (all_of opened))
   opens = record { log = []; owner = λ n. 0; legal = tt; word = refl; each = opens_each }
 
-  fits_receipt : (log : List (Event X)) (owner owner' : ℕ → ℕ) (i j : ℕ) (v : Knows X) → Fits opened log owner i v → Fits opened log owner' j (receipt v.logs)
+  fits_receipt : (log : List (Event X)) (owner owner' : ℕ → ℕ) (i j : ℕ) (v : Knows X) → IsTrueView opened log owner i v → IsTrueView opened log owner' j (receipt v.logs)
   fits_receipt log owner owner' i j v fits = record { own = λ n x e. nothing _ n x e; seen = fits.seen }
 
   pub copies : (id : ℕ) (v : Knows X) → Splits R id v v (receipt v.logs)
@@ -70,7 +70,7 @@ module _ {X : Type 0} (goes_on : X → X → Type 0) (opened : List X) where
     word = h.word;
     each = λ j u there. ⊎_elim
         (λ t. h.each j u (ap (λ l. get_elem? l j) (sym (set_again s.views id v at)) ∙ t))
-        (λ e. subst (Fits opened h.log h.owner j) e (fits_receipt h.log h.owner h.owner id j v (h.each id v at)))
+        (λ e. subst (IsTrueView opened h.log h.owner j) e (fits_receipt h.log h.owner h.owner id j v (h.each id v at)))
         (at_snoc (set s.views id v) (receipt v.logs) u j there);
   }
 
@@ -85,18 +85,18 @@ module _ {X : Type 0} (goes_on : X → X → Type 0) (opened : List X) where
           word = h.word;
           each = λ j u there. ⊎_elim
               (λ t. h.each j u t)
-              (λ e. subst (Fits opened h.log h.owner j) e (record { own = λ n x q. nothing _ n x q; seen = ((refl, began_self h.log), tt) }))
+              (λ e. subst (IsTrueView opened h.log h.owner j) e (record { own = λ n x q. nothing _ n x q; seen = ((refl, began_self h.log), tt) }))
               (at_snoc s.views w u j there);
         },
         λ asked e. subst (λ l. HasLooked goes_on l (get_or s.words 0 0) (w, [])) (ap (λ (k : Knows X). k.here) e)
             (record { log = h.log; legal = h.legal; stage = ap (λ ws. get_or ws 0 0) h.word; now = refl }),
       )
 
-  module _ (id k : ℕ) (v : Knows X) (log : List (Event X)) (owner : ℕ → ℕ) (old : Fits opened log owner id v) where
+  module _ (id k : ℕ) (v : Knows X) (log : List (Event X)) (owner : ℕ → ℕ) (old : IsTrueView opened log owner id v) where
     abbrev dealt_owner : ℕ → ℕ
     dealt_owner m = either (eqb m v.first) k (owner m)
 
-    fits_others : Fits opened log dealt_owner id (others v)
+    fits_others : IsTrueView opened log dealt_owner id (others v)
     fits_others = record {
       own = λ n x e.
           let o = old.own (suc n) x (tail_at v.here n x e) in
@@ -106,7 +106,7 @@ module _ {X : Type 0} (goes_on : X → X → Type 0) (opened : List X) where
       seen = old.seen;
     }
 
-    fits_one : Fits opened log dealt_owner k (one v)
+    fits_one : IsTrueView opened log dealt_owner k (one v)
     fits_one = record {
       own = λ n x e.
           let it = head_at v.here n x e in
@@ -118,7 +118,7 @@ module _ {X : Type 0} (goes_on : X → X → Type 0) (opened : List X) where
       seen = old.seen;
     }
 
-    elsewhere : 0 < length v.here → (j : ℕ) (u : Knows X) → j ≢ id → Fits opened log owner j u → Fits opened log dealt_owner j u
+    elsewhere : 0 < length v.here → (j : ℕ) (u : Knows X) → j ≢ id → IsTrueView opened log owner j u → IsTrueView opened log dealt_owner j u
     elsewhere more j u ne fits =
         let first = has_seat v.here 0 more in
         let mine : owner v.first ≡ id = subst (λ m. owner m ≡ id) (omega arith) (old.own 0 first.0 first.1).0 in record {
@@ -130,7 +130,7 @@ module _ {X : Type 0} (goes_on : X → X → Type 0) (opened : List X) where
   pub deals : (id : ℕ) (v : Knows X) → 0 < length v.here → Splits R id v (others v) (one v)
   deals id v more s h at =
       let k : ℕ = length s.views in
-      let old : Fits opened h.log h.owner id v = h.each id v at in
+      let old : IsTrueView opened h.log h.owner id v = h.each id v at in
       let owner : ℕ → ℕ = dealt_owner id k v h.log h.owner old in record {
         log = h.log;
         owner = owner;
@@ -138,11 +138,11 @@ module _ {X : Type 0} (goes_on : X → X → Type 0) (opened : List X) where
         word = h.word;
         each = λ j u there. ⊎_elim
             (λ t. ⊎_elim
-            (λ e. subst (Fits opened h.log owner j) e.1 (subst (λ i. Fits opened h.log owner i (others v)) (sym e.0) (fits_others id k v h.log h.owner old)))
+            (λ e. subst (IsTrueView opened h.log owner j) e.1 (subst (λ i. IsTrueView opened h.log owner i (others v)) (sym e.0) (fits_others id k v h.log h.owner old)))
             (λ e. elsewhere id k v h.log h.owner old more j u e.0 (h.each j u e.1))
             (at_set s.views id j (others v) u t))
-            (λ t. subst (Fits opened h.log owner j) t.1
-            (subst (λ i. Fits opened h.log owner i (one v)) (sym (t.0 ∙ set_longer s.views id (others v))) (fits_one id k v h.log h.owner old)))
+            (λ t. subst (IsTrueView opened h.log owner j) t.1
+            (subst (λ i. IsTrueView opened h.log owner i (one v)) (sym (t.0 ∙ set_longer s.views id (others v))) (fits_one id k v h.log h.owner old)))
             (snoc_at (set s.views id (others v)) (one v) u j there);
       }
 
@@ -150,7 +150,7 @@ module _ {X : Type 0} (goes_on : X → X → Type 0) (opened : List X) where
     abbrev joint_owner : ℕ → ℕ
     joint_owner m = either (eqb (owner m) other) id (owner m)
 
-    fits_both : Adjoins v w → Fits opened log owner id v → Fits opened log owner other w → Fits opened log joint_owner id (both v w)
+    fits_both : Adjoins v w → IsTrueView opened log owner id v → IsTrueView opened log owner other w → IsTrueView opened log joint_owner id (both v w)
     fits_both behind fits fits' = record {
       own = λ n x e. ⊎_elim
           (λ t. let o = fits.own n x t in (exchanged (owner (v.first + n)) other id (λ z. z ≡ id) (λ _. refl) (λ _. o.0), o.1, o.2))
@@ -163,7 +163,7 @@ module _ {X : Type 0} (goes_on : X → X → Type 0) (opened : List X) where
       seen = all_both opened log v.logs w.logs fits.seen fits'.seen;
     }
 
-    fits_else : (j : ℕ) (u : Knows X) → j ≢ other → Fits opened log owner j u → Fits opened log joint_owner j u
+    fits_else : (j : ℕ) (u : Knows X) → j ≢ other → IsTrueView opened log owner j u → IsTrueView opened log joint_owner j u
     fits_else j u ne fits = record {
       own = λ n x e. let o = fits.own n x e in
           (exchanged (owner (u.first + n)) other id (λ z. z ≡ j) (λ q. absurd (ne (sym o.0 ∙ q))) (λ _. o.0), o.1, o.2);
@@ -179,10 +179,10 @@ module _ {X : Type 0} (goes_on : X → X → Type 0) (opened : List X) where
         legal = h.legal;
         word = h.word;
         each = λ j u is. ⊎_elim
-            (λ t. subst (Fits opened h.log (joint_owner id other v w h.log h.owner) j) t.1 (record { own = λ n x q. nothing _ n x q; seen = tt }))
+            (λ t. subst (IsTrueView opened h.log (joint_owner id other v w h.log h.owner) j) t.1 (record { own = λ n x q. nothing _ n x q; seen = tt }))
             (λ t. ⊎_elim
-            (λ e. subst (Fits opened h.log (joint_owner id other v w h.log h.owner) j) e.1
-            (subst (λ i. Fits opened h.log (joint_owner id other v w h.log h.owner) i (both v w)) (sym e.0)
+            (λ e. subst (IsTrueView opened h.log (joint_owner id other v w h.log h.owner) j) e.1
+            (subst (λ i. IsTrueView opened h.log (joint_owner id other v w h.log h.owner) i (both v w)) (sym e.0)
             (fits_both id other v w h.log h.owner behind (h.each id v at) (h.each other w there'))))
             (λ e. fits_else id other v w h.log h.owner j u t.0 (h.each j u e.1))
             (at_set s.views id j (both v w) u t.1))
@@ -198,9 +198,9 @@ module _ {X : Type 0} (goes_on : X → X → Type 0) (opened : List X) where
         legal = h.legal;
         word = h.word;
         each = λ j u is. ⊎_elim
-            (λ t. subst (Fits opened h.log h.owner j) t.1 (record { own = λ n x q. nothing _ n x q; seen = tt }))
+            (λ t. subst (IsTrueView opened h.log h.owner j) t.1 (record { own = λ n x q. nothing _ n x q; seen = tt }))
             (λ t. ⊎_elim
-            (λ e. subst (Fits opened h.log h.owner j) e.1 (subst (λ i. Fits opened h.log h.owner i (observing v w)) (sym e.0) (record {
+            (λ e. subst (IsTrueView opened h.log h.owner j) e.1 (subst (λ i. IsTrueView opened h.log h.owner i (observing v w)) (sym e.0) (record {
               own = (h.each id v at).own;
               seen = all_both opened h.log v.logs w.logs (h.each id v at).seen (h.each other w there').seen;
             })))

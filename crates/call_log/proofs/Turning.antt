@@ -10,8 +10,8 @@ use Rattle.call_log.specs.declared.log.Event.{Event}
 use Rattle.call_log.specs.declared.log.Event.TheVariants.{Called, Closed, Emptied}
 use Rattle.call_log.specs.declared.log.Knows.{Knows}
 use Rattle.call_log.specs.Logs.{IsLog, seats_after, stage_of}
-use Rattle.call_log.specs.Rule.{Fits, Holds, Owns, known}
-use Rattle.call_log.specs.Steps.{CanCall, CanEnd, HasCalled, HasClosed, HasEmptied, HasEnded, HasRecalled, Mine}
+use Rattle.call_log.specs.Rule.{Holds, IsTrueView, Owns, known}
+use Rattle.call_log.specs.Steps.{CanCall, CanEnd, HasEnded, HasLogged, HasLoggedClosing, HasLoggedEmptying, HasRecalled, Mine}
 use Rattle.call_log.proofs.Logs.{
   after_length,
   all_more,
@@ -40,7 +40,7 @@ module _ {X : Type 0} (goes_on : X → X → Type 0) (opened : List X) where
   pub stays : (log more : List (Event X)) (owner : ℕ → ℕ) (j : ℕ) (u : Knows X)
       → ((m : ℕ) (x : X) → owner m ≡ j → slice_get (seats_after opened log) m ≡ Some x
       → (slice_get (seats_after opened (log ++ more)) m ≡ Some x) × (stage_of (log ++ more) ≡ stage_of log))
-      → Fits opened log owner j u → Fits opened (log ++ more) owner j u
+      → IsTrueView opened log owner j u → IsTrueView opened (log ++ more) owner j u
   stays log more owner j u same fits = record {
     own = λ n x at. let own = fits.own n x at in let k = same (u.first + n) x own.0 own.1 in (own.0, k.0, k.1 ∙ own.2);
     seen = all_more opened log more u.logs fits.seen;
@@ -49,7 +49,7 @@ module _ {X : Type 0} (goes_on : X → X → Type 0) (opened : List X) where
   pub turned : (s : State (Unit {0}) (Knows X)) (h : R s) (id : ℕ) (v w : Knows X) (more : List (Event X)) → get_elem? s.views id ≡ some v → IsLog goes_on opened (h.log ++ more)
       → ((m : ℕ) (x : X) → h.owner m ≢ id → slice_get (seats_after opened h.log) m ≡ Some x
       → (slice_get (seats_after opened (h.log ++ more)) m ≡ Some x) × (stage_of (h.log ++ more) ≡ stage_of h.log))
-      → Fits opened (h.log ++ more) h.owner id w → (words : List ℕ) → words ≡ stage_of (h.log ++ more) ∷ []
+      → IsTrueView opened (h.log ++ more) h.owner id w → (words : List ℕ) → words ≡ stage_of (h.log ++ more) ∷ []
       → R record { words = words; homes = s.homes; views = set s.views id w }
   turned s h id v w more at legal others fits words is = record {
     log = h.log ++ more;
@@ -57,7 +57,7 @@ module _ {X : Type 0} (goes_on : X → X → Type 0) (opened : List X) where
     legal = legal;
     word = is;
     each = λ j u there. ⊎_elim
-        (λ t. subst (λ z. Fits opened (h.log ++ more) h.owner j z) t.1 (subst (λ k. Fits opened (h.log ++ more) h.owner k w) (sym t.0) fits))
+        (λ t. subst (λ z. IsTrueView opened (h.log ++ more) h.owner j z) t.1 (subst (λ k. IsTrueView opened (h.log ++ more) h.owner k w) (sym t.0) fits))
         (λ t. stays h.log more h.owner j u (λ m x own e. others m x (λ i. t.0 (sym own ∙ i)) e) (h.each j u t.1))
         (at_set s.views id j w u there);
   }
@@ -65,7 +65,7 @@ module _ {X : Type 0} (goes_on : X → X → Type 0) (opened : List X) where
   -- A call is written behind the log as it is, whatever the words were called.
   pub call_next : (id : ℕ) (me : Mine X) (after : X) → CanCall goes_on me.0 after → (s : State (Unit {0}) (Knows X)) (h : R s) → get_elem? s.views id ≡ some me.0
       → (words : List ℕ) → words ≡ s.words
-      → (w : Knows X) × R record { words = words; homes = s.homes; views = set s.views id w } × ((called : HasCalled goes_on after me (w, me.1)) × (called.log ≡ h.log))
+      → (w : Knows X) × R record { words = words; homes = s.homes; views = set s.views id w } × ((called : HasLogged goes_on after me (w, me.1)) × (called.log ≡ h.log))
   call_next id me after can s h at words same_words =
       let first = me.0.first in let before = can.0 in
       let fits = h.each id me.0 at in
@@ -93,7 +93,7 @@ module _ {X : Type 0} (goes_on : X → X → Type 0) (opened : List X) where
         (record { opened = opened; log = h.log; before = before; found = can.1; legal = legal; seen = fits.seen; now = refl }, refl),
       )
 
-  pub calls : (slots id : ℕ) (me : Mine X) (after : X) → CanCall goes_on me.0 after → Allows R slots id me 0 (λ n. n) (λ n. HasCalled goes_on after me)
+  pub calls : (slots id : ℕ) (me : Mine X) (after : X) → CanCall goes_on me.0 after → Allows R slots id me 0 (λ n. n) (λ n. HasLogged goes_on after me)
   calls slots id me after can s h _ at _ =
       let it = call_next id me after can s h at (set s.words 0 (get_or s.words 0 0)) (set-get_or s.words 0 0) in (it.0, keeps, tt, it.1, it.2.0)
 
@@ -110,7 +110,7 @@ module _ {X : Type 0} (goes_on : X → X → Type 0) (opened : List X) where
           legal = h.legal;
           word = set-get_or s.words 0 0 ∙ h.word;
           each = λ j u there. ⊎_elim
-              (λ t. subst (λ z. Fits opened h.log h.owner j z) t.1 (subst (λ k. Fits opened h.log h.owner k w) (sym t.0) (record { own = fits.own; seen = ((refl, began_self h.log), tt) })))
+              (λ t. subst (λ z. IsTrueView opened h.log h.owner j z) t.1 (subst (λ k. IsTrueView opened h.log h.owner k w) (sym t.0) (record { own = fits.own; seen = ((refl, began_self h.log), tt) })))
               (λ t. h.each j u t.1)
               (at_set s.views id j w u there);
         },
@@ -167,8 +167,8 @@ module _ {X : Type 0} (goes_on : X → X → Type 0) (opened : List X) where
         },
       )
 
-  pub closes : (slots id : ℕ) (me : Mine X) → CanEnd opened 1 me.0 → Allows R slots id me 0 (λ _. 1) (λ _. HasClosed goes_on me)
+  pub closes : (slots id : ℕ) (me : Mine X) → CanEnd opened 1 me.0 → Allows R slots id me 0 (λ _. 1) (λ _. HasLoggedClosing goes_on me)
   closes slots id me can = ends Closed 1 me.0.here slots id me can (closed_on goes_on opened) closed_stage (closed_after opened) (λ n x e. e)
 
-  pub empties : (slots id : ℕ) (me : Mine X) → CanEnd opened 2 me.0 → Allows R slots id me 0 (λ _. 2) (λ _. HasEmptied goes_on me)
+  pub empties : (slots id : ℕ) (me : Mine X) → CanEnd opened 2 me.0 → Allows R slots id me 0 (λ _. 2) (λ _. HasLoggedEmptying goes_on me)
   empties slots id me can = ends Emptied 2 [] slots id me can (emptied_on goes_on opened) emptied_stage (emptied_after opened) (λ n x e. nothing _ n x e)

@@ -1,13 +1,11 @@
 -- What a hand that wrote a call has.
 use Rattle.std.proofs.Common.{◌≡◌, ◌++◌, ◌∷◌, ◌∙◌, List, [], ap, subst, sym}
 use Rattle.atomic_table.specs.Seated.{TableId}
-use Rattle.call_log.specs.declared.log.Event.{Event}
 use Rattle.call_log.specs.declared.log.Event.TheVariants.{Called}
-use Rattle.call_log.specs.declared.log.Known.{Known}
 use Rattle.call_log.specs.Hands.{CanWrite, Hand, HasWritten}
 use Rattle.call_log.specs.Logs.{IsLog}
-use Rattle.call_log.specs.Rule.{known, receipt}
-use Rattle.call_log.specs.Steps.{CanCall, GoesOn, HasCalled, observing}
+use Rattle.call_log.specs.Rule.{ExtendsAll, known, receipt}
+use Rattle.call_log.specs.Steps.{CanCall, HasLogged, observing}
 use Rattle.call_log.proofs.Logs.{second_of_both}
 
 module _ {X : Type 0} (goes_on : X → X → Type 0) (table : TableId) (opened : List X) (after : X) where
@@ -22,13 +20,13 @@ module _ {X : Type 0} (goes_on : X → X → Type 0) (table : TableId) (opened :
     first_is : heard.me.0.first ≡ old.me.0.first
     first_is = ap (λ m. m.0.first) hears
 
-    pub has_written : (mid new note : Hand X) → heard.table_id ≡ old.table_id → HasCalled goes_on after heard.me mid.me → mid.table_id ≡ heard.table_id
+    pub has_written : (mid new note : Hand X) → heard.table_id ≡ old.table_id → HasLogged goes_on after heard.me mid.me → mid.table_id ≡ heard.table_id
         → new.table_id ≡ mid.table_id → new.me ≡ mid.me → note.table_id ≡ mid.table_id → note.me ≡ (receipt mid.me.0.logs, [])
         → HasWritten goes_on table opened since.me.0.logs after old new note
     has_written mid new note same_heard called same_mid same_new me_new same_note me_note =
         let event = Called old.me.0.first called.before after in
-        let seen : GoesOn called.opened called.log ((known opened can.has.log ∷ can.has.rest) ++ since.me.0.logs) =
-        subst (GoesOn called.opened called.log) (ap (λ m. m.0.logs) heard_is) called.seen in
+        let seen : ExtendsAll called.opened called.log ((known opened can.has.log ∷ can.has.rest) ++ since.me.0.logs) =
+        subst (ExtendsAll called.opened called.log) (ap (λ m. m.0.logs) heard_is) called.seen in
         let is : opened ≡ called.opened = seen.0.0 in
         let now : mid.me ≡ (record { first = old.me.0.first; here = after ∷ []; stage = 0; logs = known opened (called.log ++ event ∷ []) ∷ [] }, []) =
         called.now ∙ (λ i. (
@@ -41,7 +39,7 @@ module _ {X : Type 0} (goes_on : X → X → Type 0) (table : TableId) (opened :
           (heard_is i).1,
         )) in record {
           log = called.log;
-          behind = subst (λ l. GoesOn l called.log since.me.0.logs) (sym is) (second_of_both called.opened called.log (known opened can.has.log ∷ can.has.rest) since.me.0.logs seen);
+          behind = subst (λ l. ExtendsAll l called.log since.me.0.logs) (sym is) (second_of_both called.opened called.log (known opened can.has.log ∷ can.has.rest) since.me.0.logs seen);
           before = called.before;
           found = ap (λ m. m.0.here) (sym hears) ∙ called.found;
           has = record { log = called.log ++ event ∷ []; rest = []; table = same_new ∙ same_mid ∙ same_heard ∙ can.has.table; me = me_new ∙ now };

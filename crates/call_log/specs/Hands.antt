@@ -7,8 +7,7 @@ use Rattle.call_log.specs.declared.log.Event.TheVariants.{Called}
 use Rattle.call_log.specs.declared.log.Known.{Known}
 use Rattle.call_log.specs.declared.log.Knows.{Knows}
 use Rattle.call_log.specs.Logs.{IsLog}
-use Rattle.call_log.specs.Rule.{known, receipt}
-use Rattle.call_log.specs.Steps.{GoesOn}
+use Rattle.call_log.specs.Rule.{ExtendsAll, known, receipt}
 
 abbrev pub Hand : Type 0 → Type 0
 Hand X = Seat (Unit {0}) (Knows X)
@@ -38,7 +37,7 @@ module _ {X : Type 0} where
   -- seen that.
   pub record HasWritten (goes_on : X → X → Type 0) (which : TableId) (opened : List X) (seen : List (Known X)) (after : X) (old new note : Hand X) : Type 0 where
     pub log : List (Event X)
-    pub behind : GoesOn opened log seen
+    pub behind : ExtendsAll opened log seen
     pub before : X
     pub found : old.me.0.here ≡ before ∷ []
     pub has : Has which opened old.me.0.first (after ∷ []) new

@@ -9,7 +9,7 @@ use Rattle.call_log.specs.declared.log.Known.{Known}
 use Rattle.call_log.specs.declared.log.Knows.{Knows}
 use Rattle.call_log.specs.Logs.{BeganAs, IsLog, seats_after}
 use Rattle.call_log.specs.Rule.{Holds}
-use Rattle.call_log.specs.Steps.{CanCall, HasCalled, Mine}
+use Rattle.call_log.specs.Steps.{CanCall, HasLogged, Mine}
 
 module _ {X : Type 0} (goes_on : X → X → Type 0) where
   -- to go on is to go on in any number of calls
@@ -38,6 +38,6 @@ module _ {X : Type 0} (goes_on : X → X → Type 0) where
   abbrev pub CallsComeLast : Type 0
   CallsComeLast = (opened : List X) (s : State (Unit {0}) (Knows X)) → Holds goes_on opened s → (id : ℕ) (me : Mine X) (after : X)
       → get_elem? s.views id ≡ some me.0 → CanCall goes_on me.0 after
-      → (new : Mine X) × (called : HasCalled goes_on after me new)
+      → (new : Mine X) × (called : HasLogged goes_on after me new)
       × Holds goes_on opened record { words = s.words; homes = s.homes; views = slice_set s.views id new.0 }
       × ((j n : ℕ) (view : Knows X) (it : Known X) → get_elem? s.views j ≡ some view → get_elem? view.logs n ≡ some it → BeganAs called.log it.log)

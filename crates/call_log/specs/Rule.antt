@@ -8,11 +8,6 @@ use Rattle.call_log.specs.declared.log.Known.{Known}
 use Rattle.call_log.specs.declared.log.Knows.{Knows}
 use Rattle.call_log.specs.Logs.{BeganAs, IsLog, seats_after, stage_of}
 
--- holds of each
-abbrev pub Each : {A : Type 0} → (A → Type 0) → List A → Type 0
-Each P [] = ⊤
-Each P (x ∷ xs) = P x × Each P xs
-
 module _ {X : Type 0} where
   abbrev pub known : List X → List (Event X) → Known X
   known opened log = record { opened = opened; log = log }
@@ -29,10 +24,15 @@ module _ {X : Type 0} where
   abbrev pub Owns : List X → List (Event X) → (ℕ → ℕ) → ℕ → ℕ → ℕ → X → Type 0
   Owns opened log owner i stage number seat = (owner number ≡ i) × (slice_get (seats_after opened log) number ≡ Some seat) × (stage_of log ≡ stage)
 
+  -- The logs are of those seats, and this one began as each of them is.
+  abbrev pub ExtendsAll : List X → List (Event X) → List (Known X) → Type 0
+  ExtendsAll opened log [] = ⊤
+  ExtendsAll opened log (it ∷ logs) = ((it.opened ≡ opened) × BeganAs log it.log) × ExtendsAll opened log logs
+
   -- What a view knows is so: the seats that it has are as it knows, and nobody else has them; and the log began as it has seen.
-  pub record Fits (opened : List X) (log : List (Event X)) (owner : ℕ → ℕ) (i : ℕ) (view : Knows X) : Type 0 where
+  pub record IsTrueView (opened : List X) (log : List (Event X)) (owner : ℕ → ℕ) (i : ℕ) (view : Knows X) : Type 0 where
     pub own : (n : ℕ) (seat : X) → slice_get view.here n ≡ Some seat → Owns opened log owner i view.stage (view.first + n) seat
-    pub seen : Each (λ (it : Known X). (it.opened ≡ opened) × BeganAs log it.log) view.logs
+    pub seen : ExtendsAll opened log view.logs
 
   -- The rule: there is a log, whose stage the word is, and each view knows what is so.
   pub record Holds (goes_on : X → X → Type 0) (opened : List X) (s : State (Unit {0}) (Knows X)) : Type 0 where
@@ -40,4 +40,4 @@ module _ {X : Type 0} where
     pub owner : ℕ → ℕ
     pub legal : IsLog goes_on opened log
     pub word : s.words ≡ stage_of log ∷ []
-    pub each : (i : ℕ) (view : Knows X) → get_elem? s.views i ≡ some view → Fits opened log owner i view
+    pub each : (i : ℕ) (view : Knows X) → get_elem? s.views i ≡ some view → IsTrueView opened log owner i view

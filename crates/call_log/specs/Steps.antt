@@ -3,10 +3,9 @@ use Rattle.std.specs.Prelude.{◌≡◌, ◌+◌, ◌<◌, ◌++◌, ◌∷◌, 
 use Rattle.atomic_table.specs.Table.{Me}
 use Rattle.call_log.specs.declared.log.Event.{Event}
 use Rattle.call_log.specs.declared.log.Event.TheVariants.{Called, Closed, Emptied}
-use Rattle.call_log.specs.declared.log.Known.{Known}
 use Rattle.call_log.specs.declared.log.Knows.{Knows}
-use Rattle.call_log.specs.Logs.{BeganAs, IsLog, seats_after, stage_of}
-use Rattle.call_log.specs.Rule.{Each, all_of, known, receipt}
+use Rattle.call_log.specs.Logs.{IsLog, seats_after, stage_of}
+use Rattle.call_log.specs.Rule.{ExtendsAll, all_of, known, receipt}
 
 abbrev pub head_of : {A : Type 0} → List A → List A
 head_of [] = []
@@ -21,23 +20,19 @@ abbrev pub Mine : Type 0 → Type 0
 Mine X = Me (Unit {0}) (Knows X)
 
 module _ {X : Type 0} where
-  -- The logs are of those seats, and this one began as they are.
-  abbrev pub GoesOn : List X → List (Event X) → List (Known X) → Type 0
-  GoesOn opened log logs = Each (λ (it : Known X). (it.opened ≡ opened) × BeganAs log it.log) logs
-
   -- A call is in the log: it found the seat as this view had it, and left this one.
-  pub record HasCalled (goes_on : X → X → Type 0) (after : X) (old new : Mine X) : Type 0 where
+  pub record HasLogged (goes_on : X → X → Type 0) (after : X) (old new : Mine X) : Type 0 where
     pub opened : List X
     pub log : List (Event X)
     pub before : X
     pub found : old.0.here ≡ before ∷ []
     pub legal : IsLog goes_on opened (log ++ Called old.0.first before after ∷ [])
-    pub seen : GoesOn opened log old.0.logs
+    pub seen : ExtendsAll opened log old.0.logs
     pub now : new ≡ (record { first = old.0.first; here = after ∷ []; stage = 0; logs = known opened (log ++ Called old.0.first before after ∷ []) ∷ [] }, old.1)
 
   abbrev pub Calls : (X → X → Type 0) → Option X → Mine X → Mine X → Type 0
   Calls goes_on None old new = ⊤
-  Calls goes_on (Some after) old new = HasCalled goes_on after old new
+  Calls goes_on (Some after) old new = HasLogged goes_on after old new
 
   -- All seats were in this view, and the log has the event.
   pub record HasEnded (goes_on : X → X → Type 0) (event : Event X) (stage : ℕ) (rest : List X) (old new : Mine X) : Type 0 where
@@ -46,16 +41,16 @@ module _ {X : Type 0} where
     pub all : seats_after opened (log ++ event ∷ []) ≡ old.0.here
     pub legal : IsLog goes_on opened (log ++ event ∷ [])
     pub stages : stage_of (log ++ event ∷ []) ≡ stage
-    pub seen : GoesOn opened log old.0.logs
+    pub seen : ExtendsAll opened log old.0.logs
     pub now : new ≡ (record { first = 0; here = rest; stage = stage; logs = known opened (log ++ event ∷ []) ∷ [] }, old.1)
 
   -- The tree is closed, and what it left waits; the view still has all seats.
-  abbrev pub HasClosed : (X → X → Type 0) → Mine X → Mine X → Type 0
-  HasClosed goes_on old new = HasEnded goes_on Closed 1 old.0.here old new
+  abbrev pub HasLoggedClosing : (X → X → Type 0) → Mine X → Mine X → Type 0
+  HasLoggedClosing goes_on old new = HasEnded goes_on Closed 1 old.0.here old new
 
   -- Nothing waits any more, and nobody has a seat.
-  abbrev pub HasEmptied : (X → X → Type 0) → Mine X → Mine X → Type 0
-  HasEmptied goes_on old new = HasEnded goes_on Emptied 2 [] old new
+  abbrev pub HasLoggedEmptying : (X → X → Type 0) → Mine X → Mine X → Type 0
+  HasLoggedEmptying goes_on old new = HasEnded goes_on Emptied 2 [] old new
 
   -- A new receipt has seen the log, whose stage the word was.
   pub record HasLooked (goes_on : X → X → Type 0) (opened : List X) (found : ℕ) (new : Mine X) : Type 0 where
@@ -71,7 +66,7 @@ module _ {X : Type 0} where
     pub legal : IsLog goes_on opened log
     pub stage : found ≡ stage_of log
     pub far : 0 < length old.0.here → stage_of log ≡ old.0.stage
-    pub seen : GoesOn opened log old.0.logs
+    pub seen : ExtendsAll opened log old.0.logs
     pub now : new ≡ (record { first = old.0.first; here = old.0.here; stage = old.0.stage; logs = known opened log ∷ [] }, old.1)
 
   -- An operation can't say the table's seats, and takes those of its first view.

@@ -61,9 +61,9 @@ pub(crate) struct Closing<X, P> {
 }
 
 impl<X, P: Course<X>> Play<(), Knows<X>> for Closing<X, P> {
-    ghost use Rattle.call_log.specs.Steps.{HasClosed};
+    ghost use Rattle.call_log.specs.Steps.{HasLoggedClosing};
 
-    ghost then = { λ made me found me'. HasClosed P.goes_on me me' };
+    ghost then = { λ made me found me'. HasLoggedClosing P.goes_on me me' };
 }
 
 /// It is written into the log that nothing waits any more.
@@ -72,9 +72,9 @@ pub(crate) struct Emptying<X, P> {
 }
 
 impl<X, P: Course<X>> Play<(), Knows<X>> for Emptying<X, P> {
-    ghost use Rattle.call_log.specs.Steps.{HasEmptied};
+    ghost use Rattle.call_log.specs.Steps.{HasLoggedEmptying};
 
-    ghost then = { λ made me found me'. HasEmptied P.goes_on me me' };
+    ghost then = { λ made me found me'. HasLoggedEmptying P.goes_on me me' };
 }
 
 /// The log is looked at.

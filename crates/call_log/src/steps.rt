@@ -1,7 +1,7 @@
 //! Steps on the word of a log's table: each is one load or store, and writes into the log or sees it.
 ghost use Rattle.std.specs.Prelude.{◌≡◌, ◌<◌, ◌∷◌, [], Some, IfSome, length};
 ghost use Rattle.call_log.specs.Rule.{all_of, receipt};
-ghost use Rattle.call_log.specs.Steps.{Adjoins, CanCall, CanEnd, HasCalled, HasClosed, HasEmptied, HasLooked, HasRecalled, both, observing, one, others};
+ghost use Rattle.call_log.specs.Steps.{Adjoins, CanCall, CanEnd, HasLogged, HasLoggedClosing, HasLoggedEmptying, HasLooked, HasRecalled, both, observing, one, others};
 
 use crate::rule::{
     Calling, Closing, Copying, Course, Dealing, Emptying, Hand, Log, LogTable, Looking, Observing,
@@ -78,7 +78,7 @@ pub fn called<X, P: Course<X>>(log: &Log<X, P>, hand: &mut Hand<X>, after: &X)
     requires word { 0 < log.now.table_id.words }
     requires can { CanCall P.goes_on hand.old.me.0 after.now }
     ensures same { hand.new.table_id ≡ hand.old.table_id }
-    ensures called { HasCalled P.goes_on after.now hand.old.me hand.new.me }
+    ensures called { HasLogged P.goes_on after.now hand.old.me hand.new.me }
 {
     tell_called::<X, P, Brand>(log, hand, after);
 }
@@ -90,7 +90,7 @@ fn tell_called<X, P: Course<X>, C: Telling<X>>(log: &Log<X, P>, hand: &mut Hand<
     requires word { 0 < log.now.table_id.words }
     requires can { CanCall P.goes_on hand.old.me.0 after.now }
     ensures same { hand.new.table_id ≡ hand.old.table_id }
-    ensures called { HasCalled P.goes_on after.now hand.old.me hand.new.me }
+    ensures called { HasLogged P.goes_on after.now hand.old.me hand.new.me }
 {
     let _ = after;
     log.load::<Calling<X, P, C>>(hand, 0);
@@ -102,7 +102,7 @@ pub fn closed<X, P: Course<X>>(log: &Log<X, P>, hand: &mut Hand<X>)
     requires word { 0 < log.now.table_id.words }
     requires can { CanEnd log.now.key.items 1 hand.old.me.0 }
     ensures same { hand.new.table_id ≡ hand.old.table_id }
-    ensures closed { HasClosed P.goes_on hand.old.me hand.new.me }
+    ensures closed { HasLoggedClosing P.goes_on hand.old.me hand.new.me }
 {
     log.store::<Closing<X, P>>(hand, 0, 1);
 }
@@ -113,7 +113,7 @@ pub fn emptied<X, P: Course<X>>(log: &Log<X, P>, hand: &mut Hand<X>)
     requires word { 0 < log.now.table_id.words }
     requires can { CanEnd log.now.key.items 2 hand.old.me.0 }
     ensures same { hand.new.table_id ≡ hand.old.table_id }
-    ensures emptied { HasEmptied P.goes_on hand.old.me hand.new.me }
+    ensures emptied { HasLoggedEmptying P.goes_on hand.old.me hand.new.me }
 {
     log.store::<Emptying<X, P>>(hand, 0, 2);
 }
