@@ -34,7 +34,7 @@
  *     in a process with threads, from a child that was forked.
  *
  * Full: a write may be FULL for a moment, while another call holds back what was taken out: make it again (bwtree_waits.h). A tree that is filled beyond its
- * limits is read-only for good: then deletions, and upserts of keys that have a value, are FULL, too, since each would have to split its page first. Reads and
+ * limits may be read-only for good: then deletions, and upserts of keys that have a value, are FULL, too, since each would have to split its page first. Reads and
  * walks go on, and so does bwtree_close_pairs: open a larger tree with these pairs. A program that takes keys from outside keeps count of them.
  *
  * Order: the tree is linearizable (Herlihy and Wing), proved over all states of the tree. All calls of all threads form one sequential history of an
@@ -144,8 +144,9 @@ int bwtree_goes_with(const char *version);
 /* ---- The proved functions. They test no pointer: a slice is a pointer that isn't null, also where its length is 0, and its length in bytes.
  * Proved of them: a call continues its seat from the last call on it, and a closing hands over what all calls that have returned have left
  * (docs/PROVED.md, Calls from C).
- * Each answers what its namesake below answers, but BWTREE_NULL. The two that open answer OPEN also of a handle whose tree is closed: bwtree_raw_vacate makes
- * its bytes zero first (OK), and answers OPEN where the tree isn't closed or pairs wait, with the handle as it was. ---- */
+ * Each answers what its namesake below answers (raw_swap what compare_and_set, raw_room what free_room does), but BWTREE_NULL. The two that open answer OPEN
+ * also of a handle whose tree is closed: bwtree_raw_vacate makes its bytes zero first (OK), and answers OPEN where the tree isn't closed or pairs wait, with
+ * the handle as it was. ---- */
 
 uint32_t bwtree_raw_limits_for_keys(uint64_t actors, uint64_t keys, bwtree_limits *limits);
 uint32_t bwtree_raw_limits_for_many_keys(uint64_t actors, uint64_t keys, bwtree_limits *limits);
@@ -180,7 +181,7 @@ BWTREE_PRIVATE_ const void *bwtree_slice_(const void *bytes) {
 }
 
 /* Limits for a tree with so many seats and so many different keys, all counted that it ever has. OK with `limits`; BAD_LIMITS, of 0 or more than 16 seats, and
- * of more than 12,199 keys. */
+ * of more keys than fit: 12,199 for one seat, 11,535 for 4, 9,751 for 16. */
 BWTREE_INLINE uint32_t bwtree_limits_for_keys(uint64_t actors, uint64_t keys, bwtree_limits *limits) {
     if (!limits) return BWTREE_NULL;
     return bwtree_raw_limits_for_keys(actors, keys, limits);

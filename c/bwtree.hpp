@@ -81,7 +81,7 @@ public:
     // Its number, from 0 on.
     uint32_t number() const noexcept { return number_; }
 
-    // How long a write waits while the tree is full, before it throws error(BWTREE_FULL): of a seat that was leased, not at all.
+    // How long a write waits while the tree is full, before it throws error(BWTREE_FULL). A seat that was just leased doesn't wait.
     void set_patience(std::chrono::nanoseconds most) noexcept { patience_ = most; }
     // What may become of a write that is full, as far as what is free tells: a hint, of which nothing is proved (bwtree_waits.h). Throws CLOSED, BUSY, NULL.
     [[nodiscard]] bwtree_full_hints full_hint() {

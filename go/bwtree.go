@@ -106,7 +106,7 @@ func (limits Limits) raw() C.bwtree_limits {
 }
 
 // LimitsForKeys are for so many seats and so many different keys, all counted that the tree ever has. It returns ErrBadLimits for no seats or more than 16, and
-// for more than 12,199 keys.
+// for more keys than fit: 12,199 for one seat, 11,535 for 4, 9,751 for 16.
 func LimitsForKeys(seats, keys uint64) (Limits, error) {
 	var limits C.bwtree_limits
 	if err := settled(C.bwtree_limits_for_keys(C.uint64_t(seats), C.uint64_t(keys), &limits)); err != nil {

@@ -34,7 +34,8 @@ func (seat *Seat) FullHint() (FullHint, error) {
 	return FullHint(hint), err
 }
 
-// SetPatience sets how long a write waits while the tree is full, before it returns ErrFull. A seat that was leased doesn't wait.
+// SetPatience sets how long a write waits while the tree is full, before it returns ErrFull. A seat that was just leased doesn't
+// wait.
 func (seat *Seat) SetPatience(most time.Duration) {
 	seat.patience = most
 }

@@ -146,7 +146,7 @@ impl Limits {
     ///
     /// # Errors
     ///
-    /// [`Error::BadLimits`] of no seats or more than 16, and of more than 12,199 keys.
+    /// [`Error::BadLimits`] of no seats or more than 16, and of more keys than fit: 12,199 for one seat, 11,535 for 4, 9,751 for 16.
     pub fn for_keys(seats: u64, keys: u64) -> Result<Limits> {
         let mut limits = RawLimits::default();
         // SAFETY: `limits` lives as long as the call.

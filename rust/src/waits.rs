@@ -63,7 +63,8 @@ impl Wait {
 }
 
 impl Seat<'_> {
-    /// Sets how long a write waits while the tree is full, before it returns [`Error::Full`]. A seat that was leased doesn't wait.
+    /// Sets how long a write waits while the tree is full, before it returns [`Error::Full`]. A seat that was just leased
+    /// doesn't wait.
     ///
     /// ```
     /// let tree = bwtree::Tree::for_keys(1, 100)?;

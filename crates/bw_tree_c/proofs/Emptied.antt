@@ -7,7 +7,7 @@ use Rattle.call_log.specs.declared.log.Known.{Known}
 use Rattle.call_log.specs.Logs.{BeganAs, IsLog, seats_after, stage_of}
 use Rattle.call_log.specs.Rule.{ExtendsAll, known, receipt}
 use Rattle.call_log.specs.Steps.{CanEnd, HasEnded, HasLoggedClosing, HasLoggedEmptying, HasRecalled, observing}
-use Rattle.call_log.proofs.Logs.{began_more, second_of_both}
+use Rattle.call_log.proofs.Logs.{second_of_both}
 use Rattle.running_tree.specs.Seats.{Seat}
 use Rattle.bw_tree_c.specs.Closing.{CanEmpty, HandsOver, HasMore, IsForgotten, IsHandedOver, IsKept}
 use Rattle.bw_tree_c.specs.Hands.{HasBelow, SeatHand, opened_of}
@@ -47,8 +47,8 @@ module _ (opened : List Seat) (event : Event Seat) (stage : ℕ) (left : List Se
   view note it noted views = views ∙ ap (λ m. m.0 ∷ []) noted ∙ ap (λ m. receipt m.0.logs ∷ []) now
 
   -- the log came behind what others had seen, whose logs stand behind these
-  pub behind : (some others : List (Known Seat)) → old.me.0.logs ≡ some ++ others → (it : List (Event Seat)) → others ≡ known opened it ∷ [] → BeganAs (ended.log ++ event ∷ []) it
-  behind some others both it one = began_more ended.log it (event ∷ [])
+  pub behind : (some others : List (Known Seat)) → old.me.0.logs ≡ some ++ others → (it : List (Event Seat)) → others ≡ known opened it ∷ [] → BeganAs ended.log it
+  behind some others both it one =
       (subst (ExtendsAll ended.opened ended.log) one (second_of_both ended.opened ended.log some others (subst (ExtendsAll ended.opened ended.log) both ended.seen))).0.1
 
 not_one : (P : Type 0) (n : ℕ) → suc (suc n) ≡ 1 → P
@@ -123,7 +123,7 @@ module _ (shared : Shared) (hand : SeatHand) (can : CanEmpty shared hand) (since
     forgotten it table views =
         let seats = shared.log.shared.key.items in let rest = can.rest ++ other.me.0.logs in record {
           by = record {
-            log = emptied.log ++ Emptied ∷ [];
+            log = emptied.log;
             behind = λ seen is. behind seats Emptied 2 [] can.log rest heard new none logs emptied (known seats can.log ∷ can.rest) other.me.0.logs logs seen
                 (observes.sees seen is);
             seen = record {
@@ -254,20 +254,17 @@ module _ (shared : Shared) (left : LeftPairs) (it : IsLeftAt shared.log.shared.t
 
   pub handed : (since told : Receipt) (hand : SeatHand) → hand ≡ left.hand → IsForgotten shared hand.me.0.here since told → IsHandedOver shared left.pairs.items since told
   handed since told hand same gone = record {
-    log = gone.by.log;
-    behind = gone.by.behind;
-    seen = gone.by.seen;
-    stage = gone.by.stage;
+    by = gone.by;
     left = subst (λ xs. ArePairsLeft xs left.pairs.items) (sym (gone.left ∙ ap (λ (h : SeatHand). h.me.0.here) same ∙ ap (λ m. m.0.here) it.me)) it.pairs;
   }
 
   pub hands_over : (kept : Option Shared) (since told : Receipt) (count : ℕ) (written : List Pair) → kept ≡ Some shared → IsHandedOver shared left.pairs.items since told
       → count ≡ length left.pairs.items → ShowFirst (length left.pairs.items) left.pairs.items written → HandsOver kept since told count written
   hands_over kept since told count written is over many shows = subst (λ k. HandsOver k since told count written) (sym is) (record {
-    log = over.log;
-    behind = over.behind;
-    receipt = over.seen;
-    stage = over.stage;
+    log = over.by.log;
+    behind = over.by.behind;
+    receipt = over.by.seen;
+    stage = over.by.stage;
     pairs = left.pairs.items;
     left = over.left;
     count = many;

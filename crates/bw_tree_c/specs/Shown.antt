@@ -13,6 +13,10 @@ use Rattle.bw_tree_c.specs.declared.bytes.TreeLimits.{TreeLimits}
 abbrev pub bytes_in : Bytes → List ℕ
 bytes_in b = take b.length b.bytes
 
+-- The bytes are shown: C may read as many as there are.
+abbrev pub ShowsBytes : List ℕ → Bytes → Type 0
+ShowsBytes bytes at = (at.length ≡ length bytes) × (bytes_in at ≡ bytes)
+
 -- The limits are shown.
 pub record ShowsLimits (limits : Limits) (shows : TreeLimits) : Type 0 where
   pub actors : shows.actors ≡ limits.actors
@@ -33,7 +37,7 @@ ShowsRoom room shows = (shows.free_pids ≡ room.free_pids) × (shows.free_rows 
 
 -- The pair is shown.
 abbrev pub ShowsPair : List ℕ × List ℕ → Pair → Type 0
-ShowsPair pair at = (bytes_in at.key ≡ pair.0) × (bytes_in at.value ≡ pair.1)
+ShowsPair pair at = ShowsBytes pair.0 at.key × ShowsBytes pair.1 at.value
 
 -- The first pairs are shown, each at its place.
 abbrev pub ShowFirst : ℕ → List (List ℕ × List ℕ) → List Pair → Type 0
@@ -46,7 +50,7 @@ ShowsAllPairs pairs page = (page.count ≡ length pairs) × ShowFirst (length pa
 -- The key from which the next page goes on is shown, or that there is none.
 abbrev pub ShowsNext : Option (List ℕ) → Page → Type 0
 ShowsNext None page = page.more ≡ 0
-ShowsNext (Some key) page = (page.more ≡ 1) × (bytes_in page.next ≡ key)
+ShowsNext (Some key) page = (page.more ≡ 1) × ShowsBytes key page.next
 
 abbrev pub ShowsWholePage : List (List ℕ × List ℕ) → Option (List ℕ) → Page → Type 0
 ShowsWholePage pairs next page = ShowsAllPairs pairs page × ShowsNext next page

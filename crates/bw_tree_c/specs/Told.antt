@@ -6,7 +6,7 @@ use Rattle.running_tree.specs.declared.called.Called.{Called}
 use Rattle.running_tree.specs.declared.called.Called.TheVariants.{Done, Spent}
 use Rattle.bw_tree_c.specs.declared.bytes.Bytes.{Bytes}
 use Rattle.bw_tree_c.specs.declared.bytes.Page.{Page}
-use Rattle.bw_tree_c.specs.Shown.{ShowsWholePage, bytes_in}
+use Rattle.bw_tree_c.specs.Shown.{ShowsBytes, ShowsWholePage}
 
 -- the value that a reply has, if it has one
 abbrev pub reply_value : Reply → Option (List ℕ)
@@ -45,7 +45,7 @@ reply_page reply.Full = None
 -- The value is what C reads; where there is none, nothing is written.
 abbrev pub ShowsValue : Option (List ℕ) → Bytes → Bytes → Type 0
 ShowsValue None old new = new ≡ old
-ShowsValue (Some value) old new = bytes_in new ≡ value
+ShowsValue (Some value) old new = ShowsBytes value new
 
 abbrev pub TellsValue : Reply → Bytes → Bytes → Type 0
 TellsValue given old new = ShowsValue (reply_value given) old new

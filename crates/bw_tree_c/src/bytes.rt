@@ -1,6 +1,6 @@
 //! What C reads: short lists of bytes, pages of pairs, limits and counts.
 ghost use Rattle.std.specs.Prelude.{◌≡◌, ◌≤◌, MatchOption, length};
-ghost use Rattle.bw_tree_c.specs.Shown.{AreOpenable, ShowsLimits, ShowsNext, ShowsWholePage, ShowFirst, ShowsPair, ShowsRoom, bytes_in};
+ghost use Rattle.bw_tree_c.specs.Shown.{AreOpenable, ShowFirst, ShowsBytes, ShowsLimits, ShowsNext, ShowsPair, ShowsRoom, ShowsWholePage};
 
 use bw_model::{Key, Limits, Pairs, Value};
 use running_tree::Room;
@@ -55,7 +55,7 @@ impl Bytes {
     /// These bytes from now on.
     pub(crate) fn set(&mut self, bytes: &[u8])
         requires { length bytes.now ≤ 64 }
-        ensures { bytes_in self.new ≡ bytes.now }
+        ensures { ShowsBytes bytes.now self.new }
     {
         self.bytes[..bytes.len()].copy_from_slice(bytes);
         self.length = bytes.len() as u64;

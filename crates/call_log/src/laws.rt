@@ -14,7 +14,7 @@ pub fn logs_agree<X, P: Course<X>>()
     ensures { LogsAgree P.goes_on }
 {}
 
-/// A call comes behind all that anybody has seen when it is written: so a call that begins once another one has returned comes behind it.
+/// At each moment a call can be written behind all that anybody has seen by then. What a clause says of one call is that it comes behind what its hand has seen.
 pub fn calls_come_last<X, P: Course<X>>()
     ensures { CallsComeLast P.goes_on }
 {}

@@ -9,8 +9,8 @@
 //! behind that.
 //!
 //! So what clauses say of two calls of one handle is connected: their receipts are of one table, and of any two logs that were seen one is the beginning of the
-//! other (`logs_agree`). A call comes after all that was seen when it is written (`calls_come_last`). Each call in a log continues from the last one on its
-//! seat, and what a closing finds continues from all of them (`calls_follow`).
+//! other (`logs_agree`). A call comes behind what its hand has seen, and at each moment one can be written behind all that anybody has seen by then
+//! (`calls_come_last`). Each call in a log continues from the last one on its seat, and what a closing finds continues from all of them (`calls_follow`).
 //!
 //! `bw_tree_c` calls it. It knows no tree: what a seat is, and how one goes on, is for the caller to define (`Course`).
 #![tactic(auto)]
