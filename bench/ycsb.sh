@@ -1,9 +1,9 @@
 #!/bin/sh
 # YCSB on the tree, by its C library, beside other ordered maps in memory, each that is installed:
 #   bench/ycsb.sh [KEYS [MILLISECONDS [CSV [KINDS [DISTRIBUTIONS [THREADS]]]]]]
-# so many keys (1000000), so many milliseconds for each cell (400), and a file for the results (ycsb.csv), whose columns are listed at the head of
-# bench/ycsb/main.cpp with what the letters of KINDS (mre) and DISTRIBUTIONS (uz) and the digits of THREADS (124) stand for. A tree for a million keys
-# takes 3.8 GB while it is opened.
+# so many keys (1000000), so many milliseconds for each cell (400), and a file for the results (ycsb.csv), which bench/plot.py draws. Its columns are listed at
+# the head of bench/ycsb/main.cpp with what the letters of KINDS (mre) and DISTRIBUTIONS (uz) and the digits of THREADS (124) stand for. A tree for a million keys
+# takes 900 MB while it is opened.
 # The others: std::map under a shared_mutex, bench's own B+-tree with optimistic locks (bench/ycsb/olc_tree.hpp), TBB (libtbb-dev), LMDB (liblmdb-dev),
 # RocksDB's memtable (librocksdb-dev), JDK's ConcurrentSkipListMap (default-jdk-headless).
 # bench/ycsb.sh test runs the tests of that B+-tree instead, also with -fsanitize=thread where the compiler has it.

@@ -77,7 +77,7 @@ enum {
     BWTREE_REPLACED = 3,    /* done: the key had the value `old` before (upsert, add) */
     BWTREE_DIFFERS = 4,     /* the key has the value `old`, and keeps it: not the expected one (delete_if, compare_and_set), or not of eight bytes (add) */
     BWTREE_FULL = 5,        /* nothing was free for a change, and no key was changed: for a moment, or for good (above, *Full*) */
-    BWTREE_SPENT = 6,       /* after 65,536 steps, or as many as resume was given, the operation isn't done: it stays in the seat. Resume it */
+    BWTREE_SPENT = 6,       /* after 65,536 steps, or as many as the call was given, the operation isn't done: it stays in the seat. Resume it */
     BWTREE_NO_ROOM = 7,     /* the tree is closed, and its pairs, which are more than there is room for, wait (close_pairs) */
     BWTREE_CLOSED = 16,     /* the tree is closed, or was never opened */
     BWTREE_NO_SEAT = 17,    /* the tree has no seat of this number */
@@ -103,9 +103,13 @@ typedef struct bwtree {
 typedef struct bwtree_limits {
     uint64_t actors;  /* seats: 1 to 16, of a large tree to 63 */
     uint64_t pages;   /* pages: 64 to 4,096, of a large tree to 4,194,304, a multiple of 64 */
-    uint64_t records; /* records: 64 to 16,384, of a large tree to 67,108,864, a multiple of 64; one takes 4,096 bytes */
+    uint64_t records; /* records: 64 to 16,384, of a large tree to 67,108,864, a multiple of 64; one takes 4,096 bytes, but with large = 2 */
     uint64_t epoch;   /* at which the tree opens: 1 to 2^62; 1 if nothing else is wanted */
-    uint64_t large;   /* 1 of a large tree, whose pages take fewer records, else 0 */
+    uint64_t large;   /* 0 of a small tree; of a large one, whose pages take fewer records, 1, or 2 with records of three widths: */
+    uint64_t narrow_records; /* so many records, a multiple of 64, have narrow_words words of 8 bytes, for single changes */
+    uint64_t wide_from;      /* those from there up to this number, a multiple of 64 below records, have page_words, for pages; the others have 512 */
+    uint64_t narrow_words;   /* 8 at least */
+    uint64_t page_words;     /* 24 to 512, and not less than narrow_words */
 } bwtree_limits;
 
 /* At most 64 bytes: the first `length` of them count. */
@@ -150,16 +154,20 @@ int bwtree_goes_with(const char *version);
 
 uint32_t bwtree_raw_limits_for_keys(uint64_t actors, uint64_t keys, bwtree_limits *limits);
 uint32_t bwtree_raw_limits_for_many_keys(uint64_t actors, uint64_t keys, bwtree_limits *limits);
+uint32_t bwtree_raw_limits_for_pairs(uint64_t actors, uint64_t keys, uint64_t key_bytes, uint64_t value_bytes, bwtree_limits *limits);
 uint32_t bwtree_raw_open(const bwtree_limits *limits, bwtree *tree);
 uint32_t bwtree_raw_open_from(const bwtree_limits *limits, const bwtree_pair *pairs, size_t count, bwtree *tree);
 uint32_t bwtree_raw_vacate(bwtree *tree);
 uint32_t bwtree_raw_close(const bwtree *tree);
 uint32_t bwtree_raw_close_pairs(const bwtree *tree, bwtree_pair *pairs, size_t room, uint64_t *count);
 uint32_t bwtree_raw_get(const bwtree *tree, uint32_t seat, const void *key, size_t key_length, bwtree_bytes *value);
+uint32_t bwtree_raw_get_within(const bwtree *tree, uint32_t seat, uint32_t budget, const void *key, size_t key_length, bwtree_bytes *value);
 uint32_t bwtree_raw_insert(const bwtree *tree, uint32_t seat, const void *key, size_t key_length, const void *value, size_t value_length,
                            bwtree_bytes *old);
 uint32_t bwtree_raw_upsert(const bwtree *tree, uint32_t seat, const void *key, size_t key_length, const void *value, size_t value_length,
                            bwtree_bytes *old);
+uint32_t bwtree_raw_upsert_within(const bwtree *tree, uint32_t seat, uint32_t budget, const void *key, size_t key_length, const void *value,
+                                  size_t value_length, bwtree_bytes *old);
 uint32_t bwtree_raw_delete(const bwtree *tree, uint32_t seat, const void *key, size_t key_length, bwtree_bytes *old);
 uint32_t bwtree_raw_delete_if(const bwtree *tree, uint32_t seat, const void *key, size_t key_length, const void *expected, size_t expected_length,
                               bwtree_bytes *old);
@@ -187,10 +195,18 @@ BWTREE_INLINE uint32_t bwtree_limits_for_keys(uint64_t actors, uint64_t keys, bw
     return bwtree_raw_limits_for_keys(actors, keys, limits);
 }
 
-/* Limits for a large tree: up to 27 million keys, in some 1,900 bytes each. OK with `limits`; BAD_LIMITS, of 0 or more than 63 seats, and of too many keys. */
+/* Limits for a large tree of pairs of any length: up to 27 million keys, in some 450 bytes each. OK with `limits`; BAD_LIMITS, of 0 or more than 63 seats, and
+ * of too many keys. */
 BWTREE_INLINE uint32_t bwtree_limits_for_many_keys(uint64_t actors, uint64_t keys, bwtree_limits *limits) {
     if (!limits) return BWTREE_NULL;
     return bwtree_raw_limits_for_many_keys(actors, keys, limits);
+}
+
+/* Limits for a large tree of pairs whose keys and values mostly have at most so many bytes, of 16 and 8 in some 131 bytes a key; longer pairs are taken, too, as
+ * far as wide records suffice, one for each 32 pages. Where values are empty, say 1. OK with `limits`; BAD_LIMITS, of more than 64 bytes, too. */
+BWTREE_INLINE uint32_t bwtree_limits_for_pairs(uint64_t actors, uint64_t keys, uint64_t key_bytes, uint64_t value_bytes, bwtree_limits *limits) {
+    if (!limits) return BWTREE_NULL;
+    return bwtree_raw_limits_for_pairs(actors, keys, key_bytes, value_bytes, limits);
 }
 
 /* Opens an empty tree. The handle was never opened, or its tree is closed. OK; BAD_LIMITS, OPEN, BAD_VERSION: the handle
@@ -218,7 +234,7 @@ BWTREE_INLINE uint32_t bwtree_open_from(const bwtree_limits *limits, const bwtre
     return status;
 }
 
-/* Closes a tree, and frees it; or frees the pairs that wait. OK; CLOSED, BUSY: the tree stays open. 177 bytes of an opened tree, and 24 for each seat, are
+/* Closes a tree, and frees it; or frees the pairs that wait. OK; CLOSED, BUSY: the tree stays open. 209 bytes of an opened tree, and 24 for each seat, are
  * never freed, so that a call that comes too late is answered CLOSED, whenever it comes. */
 BWTREE_INLINE uint32_t bwtree_close(const bwtree *tree) {
     if (!tree) return BWTREE_NULL;
@@ -241,6 +257,13 @@ BWTREE_INLINE uint32_t bwtree_get(const bwtree *tree, uint32_t seat, const void 
     return bwtree_raw_get(tree, seat, bwtree_slice_(key), key_length, value);
 }
 
+/* As bwtree_get, in at most `budget` steps (of 0 SPENT, and nothing is begun), for a caller whose calls must be short. A step is one load, store or exchange in
+ * the tree, and what is computed between two. */
+BWTREE_INLINE uint32_t bwtree_get_within(const bwtree *tree, uint32_t seat, uint32_t budget, const void *key, size_t key_length, bwtree_bytes *value) {
+    if (!tree || !value || (!key && key_length)) return BWTREE_NULL;
+    return bwtree_raw_get_within(tree, seat, budget, bwtree_slice_(key), key_length, value);
+}
+
 /* Gives a key a value where it has none. OK, EXISTS with `old`, FULL; SPENT, CLOSED, NO_SEAT, BUSY, UNFINISHED, TOO_LONG. */
 BWTREE_INLINE uint32_t bwtree_insert(const bwtree *tree, uint32_t seat, const void *key, size_t key_length, const void *value, size_t value_length,
                                      bwtree_bytes *old) {
@@ -253,6 +276,13 @@ BWTREE_INLINE uint32_t bwtree_upsert(const bwtree *tree, uint32_t seat, const vo
                                      bwtree_bytes *old) {
     if (!tree || !old || (!key && key_length) || (!value && value_length)) return BWTREE_NULL;
     return bwtree_raw_upsert(tree, seat, bwtree_slice_(key), key_length, bwtree_slice_(value), value_length, old);
+}
+
+/* As bwtree_upsert, in at most `budget` steps (of 0 SPENT, and nothing is begun). */
+BWTREE_INLINE uint32_t bwtree_upsert_within(const bwtree *tree, uint32_t seat, uint32_t budget, const void *key, size_t key_length, const void *value,
+                                            size_t value_length, bwtree_bytes *old) {
+    if (!tree || !old || (!key && key_length) || (!value && value_length)) return BWTREE_NULL;
+    return bwtree_raw_upsert_within(tree, seat, budget, bwtree_slice_(key), key_length, bwtree_slice_(value), value_length, old);
 }
 
 /* Makes a key absent. OK with `old`, ABSENT, FULL; SPENT, CLOSED, NO_SEAT, BUSY, UNFINISHED, TOO_LONG. */

@@ -87,13 +87,27 @@ func settled(status C.uint32_t) error {
 type Limits struct {
 	Actors  uint64 // seats: 1 to 16, of a large tree to 63
 	Pages   uint64 // pages: 64 to 4,096, of a large tree to 4,194,304, a multiple of 64
-	Records uint64 // records, of 4,096 bytes each: 64 to 16,384, of a large tree to 67,108,864, a multiple of 64
+	Records uint64 // records, of 4,096 bytes each, but with Widths: 64 to 16,384, of a large tree to 67,108,864, a multiple of 64
 	Large   bool   // whether it is a large tree, whose pages take fewer records
+	Widths  Widths // of a large tree's records, where they have not all the same one
+}
+
+// Widths say that records have three widths: narrow ones for single changes, then those for pages, then the others, of 512 words. A word has 8 bytes. None is
+// said by zeros.
+type Widths struct {
+	NarrowRecords uint64 // how many are narrow: a multiple of 64
+	WideFrom      uint64 // the first one of 512 words: a multiple of 64, below Records, and not 0
+	NarrowWords   uint64 // how many words a narrow one has: 8 at least
+	PageWords     uint64 // how many words one for pages has: 24 to 512, and not less than a narrow one
 }
 
 // shown are the limits that C shows.
 func shown(limits C.bwtree_limits) Limits {
-	return Limits{uint64(limits.actors), uint64(limits.pages), uint64(limits.records), limits.large == 1}
+	var widths Widths
+	if limits.large == 2 {
+		widths = Widths{uint64(limits.narrow_records), uint64(limits.wide_from), uint64(limits.narrow_words), uint64(limits.page_words)}
+	}
+	return Limits{uint64(limits.actors), uint64(limits.pages), uint64(limits.records), limits.large > 0, widths}
 }
 
 // raw are the limits as C has them.
@@ -101,6 +115,14 @@ func (limits Limits) raw() C.bwtree_limits {
 	raw := C.bwtree_limits{actors: C.uint64_t(limits.Actors), pages: C.uint64_t(limits.Pages), records: C.uint64_t(limits.Records), epoch: 1}
 	if limits.Large {
 		raw.large = 1
+	}
+	if widths := limits.Widths; widths != (Widths{}) {
+		raw.large = 2
+		if !limits.Large {
+			raw.large = 3 // widths of a small tree are refused
+		}
+		raw.narrow_records, raw.wide_from = C.uint64_t(widths.NarrowRecords), C.uint64_t(widths.WideFrom)
+		raw.narrow_words, raw.page_words = C.uint64_t(widths.NarrowWords), C.uint64_t(widths.PageWords)
 	}
 	return raw
 }
@@ -115,8 +137,18 @@ func LimitsForKeys(seats, keys uint64) (Limits, error) {
 	return shown(limits), nil
 }
 
-// LimitsForManyKeys are limits for a large tree: up to 27 million keys, in some 1,900 bytes each. It returns ErrBadLimits for no seats or more than 63, and for
-// too many keys.
+// LimitsForPairs are limits for a large tree of pairs whose keys and values mostly have at most so many bytes, of 16 and 8 in some 131 bytes a key. Longer pairs
+// are taken, too, as far as there is room. It returns ErrBadLimits for no seats or more than 63, for too many keys, and for more than 64 bytes.
+func LimitsForPairs(seats, keys, keyBytes, valueBytes uint64) (Limits, error) {
+	var limits C.bwtree_limits
+	if err := settled(C.bwtree_limits_for_pairs(C.uint64_t(seats), C.uint64_t(keys), C.uint64_t(keyBytes), C.uint64_t(valueBytes), &limits)); err != nil {
+		return Limits{}, err
+	}
+	return shown(limits), nil
+}
+
+// LimitsForManyKeys are limits for a large tree of pairs of any length: up to 27 million keys, in some 450 bytes each. It returns ErrBadLimits for no seats or
+// more than 63, and for too many keys.
 func LimitsForManyKeys(seats, keys uint64) (Limits, error) {
 	var limits C.bwtree_limits
 	if err := settled(C.bwtree_limits_for_many_keys(C.uint64_t(seats), C.uint64_t(keys), &limits)); err != nil {
@@ -288,8 +320,8 @@ func (tree *Tree) SeatContext(ctx context.Context) (*Seat, error) {
 	}
 }
 
-// With leases a seat, waits for one where none is free, runs a function with it, and releases it, also where the function panics. It returns what the function
-// does.
+// With leases a seat, waits for one where none is free, runs a function with it, and releases it, also where the function panics. Its error is that of the
+// function.
 func (tree *Tree) With(run func(seat *Seat) error) error {
 	seat := tree.Seat()
 	defer seat.Release()
@@ -427,8 +459,8 @@ func (seat *Seat) Get(key []byte) (value []byte, found bool, err error) {
 	return seat.shown(status, err, C.BWTREE_OK)
 }
 
-// AppendGet puts the value of a key behind what a slice has, and says whether there is one: it allocates nothing where the slice has room. It returns what Get
-// does, with the slice as it was.
+// AppendGet puts the value of a key behind what a slice has, and says whether there is one: it allocates nothing where the slice has room. It returns
+// ErrTooLong, ErrClosed or ErrBusy, with the slice as it was.
 func (seat *Seat) AppendGet(to, key []byte) (with []byte, found bool, err error) {
 	status, err := seat.looked(key)
 	if err != nil || status != C.BWTREE_OK {
@@ -437,7 +469,7 @@ func (seat *Seat) AppendGet(to, key []byte) (with []byte, found bool, err error)
 	return append(to, written(&seat.old)...), true, nil
 }
 
-// Contains says whether a key has a value. It allocates nothing. It returns what Get does.
+// Contains says whether a key has a value. It allocates nothing. It returns ErrTooLong, ErrClosed or ErrBusy.
 func (seat *Seat) Contains(key []byte) (bool, error) {
 	status, err := seat.looked(key)
 	return err == nil && status == C.BWTREE_OK, err

@@ -84,7 +84,23 @@ func TestLimits(t *testing.T) {
 	if _, err := LimitsForManyKeys(64, 1); !errors.Is(err, ErrBadLimits) {
 		t.Fatal(err)
 	}
-	if _, err := Open(Limits{1, 63, 64, false}); !errors.Is(err, ErrBadLimits) {
+	if _, err := Open(Limits{Actors: 1, Pages: 63, Records: 64}); !errors.Is(err, ErrBadLimits) {
+		t.Fatal(err)
+	}
+	if _, err := LimitsForPairs(1, 1000, 65, 8); !errors.Is(err, ErrBadLimits) {
+		t.Fatal(err)
+	}
+	limits, err := LimitsForPairs(1, 1000, 16, 8)
+	if err != nil || !limits.Large || limits.Widths.PageWords != 72 {
+		t.Fatal(limits, err)
+	}
+	tree, err := Open(limits)
+	if err != nil || tree.Close() != nil {
+		t.Fatal(err)
+	}
+	small := limits
+	small.Large = false
+	if _, err := Open(small); !errors.Is(err, ErrBadLimits) {
 		t.Fatal(err)
 	}
 }
@@ -148,7 +164,7 @@ func TestDroppedSeats(t *testing.T) {
 }
 
 func TestFull(t *testing.T) {
-	tree, err := Open(Limits{1, 64, 64, false})
+	tree, err := Open(Limits{Actors: 1, Pages: 64, Records: 64})
 	if err != nil {
 		t.Fatal(err)
 	}

@@ -62,8 +62,8 @@ func (seat *Seat) Page(from []byte) (pairs []Pair, next []byte, more bool, err e
 	return seat.turned(C.page(seat.handle(), C.uint32_t(seat.number), &seat.key, seat.filled()))
 }
 
-// Back is the pairs of the leaf that has a key, up to that key, keys ascending, and the key at which the next page backward goes on, if there is more. It
-// returns what Page does.
+// Back is the pairs of the leaf that has a key, up to that key, keys ascending, and the key at which the next page backward begins, if there is more. It
+// returns ErrTooLong, ErrClosed or ErrBusy.
 func (seat *Seat) Back(upto []byte) (pairs []Pair, next []byte, more bool, err error) {
 	if err := seat.pass(upto, nil, nil); err != nil {
 		return nil, nil, false, err
@@ -90,7 +90,7 @@ func (seat *Seat) Walk(from []byte, each func(key, value []byte) bool) error {
 	return seat.WalkRange(Range{From: from}, each)
 }
 
-// WalkRange is Walk for the keys of a range. It returns ErrTooLong where a bound has more than 64 bytes, and else what Walk does.
+// WalkRange is Walk for the keys of a range. It returns ErrTooLong where a bound has more than 64 bytes; ErrClosed or ErrBusy: the pairs before were shown.
 func (seat *Seat) WalkRange(keys Range, each func(key, value []byte) bool) error {
 	if len(keys.Below) > MaxLength {
 		return ErrTooLong
@@ -111,7 +111,7 @@ func (seat *Seat) WalkRange(keys Range, each func(key, value []byte) bool) error
 	return nil
 }
 
-// WalkBack is WalkRange from the greatest key of a range down. It returns what WalkRange does.
+// WalkBack is WalkRange from the greatest key of a range down. It returns ErrTooLong, ErrClosed or ErrBusy, as WalkRange does.
 func (seat *Seat) WalkBack(keys Range, each func(key, value []byte) bool) error {
 	if len(keys.From) > MaxLength || len(keys.Below) > MaxLength {
 		return ErrTooLong
@@ -136,14 +136,14 @@ func (seat *Seat) WalkBack(keys Range, each func(key, value []byte) bool) error 
 }
 
 // All is the pairs of a range for a loop, keys ascending: from Go 1.23 on, for key, value := range seat.All(keys, &err). Where a page can't be read, the loop
-// ends, and err says why.
+// ends, and err is ErrTooLong, ErrClosed or ErrBusy; else it is nil.
 func (seat *Seat) All(keys Range, err *error) func(yield func(key, value []byte) bool) {
 	return func(yield func(key, value []byte) bool) {
 		*err = seat.WalkRange(keys, yield)
 	}
 }
 
-// Backward is All from the greatest key of a range down.
+// Backward is All from the greatest key of a range down. Where the loop ends early, err is ErrTooLong, ErrClosed or ErrBusy.
 func (seat *Seat) Backward(keys Range, err *error) func(yield func(key, value []byte) bool) {
 	return func(yield func(key, value []byte) bool) {
 		*err = seat.WalkBack(keys, yield)
@@ -168,27 +168,27 @@ func nearest(page func([]byte) ([]Pair, []byte, bool, error), at []byte, isBack 
 }
 
 // First is the pair of the least key, and whether there is one. As with the functions below, the answer is atomic if the first page that is read has a pair;
-// otherwise it is a walk's. Each returns ErrTooLong, ErrClosed or ErrBusy.
+// otherwise it is a walk's. It returns ErrClosed or ErrBusy.
 func (seat *Seat) First() (Pair, bool, error) {
 	return nearest(seat.Page, nil, false)
 }
 
-// Last is the pair of the greatest key.
+// Last is the pair of the greatest key. It returns ErrClosed or ErrBusy.
 func (seat *Seat) Last() (Pair, bool, error) {
 	return nearest(seat.Back, greatest, true)
 }
 
-// Ceiling is the pair of the least key that isn't below this one.
+// Ceiling is the pair of the least key that isn't below this one. It returns ErrTooLong, ErrClosed or ErrBusy.
 func (seat *Seat) Ceiling(key []byte) (Pair, bool, error) {
 	return nearest(seat.Page, key, false)
 }
 
-// Floor is the pair of the greatest key that isn't above this one.
+// Floor is the pair of the greatest key that isn't above this one. It returns ErrTooLong, ErrClosed or ErrBusy.
 func (seat *Seat) Floor(key []byte) (Pair, bool, error) {
 	return nearest(seat.Back, key, true)
 }
 
-// Higher is the pair of the least key above this one.
+// Higher is the pair of the least key above this one. It returns ErrTooLong, ErrClosed or ErrBusy.
 func (seat *Seat) Higher(key []byte) (Pair, bool, error) {
 	if len(key) > MaxLength {
 		return Pair{}, false, ErrTooLong
@@ -199,7 +199,7 @@ func (seat *Seat) Higher(key []byte) (Pair, bool, error) {
 	return Pair{}, false, nil
 }
 
-// Lower is the pair of the greatest key below this one.
+// Lower is the pair of the greatest key below this one. It returns ErrTooLong, ErrClosed or ErrBusy.
 func (seat *Seat) Lower(key []byte) (Pair, bool, error) {
 	if len(key) > MaxLength {
 		return Pair{}, false, ErrTooLong

@@ -197,7 +197,7 @@ func TestSumsAndCounts(t *testing.T) {
 	if !bytes.Equal(sum, AppendUint64(nil, 4*999*1000/2)) {
 		t.Fatal(sum)
 	}
-	given, err := OpenFrom(Limits{1, 64, 256, false}, []Pair{{[]byte("a"), nil}, {[]byte("b"), nil}})
+	given, err := OpenFrom(Limits{Actors: 1, Pages: 64, Records: 256}, []Pair{{[]byte("a"), nil}, {[]byte("b"), nil}})
 	if err != nil || given.Len() != 2 {
 		t.Fatal(err)
 	}

@@ -20,13 +20,13 @@ operation is done: its effect stays.
 import contextlib
 import ctypes
 import functools
+import io
 import queue
 import threading
 import time
-import weakref
-from collections.abc import Iterable, Iterator
+from collections.abc import Callable, Iterable, Iterator
 from enum import Enum
-from typing import Any, NamedTuple, NoReturn, Optional
+from typing import TYPE_CHECKING, Any, NamedTuple, NoReturn, Optional
 
 import bwtree_library as _lib
 import bwtree_walks
@@ -116,26 +116,29 @@ def _must(status: int) -> int:
 
 class Tree:
     """A tree with so many seats, for so many different keys, all counted that it ever has; or with so many pages and records. It has 1 to 16 seats, a large
-    one 1 to 63. A large tree takes up to 27 million keys, in some 1,900 bytes each. It has the given pairs, whose keys ascend.
+    one 1 to 63. A large tree takes up to 27 million keys, in some 450 bytes each; where key_bytes and value_bytes are given, as many as keys and values mostly
+    have at most, in fewer: of 16 and 8 in some 131. Longer pairs are taken, too, as far as there is room. It has the given pairs, whose keys ascend.
 
     Raises Error with the status BAD_LIMITS (22), BAD_ORDER (26) of pairs whose keys don't ascend, or NO_MEMORY (23); Full where the pairs don't all fit;
     ValueError for a key or value of more than 64 bytes, and for pages without records; TypeError for what has no bytes. No tree is open then."""
 
     def __init__(self, seats: int = 4, keys: int = 1000, *, pages: Optional[int] = None, records: Optional[int] = None, large: bool = False,
-                 pairs: Iterable[tuple[bytes, bytes]] = ()):
-        if not all(0 <= limit < 1 << 64 for limit in (seats, keys, pages or 0, records or 0)):
+                 key_bytes: Optional[int] = None, value_bytes: Optional[int] = None, pairs: Iterable[tuple[bytes, bytes]] = ()):
+        if not all(0 <= limit < 1 << 64 for limit in (seats, keys, pages or 0, records or 0, key_bytes or 0, value_bytes or 0)):
             raise Error(_lib.BAD_LIMITS)
         if (pages is None) != (records is None):
             raise ValueError("pages and records are given both, or neither")
+        if (key_bytes is None) != (value_bytes is None) or (key_bytes is not None and not (large and pages is None)):
+            raise ValueError("key_bytes and value_bytes are given both, of a large tree for so many keys, or neither")
         limits = _lib.Limits(seats, pages or 0, records or 0, 1, large)
-        if pages is None and records is None:
+        if key_bytes is not None:
+            _must(_lib.library.bwtree_raw_limits_for_pairs(seats, keys, key_bytes, value_bytes, ctypes.byref(limits)))
+        elif pages is None:
             propose = _lib.library.bwtree_raw_limits_for_many_keys if large else _lib.library.bwtree_raw_limits_for_keys
             _must(propose(seats, keys, ctypes.byref(limits)))
         self._limits = limits
         self._handle = _lib.Tree()
         self._free: "queue.SimpleQueue[int]" = queue.SimpleQueue()
-        # what gives each lent seat back when nothing refers to it any more
-        self._leases: "dict[int, weakref.ref[Seat]]" = {}
         self._seats = 0
         self._local = threading.local()
         # what a closing hands over, until it is told; there is less room than pairs where nothing is
@@ -158,7 +161,7 @@ class Tree:
     def local(self) -> "Seat":
         """The calling thread's own seat: leased at the thread's first call, where it waits for one, and given back when the thread ends or closes the tree."""
         seat: Optional[Seat] = getattr(self._local, "seat", None)
-        if seat is None or seat._tree is None:
+        if seat is None or not seat._is_lent():
             seat = self._local.seat = self.seat()
         return seat
 
@@ -227,30 +230,43 @@ class Tree:
             _lib.library.bwtree_raw_close(ctypes.byref(self._handle))
 
 
+class _GivesBack:
+    """What ends a seat's `with`: of a seat the call of C that gives it back, in which no signal's handler runs; of the class a function of a seat."""
+
+    def __get__(self, seat: "Optional[Seat]", of: type) -> Callable[..., Any]:
+        ends: Callable[..., Any] = self.__call__
+        if seat is not None:
+            ends = seat._lease.__exit__
+        return ends
+
+    def __call__(self, seat: "Seat", *_: object) -> None:
+        seat.close()
+
+
 class Seat(bwtree_walks.Walks):
     """A seat of a tree, for one thread at a time. It goes back to its tree by `close`, at the end of a `with`, or when nothing refers to it."""
 
     #: how many seconds a write waits while the tree is full, before it raises Full
     patience: float = 0.0
 
-    _tree: Optional[Tree] = None
-
     def __init__(self, tree: Tree, timeout: Optional[float]):
-        # An exception that a signal's handler raises, as of Ctrl-C, loses no number: taking it from the tree's queue into `numbers` and giving it back are one
-        # call of C each, which no handler interrupts. It is given back once, by `close` or when nothing refers to the seat.
-        numbers: list[int] = []
-        self._given_back = map(tree._free.put, iter(numbers))
-        self._lease = weakref.ref(self, functools.partial(next, self._given_back))
-        take = functools.partial(tree._free.get, timeout=timeout)
-        next(map(numbers.append, iter(take, _NOTHING)))
-        self._number = numbers[0]
-        tree._leases[self._number] = self._lease
+        # An exception that a signal's handler raises, as of Ctrl-C, loses no number: taking it from the tree's queue into `_numbers` and giving it back are one
+        # call of C each, which no handler interrupts. An IOBase calls its `close` from C, where a `with` ends, and where nothing refers to it any more.
         self._tree = tree
+        self._numbers: list[Any] = [_NOTHING]
+        self._lease = io.IOBase()
+        setattr(self._lease, "close", functools.partial(next, map(tree._free.put, iter(self._numbers.pop, _NOTHING)), None))
+        take = functools.partial(tree._free.get, timeout=timeout)
+        next(map(self._numbers.append, iter(take, _NOTHING)))
+        self._number: int = self._numbers[-1]
         # (an interrupt in the course of another one may have left an operation)
         _resumed(ctypes.pointer(tree._handle), self._number, _lib.Bytes(), _lib.Page())
 
+    def _is_lent(self) -> bool:
+        return len(self._numbers) > 1
+
     def _handle(self) -> "ctypes._Pointer[_lib.Tree]":
-        if self._tree is None:
+        if not self._is_lent():
             raise Error(_lib.CLOSED)
         return ctypes.pointer(self._tree._handle)
 
@@ -262,7 +278,7 @@ class Seat(bwtree_walks.Walks):
         old = _lib.Bytes()
         more = () if name == "tidy" else (ctypes.byref(old),)
         status = self._written(name, [*words, *numbers, *more], old)
-        if status == _lib.OK and name in _MORE and self._tree is not None:
+        if status == _lib.OK and name in _MORE:
             self._tree._counts[self._number] += _MORE[name]
         return status, old.taken()
 
@@ -402,26 +418,27 @@ class Seat(bwtree_walks.Walks):
 
     def full_hint(self) -> FullHint:
         """What may become of a write that raised Full. Raises Error."""
-        room = self.room()
-        assert self._tree is not None
-        return _hint(self._tree._limits, room)
+        return _hint(self._tree._limits, self.room())
 
     def close(self) -> None:
         """Gives the seat back to its tree; a second time it does nothing."""
-        self._tree = None
-        next(self._given_back, None)
+        self._lease.close()
 
     def __reduce__(self) -> NoReturn:
         raise TypeError("a seat can't be copied or pickled")
 
     def __repr__(self) -> str:
-        return "<bwtree.Seat, given back>" if self._tree is None else f"<bwtree.Seat {self._number} of {self._tree!r}>"
+        return f"<bwtree.Seat {self._number} of {self._tree!r}>" if self._is_lent() else "<bwtree.Seat, given back>"
 
     def __enter__(self) -> "Seat":
         return self
 
-    def __exit__(self, *_: object) -> None:
-        self.close()
+    if TYPE_CHECKING:
+
+        def __exit__(self, *_: object) -> None:
+            """Gives the seat back, as close does."""
+    else:
+        __exit__ = _GivesBack()
 
 
 def _give_back(seats: list[Seat]) -> None:

@@ -39,7 +39,8 @@ class Tree(ctypes.Structure):
 
 class Limits(ctypes.Structure):
     _fields_ = [("actors", ctypes.c_uint64), ("pages", ctypes.c_uint64), ("records", ctypes.c_uint64), ("epoch", ctypes.c_uint64),
-                ("large", ctypes.c_uint64)]
+                ("large", ctypes.c_uint64), ("narrow_records", ctypes.c_uint64), ("wide_from", ctypes.c_uint64), ("narrow_words", ctypes.c_uint64),
+                ("page_words", ctypes.c_uint64)]
 
 
 class Room(ctypes.Structure):
@@ -68,7 +69,7 @@ class Page(ctypes.Structure):
     _fields_ = [("count", ctypes.c_uint64), ("more", ctypes.c_uint64), ("next", Bytes), ("pairs", Pair * 24)]
 
 
-assert [ctypes.sizeof(it) for it in (Tree, Limits, Room, Bytes, Pair, Page)] == [16, 40, 16, 72, 144, 3544]
+assert [ctypes.sizeof(it) for it in (Tree, Limits, Room, Bytes, Pair, Page)] == [16, 72, 16, 72, 144, 3544]
 
 
 def find() -> tuple[str, ctypes.CDLL]:
@@ -101,6 +102,7 @@ def load() -> ctypes.CDLL:
     for name, kinds in {
         "limits_for_keys": [count, count, ctypes.POINTER(Limits)],
         "limits_for_many_keys": [count, count, ctypes.POINTER(Limits)],
+        "limits_for_pairs": [count, count, count, count, ctypes.POINTER(Limits)],
         "open": [ctypes.POINTER(Limits), tree],
         "open_from": [ctypes.POINTER(Limits), ctypes.POINTER(Pair), size, tree],
         "close": [tree],

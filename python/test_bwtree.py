@@ -1,6 +1,7 @@
 """Tests of bwtree.py: what a tree and its seats answer and raise, leases, and threads."""
 
 import array
+import contextlib
 import copy
 import gc
 import os
@@ -133,6 +134,20 @@ class Calls(unittest.TestCase):
         with self.assertRaises(bwtree.Error):
             bwtree.Tree(seats=1, keys=20000)
 
+    def test_widths(self) -> None:
+        """A large tree for pairs of some length takes longer ones, too."""
+        with bwtree.Tree(seats=1, keys=1000, large=True, key_bytes=16, value_bytes=8) as tree, tree.seat() as seat:
+            for i in range(1000):
+                seat[i.to_bytes(16 if i % 100 else 64, "big")] = i.to_bytes(8 if i % 100 else 64, "big")
+            self.assertEqual(seat[(7).to_bytes(16, "big")], (7).to_bytes(8, "big"))
+            self.assertEqual(seat[(700).to_bytes(64, "big")], (700).to_bytes(64, "big"))
+        for wrong in ({"key_bytes": 16}, {"value_bytes": 8}, {"key_bytes": 16, "value_bytes": 8, "large": False},
+                      {"key_bytes": 16, "value_bytes": 8, "pages": 64, "records": 832}):
+            with self.assertRaises(ValueError):
+                bwtree.Tree(**{"large": True, **wrong})  # type: ignore[arg-type]
+        with self.assertRaises(bwtree.Error):
+            bwtree.Tree(large=True, key_bytes=65, value_bytes=8)
+
     @unittest.skipIf(sys.platform != "linux", "no /proc here")
     def test_no_memory(self) -> None:
         """A tree is not opened where the process may not have the memory."""
@@ -167,7 +182,9 @@ class Calls(unittest.TestCase):
             it.start()
         for it in threads:
             it.join()
-        self.assertEqual((set(raised), seat.add(b"a", 0)), ({18}, len(done)))
+        # (the library of c/tests/spent.c takes no seat before it runs an operation: UNFINISHED then, too)
+        self.assertLessEqual(set(raised), {18, 19} if "BWTREE_SPENT" in os.environ else {18})
+        self.assertEqual((len(raised) > 0, seat.add(b"a", 0)), (True, len(done)))
         seat.close()
         tree.close()
 
@@ -338,6 +355,19 @@ class Leases(unittest.TestCase):
             self.assertEqual(seat[b"a"], b"x")
 
 
+    def test_blocks(self) -> None:
+        """A seat goes back at the end of its block, also where a stack of blocks has it."""
+        with bwtree.Tree(seats=1, keys=10) as tree:
+            with tree.seat() as seat:
+                seat[b"a"] = b"x"
+            with self.assertRaises(bwtree.Error):
+                seat.get(b"a")
+            with contextlib.ExitStack() as stack:
+                self.assertEqual(stack.enter_context(tree.seat(timeout=0))[b"a"], b"x")
+            with self.assertRaises(KeyError), tree.seat(timeout=0) as seat:
+                seat[b"b"]
+            self.assertEqual(tree._free.qsize(), 1)
+
     def test_dropped(self) -> None:
         tree = bwtree.Tree(seats=1, keys=10)
         seat = tree.seat()
@@ -348,7 +378,7 @@ class Leases(unittest.TestCase):
 
     @unittest.skipUnless(hasattr(signal, "setitimer"), "no timers here")
     def test_exceptions_from_signals(self) -> None:
-        """A signal's handler may raise at any time, as Ctrl-C does: no seat is lost, and all can be closed."""
+        """A signal's handler may raise at any time, as Ctrl-C does: each seat is back at the end of its block, also where the program still refers to it."""
 
         class Stop(Exception):
             pass
@@ -359,9 +389,12 @@ class Leases(unittest.TestCase):
         def use(tree: bwtree.Tree) -> None:
             for _ in range(10000):
                 with tree.seat() as seat:
+                    kept[:] = [seat]
                     seat[b"a"] = b"x"
                     seat.get(b"a")
 
+        kept: list[bwtree.Seat] = []
+        lent = 0
         tree, draws = bwtree.Tree(seats=2, keys=10), random.Random(1)
         before = signal.signal(signal.SIGALRM, stop)
         try:
@@ -371,11 +404,11 @@ class Leases(unittest.TestCase):
                     use(tree)
                 except Stop:
                     pass
+                lent += 2 - tree._free.qsize()
         finally:
             signal.setitimer(signal.ITIMER_REAL, 0)
             signal.signal(signal.SIGALRM, before)
-        gc.collect()
-        self.assertEqual(tree._free.qsize(), 2)
+        self.assertEqual(lent, 0)
         tree.close()
 
 

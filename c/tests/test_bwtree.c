@@ -40,7 +40,7 @@ static pthread_t begun(void *(*run)(void *), void *argument) {
 }
 
 static void layout(void) {
-    CHECK(sizeof(bwtree) == 16 && sizeof(bwtree_limits) == 40 && sizeof(bwtree_room) == 16);
+    CHECK(sizeof(bwtree) == 16 && sizeof(bwtree_limits) == 72 && sizeof(bwtree_room) == 16);
     CHECK(sizeof(bwtree_bytes) == 72 && sizeof(bwtree_pair) == 144 && sizeof(bwtree_page_pairs) == 8 + 8 + 72 + 24 * 144);
 }
 
@@ -62,6 +62,7 @@ static void all_answer(const bwtree *tree, uint32_t seat, uint32_t status) {
     CHECK(bwtree_get(tree, seat, "a", 1, &old) == status);
     CHECK(bwtree_insert(tree, seat, "a", 1, "x", 1, &old) == status);
     CHECK(bwtree_upsert(tree, seat, "a", 1, "x", 1, &old) == status);
+    CHECK(bwtree_get_within(tree, seat, 9, "a", 1, &old) == status && bwtree_upsert_within(tree, seat, 9, "a", 1, "x", 1, &old) == status);
     CHECK(bwtree_delete(tree, seat, "a", 1, &old) == status);
     CHECK(bwtree_delete_if(tree, seat, "a", 1, "x", 1, &old) == status);
     CHECK(bwtree_compare_and_set(tree, seat, "a", 1, "x", 1, "y", 1, &old) == status);
@@ -77,7 +78,7 @@ static void all_answer(const bwtree *tree, uint32_t seat, uint32_t status) {
 }
 
 static void limits(void) {
-    static bwtree tree;
+    static bwtree tree, of_pairs;
     bwtree_limits limits = {1, 2, 3, 4, 5};
     CHECK(bwtree_limits_for_keys(0, 1, &limits) == BWTREE_BAD_LIMITS);
     CHECK(bwtree_limits_for_keys(17, 1, &limits) == BWTREE_BAD_LIMITS);
@@ -87,8 +88,36 @@ static void limits(void) {
     CHECK(limits.pages % 64 == 0 && limits.pages >= 64 && limits.records % 64 == 0 && limits.records >= 64);
     CHECK(limits.large == 0 && bwtree_limits_for_many_keys(64, 1, &limits) == BWTREE_BAD_LIMITS);
     CHECK(bwtree_limits_for_many_keys(2, 1000000000, &limits) == BWTREE_BAD_LIMITS && limits.actors == 3);
-    CHECK(bwtree_limits_for_many_keys(2, 1000, &limits) == BWTREE_OK && limits.actors == 2 && limits.large == 1);
-    CHECK(bwtree_open(&limits, &tree) == BWTREE_OK && bwtree_close(&tree) == BWTREE_OK);
+    CHECK(bwtree_limits_for_many_keys(2, 1000, &limits) == BWTREE_OK && limits.actors == 2 && limits.large == 2);
+    CHECK(limits.narrow_records % 64 == 0 && limits.wide_from > limits.narrow_records && limits.records > limits.wide_from);
+    CHECK(limits.narrow_words == 24 && limits.page_words == 296 && bwtree_open(&limits, &tree) == BWTREE_OK && bwtree_close(&tree) == BWTREE_OK);
+    /* by the lengths of pairs; longer ones are taken, too */
+    CHECK(bwtree_limits_for_pairs(1, 1000, 16, 8, NULL) == BWTREE_NULL && bwtree_limits_for_pairs(1, 1000, 65, 8, &limits) == BWTREE_BAD_LIMITS);
+    CHECK(bwtree_limits_for_pairs(1, 1000, 16, 65, &limits) == BWTREE_BAD_LIMITS && bwtree_limits_for_pairs(0, 1000, 16, 8, &limits) == BWTREE_BAD_LIMITS);
+    CHECK(limits.page_words == 296 && bwtree_limits_for_pairs(1, 1000, 16, 8, &limits) == BWTREE_OK && limits.large == 2);
+    CHECK(limits.narrow_words == 8 && limits.page_words == 72 && bwtree_open(&limits, &of_pairs) == BWTREE_OK);
+    for (int i = 0; i < 1000; i++) {
+        bwtree_bytes old;
+        char key[64] = {0};
+        int length = i % 100 ? 16 : 64;
+        snprintf(key, sizeof key, "%016d", i);
+        CHECK(bwtree_insert(&of_pairs, 0, key, (size_t)length, key, (size_t)length / 2, &old) == BWTREE_OK);
+    }
+    for (int i = 0; i < 1000; i++) {
+        bwtree_bytes value;
+        char key[64] = {0};
+        size_t length = i % 100 ? 16 : 64;
+        snprintf(key, sizeof key, "%016d", i);
+        CHECK(bwtree_get(&of_pairs, 0, key, length, &value) == BWTREE_OK && value.length == length / 2 && !memcmp(value.bytes, key, length / 2));
+    }
+    CHECK(bwtree_close(&of_pairs) == BWTREE_OK);
+    /* widths that aren't */
+    for (int i = 0; i < 8; i++) {
+        bwtree_limits wrong = limits;
+        *(uint64_t *[]){&wrong.narrow_records, &wrong.wide_from, &wrong.wide_from, &wrong.narrow_words, &wrong.narrow_words, &wrong.page_words, &wrong.page_words,
+                        &wrong.large}[i] = (uint64_t[]){1, 0, limits.records, 7, 80, 16, 513, 3}[i];
+        CHECK(bwtree_open(&wrong, &of_pairs) == BWTREE_BAD_LIMITS);
+    }
     static const bwtree_limits bad[] = {{0, 64, 64, 1, 0},   {17, 64, 64, 1, 0},    {1, 0, 64, 1, 0},  {1, 65, 64, 1, 0},
                                         {1, 4160, 64, 1, 0}, {1, 64, 16448, 1, 0},  {1, 64, 63, 1, 0}, {1, 64, 64, 0, 0},
                                         {1, 64, 0, 1, 0},    {1, 64, 64, UINT64_MAX, 0}, {UINT64_MAX, 64, 64, 1, 0}, {1, 64, 64, 1, 2},
@@ -111,6 +140,9 @@ static void nulls(const bwtree *tree) {
     CHECK(bwtree_insert(tree, 0, "a", 1, "x", 1, NULL) == BWTREE_NULL);
     CHECK(bwtree_upsert(tree, 0, NULL, 1, "x", 1, &old) == BWTREE_NULL && bwtree_upsert(tree, 0, "a", 1, NULL, 1, &old) == BWTREE_NULL);
     CHECK(bwtree_upsert(tree, 0, "a", 1, "x", 1, NULL) == BWTREE_NULL);
+    CHECK(bwtree_get_within(tree, 0, 9, NULL, 1, &old) == BWTREE_NULL && bwtree_get_within(tree, 0, 9, "a", 1, NULL) == BWTREE_NULL);
+    CHECK(bwtree_upsert_within(tree, 0, 9, NULL, 1, "x", 1, &old) == BWTREE_NULL && bwtree_upsert_within(tree, 0, 9, "a", 1, NULL, 1, &old) == BWTREE_NULL);
+    CHECK(bwtree_upsert_within(tree, 0, 9, "a", 1, "x", 1, NULL) == BWTREE_NULL);
     CHECK(bwtree_delete(tree, 0, NULL, 1, &old) == BWTREE_NULL && bwtree_delete(tree, 0, "a", 1, NULL) == BWTREE_NULL);
     CHECK(bwtree_compare_and_set(tree, 0, NULL, 1, "x", 1, "y", 1, &old) == BWTREE_NULL && bwtree_compare_and_set(tree, 0, "a", 1, NULL, 1, "y", 1, &old) == BWTREE_NULL);
     CHECK(bwtree_compare_and_set(tree, 0, "a", 1, "x", 1, NULL, 1, &old) == BWTREE_NULL && bwtree_compare_and_set(tree, 0, "a", 1, "x", 1, "y", 1, NULL) == BWTREE_NULL);
@@ -131,7 +163,8 @@ static void lengths(const bwtree *tree) {
     CHECK(bwtree_page(tree, 0, long_text, 64, &page) == BWTREE_OK && page.count == 1 && page.more == 0 && page.pairs[0].key.length == 64);
     CHECK(bwtree_delete(tree, 0, long_text, 64, &old) == BWTREE_OK && old.length == 64);
     old.length = 3;
-    CHECK(bwtree_get(tree, 0, long_text, 65, &old) == BWTREE_TOO_LONG);
+    CHECK(bwtree_get(tree, 0, long_text, 65, &old) == BWTREE_TOO_LONG && bwtree_get_within(tree, 0, 9, long_text, 65, &old) == BWTREE_TOO_LONG);
+    CHECK(bwtree_upsert_within(tree, 0, 9, "a", 1, long_text, 65, &old) == BWTREE_TOO_LONG);
     CHECK(bwtree_insert(tree, 0, long_text, 65, "", 0, &old) == BWTREE_TOO_LONG && bwtree_insert(tree, 0, "a", 1, long_text, 65, &old) == BWTREE_TOO_LONG);
     CHECK(bwtree_upsert(tree, 0, long_text, 65, "", 0, &old) == BWTREE_TOO_LONG && bwtree_upsert(tree, 0, "a", 1, long_text, 65, &old) == BWTREE_TOO_LONG);
     CHECK(bwtree_delete(tree, 0, long_text, 65, &old) == BWTREE_TOO_LONG && bwtree_tidy(tree, 0, long_text, 65) == BWTREE_TOO_LONG);
@@ -205,6 +238,38 @@ static void answers(void) {
     CHECK(earlier.held_ == was.held_);
     for (uint32_t status = 0; status <= BWTREE_BAD_VERSION; status++)
         CHECK(!strcmp(bwtree_text(status), "no status") == (status > BWTREE_NO_ROOM && status < BWTREE_CLOSED));
+}
+
+/* Calls whose steps are spent: the operation stays in the seat, whose other calls answer UNFINISHED, as a closing with pairs does, until it is resumed to its
+ * end. */
+static void spent(void) {
+    static bwtree tree;
+    bwtree_limits limits;
+    bwtree_bytes old = {0, {0}};
+    bwtree_pair pairs[2];
+    uint64_t count = 7;
+    uint32_t steps = 0;
+    CHECK(bwtree_limits_for_keys(2, 100, &limits) == BWTREE_OK && bwtree_open(&limits, &tree) == BWTREE_OK);
+    CHECK(bwtree_upsert(&tree, 0, "a", 1, "x", 1, &old) == BWTREE_OK);
+    /* with no step nothing is begun; with one after another */
+    CHECK(bwtree_upsert_within(&tree, 0, 0, "a", 1, "y", 1, &old) == BWTREE_SPENT && bwtree_get_within(&tree, 0, 0, "a", 1, &old) == BWTREE_SPENT);
+    CHECK(bwtree_is_idle(&tree, 0) == BWTREE_OK && old.length == 0);
+    CHECK(bwtree_upsert_within(&tree, 0, 1, "a", 1, "y", 1, &old) == BWTREE_SPENT && bwtree_is_idle(&tree, 0) == BWTREE_UNFINISHED);
+    CHECK(bwtree_resume(&tree, 0, 0, &old, &page) == BWTREE_SPENT && old.length == 0);
+    CHECK(bwtree_get(&tree, 0, "a", 1, &old) == BWTREE_UNFINISHED && bwtree_get_within(&tree, 0, 9, "a", 1, &old) == BWTREE_UNFINISHED);
+    CHECK(bwtree_insert(&tree, 0, "b", 1, "x", 1, &old) == BWTREE_UNFINISHED && bwtree_delete(&tree, 0, "a", 1, &old) == BWTREE_UNFINISHED);
+    CHECK(bwtree_upsert_within(&tree, 0, 9, "a", 1, "z", 1, &old) == BWTREE_UNFINISHED && bwtree_tidy(&tree, 0, "a", 1) == BWTREE_UNFINISHED);
+    CHECK(bwtree_page(&tree, 0, "", 0, &page) == BWTREE_UNFINISHED && bwtree_back(&tree, 0, "", 0, &page) == BWTREE_UNFINISHED);
+    /* the other seat goes on; the tree can't be closed with its pairs */
+    CHECK(bwtree_get(&tree, 1, "a", 1, &old) == BWTREE_OK && is(&old, "x"));
+    CHECK(bwtree_close_pairs(&tree, pairs, 2, &count) == BWTREE_UNFINISHED && count == 7);
+    while (bwtree_resume(&tree, 0, 1, &old, &page) == BWTREE_SPENT) CHECK(++steps < 1000);
+    CHECK(steps && is(&old, "x") && bwtree_is_idle(&tree, 0) == BWTREE_OK && bwtree_resume(&tree, 0, 1, &old, &page) == BWTREE_IDLE);
+    CHECK(bwtree_get(&tree, 1, "a", 1, &old) == BWTREE_OK && is(&old, "y"));
+    /* a lookup takes as many steps as it is given in all */
+    CHECK(bwtree_get_within(&tree, 0, 1, "a", 1, &old) == BWTREE_SPENT && bwtree_resume(&tree, 0, 1000, &old, &page) == BWTREE_OK && is(&old, "y"));
+    CHECK(bwtree_get_within(&tree, 0, 1000, "a", 1, &old) == BWTREE_OK && is(&old, "y") && bwtree_get_within(&tree, 0, 1000, "b", 1, &old) == BWTREE_ABSENT);
+    CHECK(bwtree_upsert_within(&tree, 0, 1000, "b", 1, "w", 1, &old) == BWTREE_OK && bwtree_close_pairs(&tree, pairs, 2, &count) == BWTREE_OK && count == 2);
 }
 
 /* A pair with a key and a value of these texts. */
@@ -571,6 +636,7 @@ static void *all(void *unused) {
     version();
     limits();
     answers();
+    spent();
     loads();
     closed_with_pairs();
     most_seats();

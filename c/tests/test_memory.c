@@ -82,7 +82,7 @@ int main(void) {
     call(&tree);
     CHECK(growths == refused - 1);
     CHECK(bwtree_close(&tree) == BWTREE_OK);
-    size_t left = 177 + 24 * limits.actors;
+    size_t left = 209 + 24 * limits.actors;
     CHECK(held == left && bwtree_is_idle(&tree, 0) == BWTREE_CLOSED);
     /* each opening leaves as much */
     refused = 0;

@@ -158,10 +158,16 @@ static int is_count(uint64_t count, uint64_t most) { return count >= 64 && count
 /* How many seats a tree may have. */
 static uint64_t most_seats(uint64_t large) { return large ? BWTREE_MAX_SEATS : BWTREE_MAX_SMALL_SEATS; }
 
+/* Whether the widths are those of a large tree. */
+static int have_widths(const bwtree_limits *l) {
+    return l->narrow_records % 64 == 0 && l->wide_from % 64 == 0 && l->narrow_records <= l->wide_from && l->wide_from > 0 && l->wide_from < l->records &&
+           l->narrow_words >= 8 && l->page_words >= 24 && l->narrow_words <= l->page_words && l->page_words <= 512;
+}
+
 /* Limits, mostly of small trees; whether they are limits. */
 static bwtree_limits limits_of(struct draw *d, int *fine) {
     static const uint64_t odd[] = {0, 1, 2, 63, 65, 127, 1ull << 32, 1ull << 62, (1ull << 62) + 1, 1ull << 63, UINT64_MAX, UINT64_MAX - 63};
-    bwtree_limits l = {1 + below(d, 4), 64 * (1 + below(d, 4)), 64 * (1 + below(d, one_in(d, 2) ? 2 : 16)), 1, below(d, 2)};
+    bwtree_limits l = {1 + below(d, 4), 64 * (1 + below(d, 4)), 64 * (1 + below(d, one_in(d, 2) ? 2 : 16)), 1, below(d, 3), 0, 64, 8, 24};
     if (one_in(d, 3)) l.actors = 1 + below(d, most_seats(l.large));
     if (one_in(d, 3)) l.epoch = (1ull << 62) - below(d, 40);
     switch (below(d, 14)) {
@@ -170,8 +176,12 @@ static bwtree_limits limits_of(struct draw *d, int *fine) {
     case 2: l.records = odd[below(d, 12)]; break;
     case 3: l.epoch = odd[below(d, 12)]; break;
     case 4: l.large = odd[below(d, 12)]; break;
+    case 5: l.narrow_records = 64 * below(d, 3); break;
+    case 6: l.wide_from = 64 * below(d, 4) + below(d, 2); break;
+    case 7: l.narrow_words = one_in(d, 2) ? odd[below(d, 12)] : 8 + below(d, 20); break;
+    case 8: l.page_words = one_in(d, 2) ? odd[below(d, 12)] : 20 + below(d, 500); break;
     }
-    *fine = l.large <= 1 && l.actors >= 1 && l.actors <= most_seats(l.large) && is_count(l.pages, l.large ? 4194304 : 4096) &&
+    *fine = (l.large <= 1 || (l.large == 2 && have_widths(&l))) && l.actors >= 1 && l.actors <= most_seats(l.large) && is_count(l.pages, l.large ? 4194304 : 4096) &&
             is_count(l.records, l.large ? 67108864 : 16384) && l.epoch >= 1 && l.epoch <= 1ull << 62;
     return l;
 }

@@ -189,7 +189,7 @@ static void one_proposal(struct thread *t, int kind) {
     else if (actors < 1 || actors > most_seats(kind == FOR_MANY) || count >= never) CHECK(status == BWTREE_BAD_LIMITS);
     else CHECK(status == BWTREE_OK || (count > sure && status == BWTREE_BAD_LIMITS));
     if (status) { CHECK(is_filled(l, sizeof *l)); return; }
-    CHECK(l->actors == actors && l->epoch == 1 && l->large == (kind == FOR_MANY) && is_count(l->pages, l->large ? 4194304 : 4096));
+    CHECK(l->actors == actors && l->epoch == 1 && l->large == (kind == FOR_MANY ? 2 : 0) && is_count(l->pages, l->large ? 4194304 : 4096));
     CHECK(is_count(l->records, l->large ? 67108864 : 16384));
 }
 

@@ -29,6 +29,10 @@ pub(crate) struct RawLimits {
     pub records: u64,
     pub epoch: u64,
     pub large: u64,
+    pub narrow_records: u64,
+    pub wide_from: u64,
+    pub narrow_words: u64,
+    pub page_words: u64,
 }
 
 #[repr(C)]
@@ -88,6 +92,7 @@ extern "C" {
     fn bwtree_goes_with(version: *const c_char) -> c_int;
     pub(crate) fn bwtree_raw_limits_for_keys(actors: u64, keys: u64, limits: *mut RawLimits) -> u32;
     pub(crate) fn bwtree_raw_limits_for_many_keys(actors: u64, keys: u64, limits: *mut RawLimits) -> u32;
+    pub(crate) fn bwtree_raw_limits_for_pairs(actors: u64, keys: u64, key_bytes: u64, value_bytes: u64, limits: *mut RawLimits) -> u32;
     pub(crate) fn bwtree_raw_open(limits: *const RawLimits, tree: *mut RawTree) -> u32;
     pub(crate) fn bwtree_raw_open_from(limits: *const RawLimits, pairs: *const RawPair, count: usize, tree: *mut RawTree) -> u32;
     pub(crate) fn bwtree_raw_close(tree: *const RawTree) -> u32;
@@ -140,7 +145,7 @@ extern "C" {
     pub(crate) fn bwtree_raw_room(tree: *const RawTree, seat: u32, room: *mut RawRoom) -> u32;
 }
 
-const _: () = assert!(size_of::<RawTree>() == 16 && size_of::<RawLimits>() == 40 && size_of::<RawRoom>() == 16);
+const _: () = assert!(size_of::<RawTree>() == 16 && size_of::<RawLimits>() == 72 && size_of::<RawRoom>() == 16);
 const _: () = assert!(size_of::<RawBytes>() == 72 && size_of::<RawPair>() == 144 && size_of::<RawPage>() == 3544 && align_of::<RawPage>() == 8);
 
 /// Whether the library goes with this version of the crate.

@@ -122,15 +122,32 @@ pub struct Limits {
     pub actors: u64,
     /// How many pages: 64 to 4,096, of a large tree to 4,194,304, a multiple of 64.
     pub pages: u64,
-    /// How many records, of 4,096 bytes each: 64 to 16,384, of a large tree to 67,108,864, a multiple of 64.
+    /// How many records, of 4,096 bytes each, but with widths: 64 to 16,384, of a large tree to 67,108,864, a multiple of 64.
     pub records: u64,
     /// Whether it is a large tree, whose pages take fewer records.
     pub large: bool,
+    /// The widths of a large tree's records, where they have not all the same one.
+    pub widths: Option<Widths>,
+}
+
+/// Records of three widths: narrow ones for single changes, then those for pages, then the others, of 512 words. A word has 8 bytes.
+#[derive(Clone, Copy, Debug, PartialEq, Eq)]
+pub struct Widths {
+    /// How many are narrow: a multiple of 64.
+    pub narrow_records: u64,
+    /// The first one of 512 words: a multiple of 64, below `records`.
+    pub wide_from: u64,
+    /// How many words a narrow one has: 8 at least.
+    pub narrow_words: u64,
+    /// How many words one for pages has: 24 to 512, and not less than a narrow one.
+    pub page_words: u64,
 }
 
 impl From<RawLimits> for Limits {
     fn from(raw: RawLimits) -> Limits {
-        Limits { actors: raw.actors, pages: raw.pages, records: raw.records, large: raw.large == 1 }
+        let RawLimits { actors, pages, records, large, narrow_records, wide_from, narrow_words, page_words, .. } = raw;
+        let widths = (large == 2).then_some(Widths { narrow_records, wide_from, narrow_words, page_words });
+        Limits { actors, pages, records, large: large > 0, widths }
     }
 }
 
@@ -154,7 +171,7 @@ impl Limits {
         Ok(limits.into())
     }
 
-    /// For a large tree: up to 27 million keys, in some 1,900 bytes each.
+    /// For a large tree of pairs of any length: up to 27 million keys, in some 450 bytes each.
     ///
     /// ```
     /// assert!(bwtree::Limits::for_many_keys(63, 1_000_000)?.large);
@@ -168,6 +185,26 @@ impl Limits {
         let mut limits = RawLimits::default();
         // SAFETY: `limits` lives as long as the call.
         settled(unsafe { bwtree_raw_limits_for_many_keys(seats, keys, &mut limits) })?;
+        Ok(limits.into())
+    }
+
+    /// For a large tree of pairs whose keys and values mostly have at most so many bytes, of 16 and 8 in some 131 bytes a key. Longer pairs are taken, too, as
+    /// far as there is room.
+    ///
+    /// ```
+    /// use bwtree::{Error, Limits};
+    /// assert_eq!(Limits::for_pairs(4, 1_000_000, 16, 8)?.widths.map(|widths| widths.narrow_words), Some(8));
+    /// assert_eq!(Limits::for_pairs(4, 1_000_000, 65, 8), Err(Error::BadLimits));
+    /// # Ok::<(), Error>(())
+    /// ```
+    ///
+    /// # Errors
+    ///
+    /// [`Error::BadLimits`] of no seats or more than 63, of too many keys, and of more than 64 bytes.
+    pub fn for_pairs(seats: u64, keys: u64, key_bytes: u64, value_bytes: u64) -> Result<Limits> {
+        let mut limits = RawLimits::default();
+        // SAFETY: `limits` lives as long as the call.
+        settled(unsafe { bwtree_raw_limits_for_pairs(seats, keys, key_bytes, value_bytes, &mut limits) })?;
         Ok(limits.into())
     }
 }
@@ -204,7 +241,7 @@ impl Tree {
     /// An empty tree.
     ///
     /// ```
-    /// let tree = bwtree::Tree::open(bwtree::Limits { actors: 2, pages: 64, records: 832, large: false })?;
+    /// let tree = bwtree::Tree::open(bwtree::Limits { actors: 2, pages: 64, records: 832, large: false, widths: None })?;
     /// assert!(tree.is_empty());
     /// # Ok::<(), bwtree::Error>(())
     /// ```
@@ -262,8 +299,12 @@ impl Tree {
     }
 
     fn opened(limits: Limits, open: impl FnOnce(&RawLimits, &mut RawTree) -> u32) -> Result<Tree> {
-        let Limits { actors, pages, records, large } = limits;
-        let raw = RawLimits { actors, pages, records, epoch: 1, large: u64::from(large) };
+        let Limits { actors, pages, records, large, widths } = limits;
+        let mut raw = RawLimits { actors, pages, records, epoch: 1, large: u64::from(large), ..RawLimits::default() };
+        if let Some(Widths { narrow_records, wide_from, narrow_words, page_words }) = widths {
+            // widths of a small tree are refused
+            raw = RawLimits { large: if large { 2 } else { 3 }, narrow_records, wide_from, narrow_words, page_words, ..raw };
+        }
         let mut handle = Box::new(RawTree { held: 0, at: std::ptr::null() });
         settled(if goes_with_this() { open(&raw, &mut handle) } else { BAD_VERSION })?;
         let counts = (0..limits.actors).map(|_| Count::default()).collect();

@@ -22,7 +22,7 @@ impl FullHint {
     ///
     /// ```
     /// use bwtree::{FullHint, Limits, Room};
-    /// let limits = Limits { actors: 1, pages: 64, records: 704, large: false };
+    /// let limits = Limits { actors: 1, pages: 64, records: 704, large: false, widths: None };
     /// assert_eq!(FullHint::of(&limits, &Room { free_pages: 3, free_records: 0 }), FullHint::ForNow);
     /// assert_eq!(FullHint::of(&limits, &Room { free_pages: 0, free_records: 90 }), FullHint::ForGood);
     /// ```

@@ -59,7 +59,7 @@ fn a_tree_goes_while_threads_have_own_seats() {
 
 #[test]
 fn pairs_are_put_in() {
-    let limits = Limits { actors: 1, pages: 64, records: 704, large: false };
+    let limits = Limits { actors: 1, pages: 64, records: 704, large: false, widths: None };
     let tree = Tree::try_from_iter(limits, [("b", "1"), ("a", "2"), ("b", "3")]).unwrap();
     let mut seat = tree.seat().unwrap();
     assert_eq!(seat.pairs().collect::<Vec<_>>(), [Ok((b"a".to_vec(), b"2".to_vec())), Ok((b"b".to_vec(), b"3".to_vec()))]);

@@ -1,4 +1,4 @@
-use bwtree::{CompareAndSet, Error, FullHint, Limits, Pairs, Room, Seat, Tree};
+use bwtree::{CompareAndSet, Error, FullHint, Limits, Pairs, Room, Seat, Tree, Widths};
 use std::time::{Duration, Instant};
 
 #[test]
@@ -36,9 +36,15 @@ fn lengths_are_tested() {
 fn limits_are_tested() {
     assert_eq!(Limits::for_keys(17, 1), Err(Error::BadLimits));
     assert_eq!(Limits::for_many_keys(64, 1), Err(Error::BadLimits));
-    assert_eq!(Tree::open(Limits { actors: 1, pages: 63, records: 64, large: false }).err(), Some(Error::BadLimits));
-    assert_eq!(Tree::open(Limits { actors: 0, pages: 64, records: 64, large: false }).err(), Some(Error::BadLimits));
-    assert_eq!(Tree::open(Limits { actors: u64::MAX, pages: 64, records: 64, large: false }).err(), Some(Error::BadLimits));
+    let limits = Limits::for_pairs(1, 1000, 16, 8).unwrap();
+    let widths = limits.widths.unwrap();
+    assert!(limits.large && widths.page_words == 72 && Tree::open(limits).unwrap().seat().unwrap().insert(&[b'k'; 64], &[b'v'; 64]).is_ok());
+    for wrong in [Limits { large: false, ..limits }, Limits { widths: Some(Widths { narrow_words: 7, ..widths }), ..limits }] {
+        assert_eq!(Tree::open(wrong).err(), Some(Error::BadLimits));
+    }
+    assert_eq!(Tree::open(Limits { actors: 1, pages: 63, records: 64, large: false, widths: None }).err(), Some(Error::BadLimits));
+    assert_eq!(Tree::open(Limits { actors: 0, pages: 64, records: 64, large: false, widths: None }).err(), Some(Error::BadLimits));
+    assert_eq!(Tree::open(Limits { actors: u64::MAX, pages: 64, records: 64, large: false, widths: None }).err(), Some(Error::BadLimits));
 }
 
 #[test]
@@ -66,7 +72,7 @@ fn a_large_tree_lends_63_seats() {
 
 #[test]
 fn trees_are_opened_with_pairs() {
-    let limits = Limits { actors: 2, pages: 64, records: 256, large: false };
+    let limits = Limits { actors: 2, pages: 64, records: 256, large: false, widths: None };
     let pairs: Vec<(Vec<u8>, Vec<u8>)> = (0..60u8).map(|i| (vec![i], vec![i, i])).collect();
     let tree = Tree::open_from(limits, pairs.iter().map(|(key, value)| (key, value))).unwrap();
     assert_eq!(tree.seat().unwrap().pairs_from(b"").collect::<Result<Vec<_>, _>>(), Ok(pairs.clone()));
@@ -105,7 +111,7 @@ fn seats_are_lent() {
 
 #[test]
 fn a_small_tree_is_full() {
-    let tree = Tree::open(Limits { actors: 1, pages: 64, records: 64, large: false }).unwrap();
+    let tree = Tree::open(Limits { actors: 1, pages: 64, records: 64, large: false, widths: None }).unwrap();
     let mut seat = tree.seat().unwrap();
     let error = (0..100_000u32).find_map(|i| seat.insert(&i.to_be_bytes(), b"").err());
     assert_eq!(error, Some(Error::Full));
@@ -166,7 +172,7 @@ fn types_cross_threads() {
 /// A write waits as long as its seat's patience lasts: in vain where the tree is full for good.
 #[test]
 fn writes_wait_while_the_tree_is_full() {
-    let tree = Tree::open(Limits { actors: 1, pages: 64, records: 704, large: false }).unwrap();
+    let tree = Tree::open(Limits { actors: 1, pages: 64, records: 704, large: false, widths: None }).unwrap();
     let mut seat = tree.seat().unwrap();
     assert_eq!(seat.full_hint(), FullHint::Passed);
     let mut keys = (0..100_000u32).map(|i| i.wrapping_mul(2_654_435_761).to_be_bytes());
@@ -181,7 +187,7 @@ fn writes_wait_while_the_tree_is_full() {
 #[test]
 fn hints_are_of_limits_and_room() {
     let hint = |actors, records, large, free_pages, free_records| {
-        FullHint::of(&Limits { actors, pages: 64, records, large }, &Room { free_pages, free_records })
+        FullHint::of(&Limits { actors, pages: 64, records, large, widths: None }, &Room { free_pages, free_records })
     };
     assert_eq!(hint(1, 704, false, 1, 1), FullHint::Passed);
     assert_eq!(hint(1, 704, false, 0, 1), FullHint::ForGood);

@@ -146,7 +146,7 @@ fn sums_and_counts_are_exact_at_rest() {
     let mut seat = tree.seat().unwrap();
     assert_eq!(seat.get(b"sum"), Ok(Some(keys::of(4 * 999 * 1_000 / 2u64))));
     assert_eq!(tree.len(), seat.pairs().rev().count());
-    let given = Tree::open_from(Limits { actors: 1, pages: 64, records: 256, large: false }, [(b"a", b"x"), (b"b", b"y")]).unwrap();
+    let given = Tree::open_from(Limits { actors: 1, pages: 64, records: 256, large: false, widths: None }, [(b"a", b"x"), (b"b", b"y")]).unwrap();
     assert_eq!((given.seat().unwrap().delete(b"a"), given.len()), (Ok(Some(b"x".to_vec())), 1));
 }
 

@@ -15,6 +15,9 @@ use std::time::{Clock, Instant};
 /// How many keys a tree with the greatest limits of no large tree is loaded with at most.
 const FEW_KEYS: u32 = 20_000;
 
+/// How many bytes a value has.
+const VALUE_BYTES: u64 = 8;
+
 /// Loads a new tree, if it is no window's, and does what is asked on it, if that is more. Answers what was done last; none without memory, seats or a clock.
 pub(crate) fn run<R: Threads + Clock + Sync>(
     rt: &R,
@@ -22,7 +25,7 @@ pub(crate) fn run<R: Threads + Clock + Sync>(
     what: What,
     scale: Scale,
 ) -> Option<Done> {
-    let Ok(limits) = limits_for(what, scale.size) else {
+    let Ok(limits) = limits_for(what, scale) else {
         return None;
     };
     let Ok((tree, mut seats)) = opened(alloc, limits) else {
@@ -34,12 +37,15 @@ pub(crate) fn run<R: Threads + Clock + Sync>(
     }
 }
 
-/// The limits of a tree for so many keys: a large tree's where they are many.
-fn limits_for(what: What, keys: u32) -> Result<Limits, BadLimits> {
+/// The limits of a tree for so many keys of this length: a large tree's where they are many.
+fn limits_for(what: What, scale: Scale) -> Result<Limits, BadLimits> {
     match what {
         What::Window => Limits::new(4, 256, 4096, 1),
-        _ if keys <= FEW_KEYS => Limits::new(4, 4096, 16384, 1),
-        _ => Limits::for_many_keys(4, u64::from(keys)),
+        _ if scale.size <= FEW_KEYS => Limits::new(4, 4096, 16384, 1),
+        _ => {
+            let key_bytes = u64::from(scale.key_bytes).clamp(16, 64);
+            Limits::for_pairs(4, u64::from(scale.size), key_bytes, VALUE_BYTES)
+        }
     }
 }
 

@@ -31,6 +31,6 @@ pub use pairs::{MAX_PAIRS, Pairs};
 pub use schedule::Schedule;
 pub use short_bytes::{MAX_LENGTH, TooLong};
 pub use step::{Answer, Link, Step, Told};
-pub use tree_limits::{BadLimits, Limits, OpenError};
+pub use tree_limits::{BadLimits, Limits, OpenError, Widths};
 pub use update::{Update, logged_value};
 pub use value::Value;

@@ -1,6 +1,7 @@
 -- What a call from C comes to.
 use Rattle.std.specs.Prelude.{◌≡◌, ℕ, Option, ⊤}
 use Rattle.bw_model.specs.declared.command.Command.{Command}
+use Rattle.seats.specs.Replies.{many}
 use Rattle.bw_tree_c.specs.Handles.{OnSeat}
 use Rattle.bw_tree_c.specs.Running.{IsRunToValue, IsRunFurther, IsRunToPage, IsTidied, IsWatched, TellsIdle}
 use Rattle.bw_tree_c.specs.declared.bytes.Bytes.{Bytes}
@@ -10,9 +11,14 @@ use Rattle.bw_tree_c.specs.declared.receipt.Receipt.{Receipt}
 use Rattle.bw_tree_c.specs.declared.receipt.Told.{Told}
 use Rattle.bw_tree_c.specs.declared.shared.Shared.{Shared}
 
--- a command whose reply may have a value
+-- a command whose reply may have a value, with a budget of steps
+abbrev pub ComesWithin : Option Shared → ℕ → Command → ℕ → Receipt → Told → Bytes → Bytes → Type 0
+ComesWithin kept number command budget since told old new = OnSeat kept number since told (new ≡ old) (λ before after. IsRunToValue before command budget
+    told.status old new after)
+
+-- one with 65,536 steps
 abbrev pub ComesToValue : Option Shared → ℕ → Command → Receipt → Told → Bytes → Bytes → Type 0
-ComesToValue kept number command since told old new = OnSeat kept number since told (new ≡ old) (λ before after. IsRunToValue before command told.status old new after)
+ComesToValue kept number command since told old new = ComesWithin kept number command many since told old new
 
 -- one whose reply is a page of either direction
 abbrev pub ComesToPage : Option Shared → ℕ → Command → Receipt → Told → Page → Page → Type 0

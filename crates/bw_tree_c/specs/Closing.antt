@@ -1,14 +1,17 @@
 -- What a call that closes a tree hands over, and how far the handle is.
-use Rattle.std.specs.Prelude.{◌≡◌, ◌<◌, ◌++◌, ◌∷◌, [], ℕ, List, None, Option, Some, length, ⊤}
+use Rattle.std.specs.Prelude.{◌≡◌, ◌<◌, ◌⊎◌, ◌++◌, ◌∷◌, [], ℕ, List, None, Option, Some, length, ⊤}
+use Rattle.call_log.specs.declared.log.Authors.{Authors}
+use Rattle.call_log.specs.declared.log.Authors.TheVariants.{Nobody}
 use Rattle.call_log.specs.declared.log.Event.{Event}
-use Rattle.call_log.specs.declared.log.Event.TheVariants.{Emptied}
+use Rattle.call_log.specs.declared.log.Event.TheVariants.{Closed, Emptied}
 use Rattle.call_log.specs.declared.log.Known.{Known}
-use Rattle.call_log.specs.Logs.{IsLog, seats_after, stage_of}
-use Rattle.call_log.specs.Rule.{known, receipt}
+use Rattle.call_log.specs.Logs.{IsLog, MayWrite, first_author, seats_after, stage_of}
+use Rattle.call_log.specs.Rule.{ExtendsAll, known}
+use Rattle.call_log.specs.Steps.{HaveSeenOwn}
 use Rattle.running_tree.specs.Seats.{Seat}
 use Rattle.bw_tree_c.specs.Hands.{SeatHand}
-use Rattle.bw_tree_c.specs.Handles.{HasSeenLog, IsBehind, IsReceipt, IsSince}
-use Rattle.bw_tree_c.specs.Left.{ArePairsLeft}
+use Rattle.bw_tree_c.specs.Handles.{HasSeenLog, HaveAdded, IsBehind, IsReceipt, IsSince, WroteOnly, kind_of}
+use Rattle.bw_tree_c.specs.Left.{ArePairsLeft, IsLeftAt}
 use Rattle.bw_tree_c.specs.Seats.{IsLater}
 use Rattle.bw_tree_c.specs.Shown.{ShowFirst}
 use Rattle.bw_tree_c.specs.declared.bytes.Pair.{Pair}
@@ -17,29 +20,30 @@ use Rattle.bw_tree_c.specs.declared.receipt.Receipt.{Receipt}
 use Rattle.bw_tree_c.specs.declared.shared.Shared.{Shared}
 
 -- The log of the handle is as far as this stage, and has all that the caller had seen: 0 while the tree is open, 1 once it is closed and its pairs wait, and 2 once nothing waits.
+-- The caller's authors, which the receipt has, wrote nothing more.
 pub record IsAtStage (shared : Shared) (far : ℕ) (since it : Receipt) : Type 0 where
   pub log : List (Event Seat)
+  pub authors : Authors
   pub behind : IsBehind shared since log
-  pub seen : HasSeenLog shared log it
+  pub seen : HasSeenLog shared authors log it
+  pub only : WroteOnly shared since authors [] log
   pub stage : stage_of log ≡ far
 
--- This call wrote into the log that nothing waits any more, behind all that the caller had seen. Nothing comes after that, so no two calls do.
+-- This call wrote into the log that nothing waits any more, behind all that the caller had seen, as the caller's first author, and no more as any of them. Nothing
+-- comes after that, so no two calls do.
 pub record IsClosedBy (shared : Shared) (since it : Receipt) : Type 0 where
   pub log : List (Event Seat)
+  pub authors : Authors
   pub behind : IsBehind shared since log
-  pub seen : HasSeenLog shared (log ++ Emptied ∷ []) it
-  pub stage : stage_of (log ++ Emptied ∷ []) ≡ 2
+  pub seen : HasSeenLog shared authors (log ++ Emptied (first_author authors) ∷ []) it
+  pub only : WroteOnly shared since authors (Emptied (first_author authors) ∷ []) (log ++ Emptied (first_author authors) ∷ [])
+  pub stage : stage_of (log ++ Emptied (first_author authors) ∷ []) ≡ 2
 
 abbrev pub HasClosed : Option Shared → Receipt → Receipt → Type 0
 HasClosed None since it = ⊥
 HasClosed (Some shared) since it = IsClosedBy shared since it
 
--- It is closed with these seats, and nothing waits.
-pub record IsForgotten (shared : Shared) (seats : List Seat) (since it : Receipt) : Type 0 where
-  pub by : IsClosedBy shared since it
-  pub left : seats_after shared.log.shared.key.items (by.log ++ Emptied ∷ []) ≡ seats
-
--- The hand has all seats of the handle, which nobody had taken for good or whose pairs wait.
+-- The hand has all seats of the handle, which nobody had taken for good or whose pairs wait, and has no author.
 pub record CanEmpty (shared : Shared) (hand : SeatHand) : Type 0 where
   pub log : List (Event Seat)
   pub rest : List (Known Seat)
@@ -48,46 +52,71 @@ pub record CanEmpty (shared : Shared) (hand : SeatHand) : Type 0 where
   pub before : stage < 2
   pub some : 0 < length seats
   pub table : hand.table_id ≡ shared.log.shared.table_id
-  pub me : hand.me ≡ (record { first = 0; here = seats; stage = stage; logs = known shared.log.shared.key.items log ∷ rest }, [])
+  pub me : hand.me ≡ (record { first = 0; here = seats; stage = stage; kind = kind_of shared; authors = Nobody; logs = known shared.log.shared.key.items log ∷ rest }, [])
   pub count : length seats ≡ length shared.log.shared.key.items
+
+-- The hand has all seats of the handle, and may write that nothing waits.
+pub record CanForget (shared : Shared) (hand : SeatHand) : Type 0 where
+  pub front : List (Known Seat)
+  pub log : List (Event Seat)
+  pub rest : List (Known Seat)
+  pub seats : List Seat
+  pub stage : ℕ
+  pub authors : Authors
+  pub before : stage < 2
+  pub some : 0 < length seats
+  pub may : MayWrite (kind_of shared) authors
+  pub table : hand.table_id ≡ shared.log.shared.table_id
+  pub me : hand.me ≡ (record { first = 0; here = seats; stage = stage; kind = kind_of shared; authors = authors; logs = front ++ known shared.log.shared.key.items log ∷ rest }, [])
+  pub count : length seats ≡ length shared.log.shared.key.items
+
+-- It is written, by the hand's first author, that nothing waits, and that is behind all that the hand had seen; the receipt has the hand's authors, who had written
+-- nothing that the first log that it had seen hadn't.
+pub record IsForgotten (shared : Shared) (hand : SeatHand) (it : Receipt) : Type 0 where
+  pub log : List (Event Seat)
+  pub behind : ExtendsAll shared.log.shared.key.items log hand.me.0.logs
+  pub own : HaveSeenOwn hand.me.0.authors log hand.me.0.logs
+  pub seen : HasSeenLog shared hand.me.0.authors (log ++ Emptied (first_author hand.me.0.authors) ∷ []) it
+  pub stage : stage_of (log ++ Emptied (first_author hand.me.0.authors) ∷ []) ≡ 2
+  pub left : seats_after shared.log.shared.key.items (log ++ Emptied (first_author hand.me.0.authors) ∷ []) ≡ hand.me.0.here
+
+-- The pairs are those that a closed tree left. Their hand has what the caller had, and the caller's authors wrote no more than that the tree is closed, if this call closed it.
+pub record IsLeftFor (shared : Shared) (since : Receipt) (left : LeftPairs) : Type 0 where
+  pub authors : Authors
+  pub at : IsLeftAt shared.log.shared.table_id shared.log.shared.key.items (kind_of shared) authors left
+  pub may : MayWrite (kind_of shared) authors
+  pub behind : IsBehind shared since at.log
+  pub only : WroteOnly shared since authors [] at.log ⊎ WroteOnly shared since authors (Closed (first_author authors) ∷ []) at.log
 
 -- The tree of the handle was closed with the seats as the last calls on them left them, and left these pairs.
 abbrev pub HasPairsLeft : Option Shared → List (Event Seat) → List (List ℕ × List ℕ) → Type 0
 HasPairsLeft None log pairs = ⊥
 HasPairsLeft (Some shared) log pairs = ArePairsLeft (seats_after shared.log.shared.key.items log) pairs
 
--- The tree left these pairs, with the seats as the calls in the log left them, and this call wrote that nothing waits any more.
-pub record IsHandedOver (shared : Shared) (pairs : List (List ℕ × List ℕ)) (since it : Receipt) : Type 0 where
-  pub by : IsClosedBy shared since it
-  pub left : ArePairsLeft (seats_after shared.log.shared.key.items (by.log ++ Emptied ∷ [])) pairs
-
--- The pairs wait, as the log still has it, and so has the note, which has seen all that the caller had.
-pub record IsKept (shared : Shared) (left : LeftPairs) (since : Receipt) (note : SeatHand) : Type 0 where
-  pub log : List (Event Seat)
-  pub behind : IsBehind shared since log
-  pub table : note.table_id ≡ shared.log.shared.table_id
-  pub me : note.me ≡ (receipt (known shared.log.shared.key.items log ∷ []), [])
-  pub legal : IsLog IsLater shared.log.shared.key.items log
-  pub stage : stage_of log ≡ 1
-  pub pairs : ArePairsLeft (seats_after shared.log.shared.key.items log) left.pairs.items
-
 -- So many pairs were left, by the tree as the calls in the log left it, and these are all of them, in order; this call wrote that nothing waits any more,
--- behind all that the caller had seen, so no later one hands over anything.
+-- behind all that the caller had seen, so no later one hands over anything. As the caller's authors, of whom the first one wrote that, nothing else is written, but
+-- that the tree is closed, if this call closed it.
 pub record HandsOver (kept : Option Shared) (since it : Receipt) (told : ℕ) (written : List Pair) : Type 0 where
   pub log : List (Event Seat)
+  pub authors : Authors
   pub behind : IsSince kept since log
-  pub receipt : IsReceipt kept (log ++ Emptied ∷ []) it
-  pub stage : stage_of (log ++ Emptied ∷ []) ≡ 2
+  pub receipt : IsReceipt kept authors (log ++ Emptied (first_author authors) ∷ []) it
+  pub only : HaveAdded kept since authors (Emptied (first_author authors) ∷ []) (log ++ Emptied (first_author authors) ∷ [])
+      ⊎ HaveAdded kept since authors (Closed (first_author authors) ∷ Emptied (first_author authors) ∷ []) (log ++ Emptied (first_author authors) ∷ [])
+  pub stage : stage_of (log ++ Emptied (first_author authors) ∷ []) ≡ 2
   pub pairs : List (List ℕ × List ℕ)
-  pub left : HasPairsLeft kept (log ++ Emptied ∷ []) pairs
+  pub left : HasPairsLeft kept (log ++ Emptied (first_author authors) ∷ []) pairs
   pub count : told ≡ length pairs
   pub shows : ShowFirst (length pairs) pairs written
 
--- So many pairs were left, by the tree as all that the caller had seen left it, more than there is room for; they wait.
+-- So many pairs were left, by the tree as all that the caller had seen left it, more than there is room for; they wait. As the caller's authors nothing is written,
+-- but that the tree is closed, if this call closed it.
 pub record HasMore (kept : Option Shared) (since it : Receipt) (room told : ℕ) : Type 0 where
   pub log : List (Event Seat)
+  pub authors : Authors
   pub behind : IsSince kept since log
-  pub receipt : IsReceipt kept log it
+  pub receipt : IsReceipt kept authors log it
+  pub only : HaveAdded kept since authors [] log ⊎ HaveAdded kept since authors (Closed (first_author authors) ∷ []) log
   pub stage : stage_of log ≡ 1
   pub pairs : List (List ℕ × List ℕ)
   pub left : HasPairsLeft kept log pairs

@@ -1,8 +1,11 @@
 -- What a call finds behind a handle, and what its receipt says.
 use Rattle.std.specs.Prelude.{◌≡◌, ◌⊎◌, ◌++◌, ◌∷◌, [], ℕ, List, Option, Some, None, slice_get, ⊤}
+use Rattle.call_log.specs.declared.log.Authors.{Authors}
 use Rattle.call_log.specs.declared.log.Event.{Event}
 use Rattle.call_log.specs.declared.log.Event.TheVariants.{Called}
-use Rattle.call_log.specs.Logs.{BeganAs, IsLog}
+use Rattle.call_log.specs.declared.log.Kind.{Kind}
+use Rattle.call_log.specs.declared.log.Kind.TheVariants.{Open}
+use Rattle.call_log.specs.Logs.{BeganAs, IsLog, IsSigned, WroteNoMore, first_author}
 use Rattle.call_log.specs.Rule.{known, receipt}
 use Rattle.running_tree.specs.Seats.{Seat}
 use Rattle.bw_tree_c.specs.Hands.{SeatHand}
@@ -29,41 +32,72 @@ abbrev pub IsRefused : Option Shared → ℕ → Refusal → Type 0
 IsRefused None number refusal = refusal ≡ Closed
 IsRefused (Some shared) number refusal = IsReason (slice_get shared.slots.items number) refusal
 
--- The receipt is a seat at the log of the handle: when it was made, this was done with the seats of the tree, in this order.
-pub record HasSeenLog (shared : Shared) (log : List (Event Seat)) (it : Receipt) : Type 0 where
+-- The receipt is a seat at the log of the handle: when it was made, this was done with the seats of the tree, in this order. It has these authors.
+pub record HasSeenLog (shared : Shared) (authors : Authors) (log : List (Event Seat)) (it : Receipt) : Type 0 where
   pub table : it.table_id ≡ shared.log.shared.table_id
-  pub view : it.views ≡ receipt (known shared.log.shared.key.items log ∷ []) ∷ []
+  pub view : it.views ≡ receipt authors (known shared.log.shared.key.items log ∷ []) ∷ []
   pub legal : IsLog IsLater shared.log.shared.key.items log
 
 -- The log begins with all that the other receipt has seen, if that is a seat at this handle's log too.
 abbrev pub IsBehind : Shared → Receipt → List (Event Seat) → Type 0
-IsBehind shared since log = (seen : List (Event Seat)) → HasSeenLog shared seen since → BeganAs log seen
+IsBehind shared since log = (authors : Authors) (seen : List (Event Seat)) → HasSeenLog shared authors seen since → BeganAs log seen
 
 abbrev pub IsSince : Option Shared → Receipt → List (Event Seat) → Type 0
 IsSince None since log = ⊤
 IsSince (Some shared) since log = IsBehind shared since log
 
-abbrev pub IsReceipt : Option Shared → List (Event Seat) → Receipt → Type 0
-IsReceipt None log it = ⊥
-IsReceipt (Some shared) log it = HasSeenLog shared log it
+abbrev pub IsReceipt : Option Shared → Authors → List (Event Seat) → Receipt → Type 0
+IsReceipt None authors log it = ⊥
+IsReceipt (Some shared) authors log it = HasSeenLog shared authors log it
 
--- The call is refused, and the rest is as it was.
-pub record IsRefusedCall (kept : Option Shared) (number told : ℕ) (others : Type 0) : Type 0 where
+-- The authors are those of the caller's receipt, if that is of this log too: what they wrote in the log is what that receipt had seen, then these events, and no more.
+abbrev pub WroteOnly : Shared → Receipt → Authors → List (Event Seat) → List (Event Seat) → Type 0
+WroteOnly shared since authors events log = (was : Authors) (seen : List (Event Seat)) → HasSeenLog shared was seen since → (authors ≡ was) × WroteNoMore was (seen ++ events) log
+
+abbrev pub HaveAdded : Option Shared → Receipt → Authors → List (Event Seat) → List (Event Seat) → Type 0
+HaveAdded None since authors events log = ⊤
+HaveAdded (Some shared) since authors events log = WroteOnly shared since authors events log
+
+-- what is known of the kind of the handle's log
+abbrev pub kind_of : Shared → Option Kind
+kind_of shared = shared.left.me.0.kind
+
+-- The receipt is a seat at the log of the handle, and has an author.
+pub record HasSomeAuthor (shared : Shared) (it : Receipt) : Type 0 where
+  pub authors : Authors
+  pub log : List (Event Seat)
+  pub seen : HasSeenLog shared authors log it
+  pub some : IsSigned (first_author authors)
+
+-- A call with this receipt may be written: the log is open to all, or the receipt has an author.
+abbrev pub MayCall : Shared → Receipt → Type 0
+MayCall shared since = (kind_of shared ≡ Some Open) ⊎ HasSomeAuthor shared since
+
+-- The log of the handle, if it keeps a tree, is open to all.
+abbrev pub IsOpenToAll : Option Shared → Type 0
+IsOpenToAll kept = (shared : Shared) → kept ≡ Some shared → kind_of shared ≡ Some Open
+
+-- The call is refused, and gives the caller's receipt back, so nothing was written as any of its authors; the rest is as it was.
+pub record IsRefusedCall (kept : Option Shared) (number : ℕ) (since : Receipt) (told : Told) (others : Type 0) : Type 0 where
   pub refusal : Refusal
   pub refused : IsRefused kept number refusal
-  pub status : told ≡ status_of_refusal refusal
+  pub status : told.status ≡ status_of_refusal refusal
+  pub back : told.receipt ≡ since
   pub rest : others
 
--- The call runs on the seat of this number, as the last call on it left it, and the log of the handle has the call, behind all that the caller had seen.
+-- The call runs on the seat of this number, as the last call on it left it, and the log of the handle has the call, behind all that the caller had seen. It is
+-- written as the first author of the caller's receipt, and nothing else is written as any of them.
 pub record IsOnSeat (kept : Option Shared) (number : ℕ) (since it : Receipt) (ran : Seat → Seat → Type 0) : Type 0 where
   pub log : List (Event Seat)
+  pub authors : Authors
   pub behind : IsSince kept since log
   pub before : Seat
   pub after : Seat
   pub has : IsLater before after
   pub runs : ran before after
-  pub receipt : IsReceipt kept (log ++ Called number before after ∷ []) it
+  pub receipt : IsReceipt kept authors (log ++ Called (first_author authors) number before after ∷ []) it
+  pub only : HaveAdded kept since authors (Called (first_author authors) number before after ∷ []) (log ++ Called (first_author authors) number before after ∷ [])
 
 -- A call on a seat of a handle.
 abbrev pub OnSeat : Option Shared → ℕ → Receipt → Told → Type 0 → (Seat → Seat → Type 0) → Type 0
-OnSeat kept number since told rest runs = IsRefusedCall kept number told.status rest ⊎ IsOnSeat kept number since told.receipt runs
+OnSeat kept number since told rest runs = IsRefusedCall kept number since told rest ⊎ IsOnSeat kept number since told.receipt runs

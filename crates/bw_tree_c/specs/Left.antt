@@ -1,7 +1,10 @@
 -- What a tree leaves that is closed with its pairs.
-use Rattle.std.specs.Prelude.{◌≡◌, ◌<◌, ◌≤◌, ◌∷◌, [], ℕ, List, Some, length, slice_get}
+use Rattle.std.specs.Prelude.{◌≡◌, ◌<◌, ◌≤◌, ◌∷◌, [], ℕ, List, Option, Some, length, slice_get}
 use Rattle.atomic_table.specs.Seated.{TableId}
+use Rattle.call_log.specs.declared.log.Authors.{Authors}
+use Rattle.call_log.specs.declared.log.Authors.TheVariants.{Nobody}
 use Rattle.call_log.specs.declared.log.Event.{Event}
+use Rattle.call_log.specs.declared.log.Kind.{Kind}
 use Rattle.call_log.specs.declared.log.Knows.{Knows}
 use Rattle.call_log.specs.Logs.{IsLog, seats_after, stage_of}
 use Rattle.call_log.specs.Rule.{known}
@@ -31,11 +34,12 @@ pub record ArePairsLeft (seats : List Seat) (pairs : List (List ℕ × List ℕ)
   pub idle : AreIdle seats
   pub closed : AreClosed limits seats pairs
 
--- The pairs are those that the log of the handle says: the tree is closed, with the seats as the last calls on them left them, and the pairs wait.
-pub record IsLeftAt (which : TableId) (opened : List Seat) (left : LeftPairs) : Type 0 where
+-- The pairs are those that the log of the handle says: the tree is closed, with the seats as the last calls on them left them, and the pairs wait. Their hand
+-- has these authors.
+pub record IsLeftAt (which : TableId) (opened : List Seat) (kind : Option Kind) (authors : Authors) (left : LeftPairs) : Type 0 where
   pub log : List (Event Seat)
   pub table : left.hand.table_id ≡ which
-  pub me : left.hand.me ≡ (record { first = 0; here = seats_after opened log; stage = 1; logs = known opened log ∷ [] }, [])
+  pub me : left.hand.me ≡ (record { first = 0; here = seats_after opened log; stage = 1; kind = kind; authors = authors; logs = known opened log ∷ [] }, [])
   pub legal : IsLog IsLater opened log
   pub stage : stage_of log ≡ 1
   pub count : length (seats_after opened log) ≡ length opened
@@ -43,7 +47,7 @@ pub record IsLeftAt (which : TableId) (opened : List Seat) (left : LeftPairs) : 
   pub pairs : ArePairsLeft (seats_after opened log) left.pairs.items
 
 abbrev pub IsLeft : SeatHand → LeftPairs → Type 0
-IsLeft slot left = IsLeftAt slot.table_id (opened_of slot) left
+IsLeft slot left = IsLeftAt slot.table_id (opened_of slot) slot.me.0.kind Nobody left
 
 -- What waits in the slot is what the tree of the slot's handle left, once its receipt is a hand again.
 pub record WaitsIn (slot : SeatHand) (waiting : Waiting) : Type 0 where
@@ -53,8 +57,8 @@ pub record WaitsIn (slot : SeatHand) (waiting : Waiting) : Type 0 where
   pub left : (hand : SeatHand) → hand.table_id ≡ slot.table_id → hand.me ≡ (view, []) → IsLeft slot (record { pairs = waiting.pairs; hand = hand })
 
 -- Seats that were taken out of slots: the hand has them, none has an operation, and each has gone on since the tree was opened.
-pub record AreTaken (table : TableId) (opened : List Seat) (count : ℕ) (tree : Tree) (seats : List Seat) (hand : SeatHand) : Type 0 where
-  pub all : HasBelow table opened count hand
+pub record AreTaken (table : TableId) (opened : List Seat) (kind : Option Kind) (count : ℕ) (tree : Tree) (seats : List Seat) (hand : SeatHand) : Type 0 where
+  pub all : HasBelow table opened kind count hand
   pub here : hand.me.0.here ≡ seats
   pub idle : AreIdle seats
   pub later : (n : ℕ) (seat : Seat) → slice_get seats n ≡ Some seat → HasLater opened n seat

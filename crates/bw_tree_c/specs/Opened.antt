@@ -1,9 +1,13 @@
 -- What a handle keeps once its tree is opened.
-use Rattle.std.specs.Prelude.{◌≡◌, ℕ, List, Option, Some, None}
+use Rattle.std.specs.Prelude.{◌≡◌, ◌+◌, ◌∷◌, [], ℕ, List, Option, Some, None}
+use Rattle.atomic_table.specs.Seated.{TableId}
+use Rattle.call_log.specs.declared.log.Authors.TheVariants.{AllFrom}
+use Rattle.call_log.specs.Rule.{known, receipt}
 use Rattle.tree_limits.specs.declared.limits.Limits.{Limits}
-use Rattle.tree_limits.specs.Room.{large_pids_for, large_rows_for, pids_for, rows_for}
+use Rattle.tree_limits.specs.Room.{large_pids_for, large_rows_for, narrow_rows_for, narrow_words_for, page_words_for, pids_for, rows_for, wide_rows_for}
 use Rattle.running_tree.specs.Seats.{Seat}
 use Rattle.running_tree.specs.Trees.{AreFresh, Tree}
+use Rattle.bw_tree_c.specs.Hands.{SeatHand}
 use Rattle.bw_tree_c.specs.Shown.{ShowsLimits}
 use Rattle.bw_tree_c.specs.declared.bytes.TreeLimits.{TreeLimits}
 use Rattle.bw_tree_c.specs.declared.shared.Shared.{Shared}
@@ -19,6 +23,17 @@ abbrev pub HasOpened : TreeLimits → Option Shared → Type 0
 HasOpened shows None = ⊥
 HasOpened shows (Some shared) = (limits : Limits) × ShowsLimits limits shows × IsOpenedAt limits shared.log.shared.key.items
 
+-- The hand has all authors of this log, into which nothing is written.
+pub record HasAllAuthors (which : TableId) (opened : List Seat) (hand : SeatHand) : Type 0 where
+  pub table : hand.table_id ≡ which
+  pub authors : hand.me.0.authors ≡ AllFrom 0
+  pub logs : hand.me.0.logs ≡ known opened [] ∷ []
+
+-- The note is a receipt of the handle's log with all its authors, into which nothing is written.
+pub record IsFirstNote (shared : Shared) (note : SeatHand) : Type 0 where
+  pub table : note.table_id ≡ shared.log.shared.table_id
+  pub me : note.me ≡ (receipt (AllFrom 0) (known shared.log.shared.key.items [] ∷ []), [])
+
 -- The limits that are shown are those of the rule for so many actors and keys.
 pub record ProposesLimits (seats keys : ℕ) (shows : TreeLimits) : Type 0 where
   pub actors : shows.actors ≡ seats
@@ -27,10 +42,18 @@ pub record ProposesLimits (seats keys : ℕ) (shows : TreeLimits) : Type 0 where
   pub epoch : shows.epoch ≡ 1
   pub kind : shows.large ≡ 0
 
--- The same for a large tree.
-pub record ProposesLargeLimits (seats keys : ℕ) (shows : TreeLimits) : Type 0 where
+-- The same for a large tree, whose rows are as wide as pairs with keys and values of so many bytes ask.
+pub record ProposesPairLimits (seats keys key value : ℕ) (shows : TreeLimits) : Type 0 where
   pub actors : shows.actors ≡ seats
   pub pids : shows.pids ≡ large_pids_for seats keys
   pub rows : shows.rows ≡ large_rows_for seats (large_pids_for seats keys)
   pub epoch : shows.epoch ≡ 1
-  pub kind : shows.large ≡ 1
+  pub kind : shows.large ≡ 2
+  pub narrow : shows.narrow_rows ≡ narrow_rows_for seats (large_pids_for seats keys)
+  pub wide : shows.rows ≡ shows.wide_from + wide_rows_for (large_pids_for seats keys)
+  pub narrow_words : shows.narrow_words ≡ narrow_words_for key value
+  pub page_words : shows.page_words ≡ page_words_for key value
+
+-- The same for pairs of any length.
+abbrev pub ProposesLargeLimits : ℕ → ℕ → TreeLimits → Type 0
+ProposesLargeLimits seats keys shows = ProposesPairLimits seats keys 64 64 shows

@@ -17,27 +17,28 @@ use Rattle.bw_tree_c.specs.declared.bytes.Bytes.{Bytes}
 use Rattle.bw_tree_c.specs.declared.bytes.FreeRoom.{FreeRoom}
 use Rattle.bw_tree_c.specs.declared.bytes.Page.{Page}
 
--- A command was called with 65,536 steps, in one history; its status and the rest are told.
-pub record WasCalled (seat : Seat) (command : Command) (answer : ℕ) (tells : Called → Type 0) (next : Seat) : Type 0 where
+-- A command was called with a budget of steps, in one history; its status and the rest are told.
+pub record WasCalled (seat : Seat) (command : Command) (budget answer : ℕ) (tells : Called → Type 0) (next : Seat) : Type 0 where
   pub called : Called
-  pub call : IsCalled seat command many called next
+  pub call : IsCalled seat command budget called next
   pub fits : CameFitting command called
   pub history : IsOneHistory next.limits next.seen
   pub status : answer ≡ status_of_called called
   pub told : tells called
 
 -- The seat has an operation already, and nothing changes; or the command is called.
-abbrev pub IsCalledAndTold : Seat → Command → ℕ → Type 0 → (Called → Type 0) → Seat → Type 0
-IsCalledAndTold seat command status rest tells next = (IsSome (unfinished_command seat) × (status ≡ UNFINISHED) × rest × (next ≡ seat)) ⊎ WasCalled seat command status tells next
+abbrev pub IsCalledAndTold : Seat → Command → ℕ → ℕ → Type 0 → (Called → Type 0) → Seat → Type 0
+IsCalledAndTold seat command budget status rest tells next =
+    (IsSome (unfinished_command seat) × (status ≡ UNFINISHED) × rest × (next ≡ seat)) ⊎ WasCalled seat command budget status tells next
 
-abbrev pub IsRunToValue : Seat → Command → ℕ → Bytes → Bytes → Seat → Type 0
-IsRunToValue seat command status old new next = IsCalledAndTold seat command status (new ≡ old) (λ called. ShowsValueOf called old new) next
+abbrev pub IsRunToValue : Seat → Command → ℕ → ℕ → Bytes → Bytes → Seat → Type 0
+IsRunToValue seat command budget status old new next = IsCalledAndTold seat command budget status (new ≡ old) (λ called. ShowsValueOf called old new) next
 
 abbrev pub IsRunToPage : Seat → Command → ℕ → Page → Page → Seat → Type 0
-IsRunToPage seat command status old new next = IsCalledAndTold seat command status (new ≡ old) (λ called. ShowsPageOf called old new) next
+IsRunToPage seat command status old new next = IsCalledAndTold seat command many status (new ≡ old) (λ called. ShowsPageOf called old new) next
 
 abbrev pub IsTidied : Seat → Command → ℕ → Seat → Type 0
-IsTidied seat command status next = IsCalledAndTold seat command status ⊤ (λ called. ⊤) next
+IsTidied seat command status next = IsCalledAndTold seat command many status ⊤ (λ called. ⊤) next
 
 -- The seat's operation went on, in one history; its status, its value and its page are told.
 pub record WasResumed (seat : Seat) (budget answer : ℕ) (old new : Bytes) (page shows : Page) (next : Seat) : Type 0 where

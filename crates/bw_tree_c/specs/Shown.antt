@@ -1,7 +1,7 @@
 -- What C reads.
-use Rattle.std.specs.Prelude.{slice_get, ◌<◌, ◌≡◌, ◌⊎◌, ℕ, List, Option, Some, None, take, length, if◌then◌else◌}
+use Rattle.std.specs.Prelude.{slice_get, ◌<◌, ◌≡◌, ◌⊎◌, ℕ, List, Option, Some, None, take, length, false, true}
 use Rattle.running_tree.specs.declared.room.Room.{Room}
-use Rattle.tree_limits.specs.Limits.{AreLargeLimits, AreLimits}
+use Rattle.tree_limits.specs.Limits.{AreLargeLimits, AreLimits, AreWidths}
 use Rattle.tree_limits.specs.declared.limits.Limits.{Limits}
 use Rattle.bw_tree_c.specs.declared.bytes.Bytes.{Bytes}
 use Rattle.bw_tree_c.specs.declared.bytes.FreeRoom.{FreeRoom}
@@ -17,19 +17,40 @@ bytes_in b = take b.length b.bytes
 abbrev pub ShowsBytes : List ℕ → Bytes → Type 0
 ShowsBytes bytes at = (at.length ≡ length bytes) × (bytes_in at ≡ bytes)
 
--- The limits are shown.
+-- What the limits are of: 0 is a small tree, 1 a large one whose rows are all wide, and 2 a large one with other rows.
+abbrev pub IsOfKind : Limits → ℕ → Type 0
+IsOfKind limits kind =
+    ((limits.is_large ≡ false) × (kind ≡ 0)) ⊎ ((limits.is_large ≡ true) × (limits.wide_from ≡ 0) × (kind ≡ 1))
+    ⊎ ((limits.is_large ≡ true) × (0 < limits.wide_from) × (kind ≡ 2))
+
+-- The widths of the rows are shown.
+pub record ShowsWidths (limits : Limits) (shows : TreeLimits) : Type 0 where
+  pub narrow_rows : shows.narrow_rows ≡ limits.narrow_rows
+  pub wide_from : shows.wide_from ≡ limits.wide_from
+  pub narrow_words : shows.narrow_words ≡ limits.narrow_words
+  pub page_words : shows.page_words ≡ limits.page_words
+
+-- The limits are shown, and the widths where they have some.
 pub record ShowsLimits (limits : Limits) (shows : TreeLimits) : Type 0 where
   pub actors : shows.actors ≡ limits.actors
   pub pids : shows.pids ≡ limits.pids
   pub rows : shows.rows ≡ limits.rows
   pub epoch : shows.epoch ≡ limits.epoch
-  pub kind : shows.large ≡ (if limits.is_large then 1 else 0)
+  pub kind : IsOfKind limits shows.large
+  pub widths : shows.large ≡ 2 → ShowsWidths limits shows
+
+-- They are limits of a large tree with widths.
+pub record HaveWidths (shows : TreeLimits) : Type 0 where
+  pub allowed : AreLargeLimits shows.actors shows.pids shows.rows shows.epoch
+  pub some : 0 < shows.wide_from
+  pub widths : AreWidths shows.rows shows.narrow_rows shows.wide_from shows.narrow_words shows.page_words
 
 -- They are limits of a small tree or of a large one.
 abbrev pub AreOpenable : TreeLimits → Type 0
 AreOpenable shows =
     ((shows.large ≡ 0) × AreLimits shows.actors shows.pids shows.rows shows.epoch)
     ⊎ ((shows.large ≡ 1) × AreLargeLimits shows.actors shows.pids shows.rows shows.epoch)
+    ⊎ ((shows.large ≡ 2) × HaveWidths shows)
 
 -- The room is shown.
 abbrev pub ShowsRoom : Room → FreeRoom → Type 0

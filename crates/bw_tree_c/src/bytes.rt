@@ -1,9 +1,10 @@
 //! What C reads: short lists of bytes, pages of pairs, limits and counts.
 ghost use Rattle.std.specs.Prelude.{◌≡◌, ◌≤◌, MatchOption, length};
-ghost use Rattle.bw_tree_c.specs.Shown.{AreOpenable, ShowFirst, ShowsBytes, ShowsLimits, ShowsNext, ShowsPair, ShowsRoom, ShowsWholePage};
+ghost use Rattle.bw_tree_c.specs.Shown.{AreOpenable, HaveWidths, ShowFirst, ShowsBytes, ShowsLimits, ShowsNext, ShowsPair, ShowsRoom, ShowsWholePage};
 
 use bw_model::{Key, Limits, Pairs, Value};
 use running_tree::Room;
+use tree_limits::Widths;
 
 /// At most 64 bytes: the first `length` of them count.
 #[repr(C)]
@@ -39,8 +40,12 @@ pub struct TreeLimits {
     pub(crate) pids: u64,
     pub(crate) rows: u64,
     pub(crate) epoch: u64,
-    /// 1 of a large tree, else 0.
+    /// 0 of a small tree, 1 of a large one whose rows are all wide, 2 of a large one with these widths.
     pub(crate) large: u64,
+    pub(crate) narrow_rows: u64,
+    pub(crate) wide_from: u64,
+    pub(crate) narrow_words: u64,
+    pub(crate) page_words: u64,
 }
 
 /// How many PIDs and rows are free.
@@ -120,7 +125,17 @@ impl TreeLimits {
         self.pids = limits.pids;
         self.rows = limits.rows;
         self.epoch = limits.epoch;
-        self.large = u64::from(limits.is_large);
+        self.large = if !limits.is_large {
+            0
+        } else if limits.wide_from == 0 {
+            1
+        } else {
+            2
+        };
+        self.narrow_rows = limits.narrow_rows;
+        self.wide_from = limits.wide_from;
+        self.narrow_words = limits.narrow_words;
+        self.page_words = limits.page_words;
     }
 
     /// The limits that it shows, if they are limits.
@@ -131,8 +146,26 @@ impl TreeLimits {
         match self.large {
             0 => Limits::new(actors, pids, rows, epoch).ok(),
             1 => Limits::large(actors, pids, rows, epoch).ok(),
+            2 => self.limits_with_widths(),
             _ => None,
         }
+    }
+
+    /// Those of a large tree with widths, if they are limits.
+    fn limits_with_widths(&self) -> Option<Limits>
+        requires kind { self.now.large ≡ 2 }
+        ensures { MatchOption result (HaveWidths self.now → ⊥) (λ limits. ShowsLimits limits self.now) }
+    {
+        let widths = Widths {
+            narrow_rows: self.narrow_rows,
+            wide_from: self.wide_from,
+            narrow_words: self.narrow_words,
+            page_words: self.page_words,
+        };
+        if self.wide_from == 0 {
+            return None;
+        }
+        Limits::with_widths(self.actors, self.pids, self.rows, self.epoch, widths).ok()
     }
 }
 

@@ -1,48 +1,74 @@
 //! Calls on a seat: each is one command.
-ghost use Rattle.std.specs.Prelude.{◌≡◌, ◌<◌, ◌≤◌, ◌⊎◌, length};
+ghost use Rattle.std.specs.Prelude.{◌≡◌, ◌<◌, ◌≤◌, ◌⊎◌, Some, length};
 ghost use Rattle.bw_model.specs.declared.command.Command.TheVariants as command;
 ghost use Rattle.bw_model.specs.declared.short_bytes.TheConstants.{MAX_LENGTH};
-ghost use Rattle.bw_tree_c.specs.Calls.{ComesToValue, ComesTidied};
+ghost use Rattle.bw_tree_c.specs.Calls.{ComesToValue, ComesTidied, ComesWithin};
+ghost use Rattle.bw_tree_c.specs.Handles.{MayCall};
 
-use crate::answers::TOO_LONG;
+use crate::answers::{CLOSED, SPENT, TOO_LONG};
 use crate::bytes::Bytes;
-use crate::handle::{Taken, TreeHandle};
+use crate::handle::{Taken, TreeHandle, take_in};
 use crate::receipt::{Receipt, Told};
+use crate::shared::Shared;
 use crate::slot::finish;
 use bw_model::{Command, Key, Value};
+use seats::BUDGET;
 
 impl TreeHandle {
-    /// Runs a command on a seat.
-    fn run(&self, seat: u32, command: Command, old: &mut Bytes, since: Receipt) -> Told
-        ensures { ComesToValue self.now.kept.value seat command since result old.old old.new }
+    /// Runs a command on a seat, for at most so many steps.
+    fn run(&self, seat: u32, command: Command, budget: u32, old: &mut Bytes, since: Receipt) -> Told
+        requires { 1 ≤ budget }
+        ensures { ComesWithin self.now.kept.value seat command budget since result old.old old.new }
     {
-        let Taken {
-            shared,
-            slot,
-            mut place,
-        } = match self.take(seat) {
-            Ok(taken) => taken,
-            Err(refusal) => return Told::alone(refusal.status()),
-        };
-        let status = place.run(command, old);
-        finish(shared, slot, place, status, since)
+        match self.shared() {
+            Some(shared) => run_in(shared, seat, command, budget, old, since),
+            None => Told::refused(CLOSED, since),
+        }
     }
 
     /// Does upkeep on a seat.
     fn tidy(&self, seat: u32, key: Key, since: Receipt) -> Told
         ensures { ComesTidied self.now.kept.value seat (command.Tidy key) since result }
     {
-        let Taken {
-            shared,
-            slot,
-            mut place,
-        } = match self.take(seat) {
-            Ok(taken) => taken,
-            Err(refusal) => return Told::alone(refusal.status()),
-        };
-        let status = place.tidy(key);
-        finish(shared, slot, place, status, since)
+        match self.shared() {
+            Some(shared) => tidy_in(shared, seat, key, since),
+            None => Told::refused(CLOSED, since),
+        }
     }
+}
+
+/// Runs a command on a seat of a handle. Unless the log is open to all, it can be written as the caller's author alone.
+fn run_in(
+    shared: &'static Shared,
+    seat: u32,
+    command: Command,
+    budget: u32,
+    old: &mut Bytes,
+    since: Receipt,
+) -> Told
+    requires may { MayCall shared.now since }
+    requires some { 1 ≤ budget }
+    ensures { ComesWithin (Some shared.now) seat command budget since result old.old old.new }
+{
+    let Taken { slot, mut place } = match take_in(shared, seat) {
+        Ok(taken) => taken,
+        Err(refusal) => return Told::refused(refusal.status(), since),
+    };
+    let status = place.run(command, budget, old);
+    finish(shared, slot, place, status, since)
+}
+
+/// Does upkeep on a seat of a handle.
+fn tidy_in(shared: &'static Shared, seat: u32, key: Key, since: Receipt) -> Told
+    requires { MayCall shared.now since }
+    ensures { ComesTidied (Some shared.now) seat (command.Tidy key) since result }
+{
+    let Taken { slot, mut place } = match take_in(shared, seat) {
+        Ok(taken) => taken,
+        Err(refusal) => return Told::refused(refusal.status(), since),
+    };
+    let status = place.tidy(key);
+    finish(shared, slot, place, status, since)
 }
 
 /// Looks a key up.
@@ -54,13 +80,36 @@ pub extern "C" fn bwtree_raw_get(
     value: &mut Bytes,
     since: Receipt,
 ) -> Told
-    ensures long { MAX_LENGTH < length key.now → (result.status ≡ TOO_LONG) × (value.new ≡ value.old) }
+    ensures long { MAX_LENGTH < length key.now → (result.status ≡ TOO_LONG) × (value.new ≡ value.old) × (result.receipt ≡ since) }
     ensures called { length key.now ≤ MAX_LENGTH → ComesToValue tree.now.kept.value seat (command.Get key.now) since result value.old value.new }
 {
     let Ok(key) = Key::from_slice(key) else {
-        return Told::alone(TOO_LONG);
+        return Told::refused(TOO_LONG, since);
     };
-    tree.run(seat, Command::Get(key), value, since)
+    tree.run(seat, Command::Get(key), BUDGET, value, since)
+}
+
+/// Looks a key up, for at most so many steps. With none the answer is SPENT, and nothing is begun.
+#[unsafe(no_mangle)]
+pub extern "C" fn bwtree_raw_get_within(
+    tree: &TreeHandle,
+    seat: u32,
+    budget: u32,
+    key: &[u8],
+    value: &mut Bytes,
+    since: Receipt,
+) -> Told
+    ensures long { MAX_LENGTH < length key.now → (result.status ≡ TOO_LONG) × (value.new ≡ value.old) × (result.receipt ≡ since) }
+    ensures none { length key.now ≤ MAX_LENGTH → budget ≡ 0 → (result.status ≡ SPENT) × (value.new ≡ value.old) × (result.receipt ≡ since) }
+    ensures called { length key.now ≤ MAX_LENGTH → 1 ≤ budget → ComesWithin tree.now.kept.value seat (command.Get key.now) budget since result value.old value.new }
+{
+    let Ok(key) = Key::from_slice(key) else {
+        return Told::refused(TOO_LONG, since);
+    };
+    if budget == 0 {
+        return Told::refused(SPENT, since);
+    }
+    tree.run(seat, Command::Get(key), budget, value, since)
 }
 
 /// Gives a key a value where it has none.
@@ -73,13 +122,13 @@ pub extern "C" fn bwtree_raw_insert(
     old: &mut Bytes,
     since: Receipt,
 ) -> Told
-    ensures long { (MAX_LENGTH < length key.now) ⊎ (MAX_LENGTH < length value.now) → (result.status ≡ TOO_LONG) × (old.new ≡ old.old) }
+    ensures long { (MAX_LENGTH < length key.now) ⊎ (MAX_LENGTH < length value.now) → (result.status ≡ TOO_LONG) × (old.new ≡ old.old) × (result.receipt ≡ since) }
     ensures called { length key.now ≤ MAX_LENGTH → length value.now ≤ MAX_LENGTH → ComesToValue tree.now.kept.value seat (command.Insert key.now value.now) since result old.old old.new }
 {
     let (Ok(key), Ok(value)) = (Key::from_slice(key), Value::from_slice(value)) else {
-        return Told::alone(TOO_LONG);
+        return Told::refused(TOO_LONG, since);
     };
-    tree.run(seat, Command::Insert(key, value), old, since)
+    tree.run(seat, Command::Insert(key, value), BUDGET, old, since)
 }
 
 /// Gives a key a value, in place of the one that it has.
@@ -92,13 +141,38 @@ pub extern "C" fn bwtree_raw_upsert(
     old: &mut Bytes,
     since: Receipt,
 ) -> Told
-    ensures long { (MAX_LENGTH < length key.now) ⊎ (MAX_LENGTH < length value.now) → (result.status ≡ TOO_LONG) × (old.new ≡ old.old) }
+    ensures long { (MAX_LENGTH < length key.now) ⊎ (MAX_LENGTH < length value.now) → (result.status ≡ TOO_LONG) × (old.new ≡ old.old) × (result.receipt ≡ since) }
     ensures called { length key.now ≤ MAX_LENGTH → length value.now ≤ MAX_LENGTH → ComesToValue tree.now.kept.value seat (command.Upsert key.now value.now) since result old.old old.new }
 {
     let (Ok(key), Ok(value)) = (Key::from_slice(key), Value::from_slice(value)) else {
-        return Told::alone(TOO_LONG);
+        return Told::refused(TOO_LONG, since);
     };
-    tree.run(seat, Command::Upsert(key, value), old, since)
+    tree.run(seat, Command::Upsert(key, value), BUDGET, old, since)
+}
+
+/// Gives a key a value, in place of the one that it has, in at most so many steps. With none the answer is SPENT, and nothing is begun.
+#[unsafe(no_mangle)]
+pub extern "C" fn bwtree_raw_upsert_within(
+    tree: &TreeHandle,
+    seat: u32,
+    budget: u32,
+    key: &[u8],
+    value: &[u8],
+    old: &mut Bytes,
+    since: Receipt,
+) -> Told
+    ensures long { (MAX_LENGTH < length key.now) ⊎ (MAX_LENGTH < length value.now) → (result.status ≡ TOO_LONG) × (old.new ≡ old.old) × (result.receipt ≡ since) }
+    ensures none { length key.now ≤ MAX_LENGTH → length value.now ≤ MAX_LENGTH → budget ≡ 0 → (result.status ≡ SPENT) × (old.new ≡ old.old) × (result.receipt ≡ since) }
+    ensures called { length key.now ≤ MAX_LENGTH → length value.now ≤ MAX_LENGTH → 1 ≤ budget
+        → ComesWithin tree.now.kept.value seat (command.Upsert key.now value.now) budget since result old.old old.new }
+{
+    let (Ok(key), Ok(value)) = (Key::from_slice(key), Value::from_slice(value)) else {
+        return Told::refused(TOO_LONG, since);
+    };
+    if budget == 0 {
+        return Told::refused(SPENT, since);
+    }
+    tree.run(seat, Command::Upsert(key, value), budget, old, since)
 }
 
 /// Makes a key absent.
@@ -110,13 +184,13 @@ pub extern "C" fn bwtree_raw_delete(
     old: &mut Bytes,
     since: Receipt,
 ) -> Told
-    ensures long { MAX_LENGTH < length key.now → (result.status ≡ TOO_LONG) × (old.new ≡ old.old) }
+    ensures long { MAX_LENGTH < length key.now → (result.status ≡ TOO_LONG) × (old.new ≡ old.old) × (result.receipt ≡ since) }
     ensures called { length key.now ≤ MAX_LENGTH → ComesToValue tree.now.kept.value seat (command.Delete key.now) since result old.old old.new }
 {
     let Ok(key) = Key::from_slice(key) else {
-        return Told::alone(TOO_LONG);
+        return Told::refused(TOO_LONG, since);
     };
-    tree.run(seat, Command::Delete(key), old, since)
+    tree.run(seat, Command::Delete(key), BUDGET, old, since)
 }
 
 /// Makes a key absent where it has the expected value.
@@ -129,13 +203,14 @@ pub extern "C" fn bwtree_raw_delete_if(
     old: &mut Bytes,
     since: Receipt,
 ) -> Told
-    ensures long { (MAX_LENGTH < length key.now) ⊎ (MAX_LENGTH < length expected.now) → (result.status ≡ TOO_LONG) × (old.new ≡ old.old) }
-    ensures called { length key.now ≤ MAX_LENGTH → length expected.now ≤ MAX_LENGTH → ComesToValue tree.now.kept.value seat (command.DeleteIf key.now expected.now) since result old.old old.new }
+    ensures long { (MAX_LENGTH < length key.now) ⊎ (MAX_LENGTH < length expected.now) → (result.status ≡ TOO_LONG) × (old.new ≡ old.old) × (result.receipt ≡ since) }
+    ensures called { length key.now ≤ MAX_LENGTH → length expected.now ≤ MAX_LENGTH
+        → ComesToValue tree.now.kept.value seat (command.DeleteIf key.now expected.now) since result old.old old.new }
 {
     let (Ok(key), Ok(expected)) = (Key::from_slice(key), Value::from_slice(expected)) else {
-        return Told::alone(TOO_LONG);
+        return Told::refused(TOO_LONG, since);
     };
-    tree.run(seat, Command::DeleteIf(key, expected), old, since)
+    tree.run(seat, Command::DeleteIf(key, expected), BUDGET, old, since)
 }
 
 /// Gives a key the new value where it has the expected one.
@@ -149,17 +224,24 @@ pub extern "C" fn bwtree_raw_swap(
     old: &mut Bytes,
     since: Receipt,
 ) -> Told
-    ensures long { (MAX_LENGTH < length key.now) ⊎ (MAX_LENGTH < length expected.now) ⊎ (MAX_LENGTH < length value.now) → (result.status ≡ TOO_LONG) × (old.new ≡ old.old) }
+    ensures long { (MAX_LENGTH < length key.now) ⊎ (MAX_LENGTH < length expected.now) ⊎ (MAX_LENGTH < length value.now)
+        → (result.status ≡ TOO_LONG) × (old.new ≡ old.old) × (result.receipt ≡ since) }
     ensures called { length key.now ≤ MAX_LENGTH → length expected.now ≤ MAX_LENGTH → length value.now ≤ MAX_LENGTH
         → ComesToValue tree.now.kept.value seat (command.Swap key.now expected.now value.now) since result old.old old.new }
 {
     let Ok(key) = Key::from_slice(key) else {
-        return Told::alone(TOO_LONG);
+        return Told::refused(TOO_LONG, since);
     };
     let (Ok(expected), Ok(value)) = (Value::from_slice(expected), Value::from_slice(value)) else {
-        return Told::alone(TOO_LONG);
+        return Told::refused(TOO_LONG, since);
     };
-    tree.run(seat, Command::Swap(key, expected, value), old, since)
+    tree.run(
+        seat,
+        Command::Swap(key, expected, value),
+        BUDGET,
+        old,
+        since,
+    )
 }
 
 /// Adds a number, modulo 2^64, to the one that a key's value of eight bytes spells; an absent key is given the number.
@@ -172,23 +254,23 @@ pub extern "C" fn bwtree_raw_add(
     old: &mut Bytes,
     since: Receipt,
 ) -> Told
-    ensures long { MAX_LENGTH < length key.now → (result.status ≡ TOO_LONG) × (old.new ≡ old.old) }
+    ensures long { MAX_LENGTH < length key.now → (result.status ≡ TOO_LONG) × (old.new ≡ old.old) × (result.receipt ≡ since) }
     ensures called { length key.now ≤ MAX_LENGTH → ComesToValue tree.now.kept.value seat (command.Add key.now number) since result old.old old.new }
 {
     let Ok(key) = Key::from_slice(key) else {
-        return Told::alone(TOO_LONG);
+        return Told::refused(TOO_LONG, since);
     };
-    tree.run(seat, Command::Add(key, number), old, since)
+    tree.run(seat, Command::Add(key, number), BUDGET, old, since)
 }
 
 /// Does what upkeep is due at the leaf that has the key.
 #[unsafe(no_mangle)]
 pub extern "C" fn bwtree_raw_tidy(tree: &TreeHandle, seat: u32, key: &[u8], since: Receipt) -> Told
-    ensures long { MAX_LENGTH < length key.now → result.status ≡ TOO_LONG }
+    ensures long { MAX_LENGTH < length key.now → (result.status ≡ TOO_LONG) × (result.receipt ≡ since) }
     ensures called { length key.now ≤ MAX_LENGTH → ComesTidied tree.now.kept.value seat (command.Tidy key.now) since result }
 {
     let Ok(key) = Key::from_slice(key) else {
-        return Told::alone(TOO_LONG);
+        return Told::refused(TOO_LONG, since);
     };
     tree.tidy(seat, key, since)
 }

@@ -1,6 +1,7 @@
 //! A tree is closed.
-ghost use Rattle.std.specs.Prelude.{◌≡◌, ◌⊎◌, None};
-ghost use Rattle.bw_tree_c.specs.Closing.{CanEmpty, HasClosed, IsClosedBy, IsForgotten};
+ghost use Rattle.std.specs.Prelude.{◌≡◌, ◌≢◌, ◌⊎◌, None};
+ghost use Rattle.bw_tree_c.specs.Closing.{CanEmpty, CanForget, HasClosed, IsClosedBy, IsForgotten};
+ghost use Rattle.bw_tree_c.specs.Handles.{MayCall};
 
 use crate::answers::{BUSY, CLOSED, OK};
 use crate::handle::TreeHandle;
@@ -18,26 +19,47 @@ pub extern "C" fn bwtree_raw_close(tree: &TreeHandle, since: Receipt) -> Told
     ensures never { tree.now.kept.value ≡ None → result.status ≡ CLOSED }
     ensures told { (result.status ≡ OK) ⊎ (result.status ≡ CLOSED) ⊎ (result.status ≡ BUSY) }
     ensures ok { result.status ≡ OK → HasClosed tree.now.kept.value since result.receipt }
+    ensures back { result.status ≢ OK → result.receipt ≡ since }
 {
     let Some(shared) = tree.shared() else {
-        return Told::alone(CLOSED);
+        return Told::refused(CLOSED, since);
     };
-    match close_all(shared, shared.slots.as_slice()) {
-        Ok(Some(hand)) => shared.forget(hand, since),
-        Ok(None) => Told::alone(CLOSED),
-        Err(Refusal::Closed) => shared.forget_left(since),
-        Err(_) => Told::alone(BUSY),
-    }
+    shared.close(since)
 }
 
 impl Shared {
-    /// Writes into the log that nothing waits any more.
-    pub(crate) fn forget(&self, mut hand: SeatHand, since: Receipt) -> Told
-        requires { CanEmpty self.now hand }
+    /// Closes the tree. Unless the log is open to all, that can be written as the caller's author alone.
+    fn close(&self, since: Receipt) -> Told
+        requires { MayCall self.now since }
+        ensures told { (result.status ≡ OK) ⊎ (result.status ≡ CLOSED) ⊎ (result.status ≡ BUSY) }
+        ensures ok { result.status ≡ OK → IsClosedBy self.now since result.receipt }
+        ensures back { result.status ≢ OK → result.receipt ≡ since }
+    {
+        match close_all(self, self.slots.as_slice()) {
+            Ok(Some(hand)) => self.forget_since(hand, since),
+            Ok(None) => Told::refused(CLOSED, since),
+            Err(Refusal::Closed) => self.forget_left(since),
+            Err(_) => Told::refused(BUSY, since),
+        }
+    }
+
+    /// Writes into the log that nothing waits any more, behind all that the caller had seen.
+    fn forget_since(&self, mut hand: SeatHand, since: Receipt) -> Told
+        requires can { CanEmpty self.now hand }
+        requires may { MayCall self.now since }
         ensures told { result.status ≡ OK }
-        ensures closed { IsForgotten self.now hand.me.0.here since result.receipt }
+        ensures closed { IsClosedBy self.now since result.receipt }
     {
         observed(&self.log.shared, &mut hand, self.seen_by(since));
+        self.forget(hand)
+    }
+
+    /// Writes into the log that nothing waits any more.
+    pub(crate) fn forget(&self, mut hand: SeatHand) -> Told
+        requires { CanForget self.now hand }
+        ensures told { result.status ≡ OK }
+        ensures closed { IsForgotten self.now hand result.receipt }
+    {
         emptied(&self.log.shared, &mut hand);
         let note = copied(&self.log.shared, &mut hand);
         Told::of(OK, note)
@@ -45,17 +67,19 @@ impl Shared {
 
     /// Drops the pairs that a closed tree has left, if there are any.
     fn forget_left(&self, since: Receipt) -> Told
+        requires { MayCall self.now since }
         ensures told { (result.status ≡ OK) ⊎ (result.status ≡ CLOSED) ⊎ (result.status ≡ BUSY) }
         ensures ok { result.status ≡ OK → IsClosedBy self.now since result.receipt }
+        ensures back { result.status ≢ OK → result.receipt ≡ since }
     {
         let (_, spare) = looked(&self.log.shared);
         let Ok(left) = take_left(&self.left, spare) else {
-            return Told::alone(BUSY);
+            return Told::refused(BUSY, since);
         };
         leave_left(&self.left);
         match left {
-            Some(left) => self.forget(left.into_hand(), since),
-            None => Told::alone(CLOSED),
+            Some(left) => self.forget_since(left.into_hand(), since),
+            None => Told::refused(CLOSED, since),
         }
     }
 }

@@ -4,28 +4,34 @@ ghost use Rattle.std.specs.Arc.{arc_value};
 ghost use Rattle.std.specs.Vec.{vec_capacity};
 ghost use Rattle.running_tree.specs.Trees.{AreClosed, AreSeatsOf, IsSeatOf};
 ghost use Rattle.seats.specs.Idle.{AreIdle};
+ghost use Rattle.bw_tree_c.specs.Closing.{IsLeftFor};
+ghost use Rattle.bw_tree_c.specs.Handles.{MayCall, kind_of};
 ghost use Rattle.bw_tree_c.specs.Hands.{AreSlotsOf};
-ghost use Rattle.bw_tree_c.specs.Left.{AreTaken, IsLeftAt};
+ghost use Rattle.bw_tree_c.specs.Left.{AreTaken};
 ghost use Rattle.bw_tree_c.specs.Refused.{IsHindrance};
 
 use crate::handle_log::SeatHand;
 use crate::left::LeftPairs;
 use crate::place::Place;
+use crate::receipt::Receipt;
 use crate::refusal::Refusal;
 use crate::shared::Shared;
 use crate::slot::{Slot, close, give, take, with_others};
 use bw_model::{Key, Value};
-use call_log::closed;
+use call_log::{closed, observed};
 use running_tree::{BwSeat, Tree};
 use std::alloc::Global;
+use std::mem::replace;
 use std::sync::Arc;
 
 impl Shared {
-    /// Ends the tree, and lists its pairs; refused, with nothing changed, where a seat is away or has an unfinished operation, where the tree is closed, and
+    /// Ends the tree, behind all that the caller had seen, and lists its pairs; refused, with nothing changed, where a seat is away or has an unfinished operation, where the tree is closed, and
     /// for want of memory.
-    pub(crate) fn end(&self, alloc: Global) -> Result<LeftPairs, Refusal>
-        ensures ok { IfOk result (IsLeftAt self.now.log.shared.table_id self.now.log.shared.key.items) }
+    pub(crate) fn end(&self, alloc: Global, since: &mut Receipt) -> Result<LeftPairs, Refusal>
+        requires { MayCall self.now since.old }
+        ensures ok { IfOk result (IsLeftFor self.now since.old) }
         ensures refused { IfErr result IsHindrance }
+        ensures back { IfErr result (λ _. since.new ≡ since.old) }
     {
         let Ok(mut seats) = Vec::with_capacity(alloc, self.slots.len()) else {
             return Err(Refusal::NoMemory);
@@ -38,14 +44,16 @@ impl Shared {
         else {
             return Err(Refusal::Closed);
         };
+        let Some(tree) = Arc::into_inner(share) else {
+            return Err(Refusal::Closed);
+        };
+        let since = replace(since, Receipt::of_nothing());
+        observed(&self.log.shared, &mut hand, self.seen_by(since));
         closed(&self.log.shared, &mut hand);
-        match Arc::into_inner(share) {
-            Some(tree) => Ok(LeftPairs {
-                pairs: listed(tree, seats, room),
-                hand,
-            }),
-            None => Err(Refusal::Closed),
-        }
+        Ok(LeftPairs {
+            pairs: listed(tree, seats, room),
+            hand,
+        })
     }
 }
 
@@ -62,10 +70,11 @@ fn take_out(
     seats: &mut Vec<BwSeat>,
 ) -> Result<Option<Out>, Refusal>
     requires word { 0 < shared.now.log.shared.table_id.words }
-    requires slots { AreSlotsOf shared.now.log.shared.table_id shared.now.log.shared.key.items slots.now }
+    requires slots { AreSlotsOf shared.now.log.shared.table_id shared.now.log.shared.key.items (kind_of shared.now) slots.now }
     requires empty { seats.old.items ≡ [] }
     requires room { length slots.now ≤ vec_capacity seats.old }
-    ensures none { IfOk result (λ found. MatchOption found ((length slots.now ≡ 0) × (seats.new.items ≡ [])) (λ out. AreTaken shared.now.log.shared.table_id shared.now.log.shared.key.items (length slots.now) (arc_value out.share) seats.new.items out.hand)) }
+    ensures none { IfOk result (λ found. MatchOption found ((length slots.now ≡ 0) × (seats.new.items ≡ []))
+        (λ out. AreTaken shared.now.log.shared.table_id shared.now.log.shared.key.items (kind_of shared.now) (length slots.now) (arc_value out.share) seats.new.items out.hand)) }
     ensures capacity { vec_capacity seats.new ≡ vec_capacity seats.old }
     ensures refused { IfErr result IsHindrance }
 {

@@ -1,6 +1,7 @@
 //! The handle of a tree, which lies in the C program's memory.
-ghost use Rattle.std.specs.Prelude.{◌≡◌, ◌↔◌, None, Some, IfErr, IfOk, IsSome, MatchOption, slice_get};
-ghost use Rattle.bw_tree_c.specs.Handles.{IsRefused};
+ghost use Rattle.std.specs.Prelude.{◌≡◌, ◌↔◌, None, Some, IfErr, IfOk, IfSome, IsSome, MatchOption, slice_get};
+ghost use Rattle.call_log.specs.declared.log.Kind.TheVariants.{Open};
+ghost use Rattle.bw_tree_c.specs.Handles.{IsOpenToAll, IsRefused, kind_of};
 ghost use Rattle.bw_tree_c.specs.Places.{IsKin};
 
 use crate::kept::Kept;
@@ -16,6 +17,7 @@ pub struct TreeHandle {
     held: u64,
     pub(crate) kept: Kept,
     ghost there: { (held ≡ 1) ↔ IsSome kept.value },
+    ghost open: { IsOpenToAll kept.value },
 }
 
 impl TreeHandle {
@@ -31,6 +33,7 @@ impl TreeHandle {
 
     /// The handle of an opened tree. That its type is `Send` and `Sync` is proved: threads of a C program share it.
     pub(crate) fn of(shared: Box<Shared>) -> TreeHandle
+        requires { kind_of shared.value ≡ Some Open }
         ensures { result.kept.value ≡ Some shared.value }
     {
         let shared: &'static Shared = Box::leak(shared);
@@ -42,7 +45,8 @@ impl TreeHandle {
 
     /// What is shared, if the tree was opened.
     pub(crate) fn shared(&self) -> Option<&'static Shared>
-        ensures { MatchOption result (self.now.kept.value ≡ None) (λ shared. self.now.kept.value ≡ Some shared.now) }
+        ensures kept { MatchOption result (self.now.kept.value ≡ None) (λ shared. self.now.kept.value ≡ Some shared.now) }
+        ensures open { IfSome result (λ shared. kind_of shared.now ≡ Some Open) }
     {
         if self.held == 1 {
             Some(self.kept.get())
@@ -50,42 +54,32 @@ impl TreeHandle {
             None
         }
     }
+}
 
-    /// What is shared, and the slot of a seat.
-    fn slot(&self, seat: u32) -> Result<(&'static Shared, &'static Slot), Refusal>
-        ensures shared { IfOk result (λ found. self.now.kept.value ≡ Some found.0.now) }
-        ensures slot { IfOk result (λ found. slice_get found.0.now.slots.items seat ≡ Some found.1.now) }
-        ensures refused { IfErr result (IsRefused self.now.kept.value seat) }
-    {
-        let Some(shared) = self.shared() else {
-            return Err(Refusal::Closed);
-        };
-        match shared.slots.get(seat as usize) {
-            Some(slot) => Ok((shared, slot)),
-            None => Err(Refusal::NoSeat),
-        }
-    }
-
-    /// Takes a seat out of its slot, for a call.
-    pub(crate) fn take(&self, seat: u32) -> Result<Taken, Refusal>
-        ensures shared { IfOk result (λ taken. self.now.kept.value ≡ Some taken.shared.now) }
-        ensures slot { IfOk result (λ taken. slice_get taken.shared.now.slots.items seat ≡ Some taken.slot.now) }
-        ensures kin { IfOk result (λ taken. IsKin taken.slot.now taken.place.value) }
-        ensures refused { IfErr result (IsRefused self.now.kept.value seat) }
-    {
-        let (shared, slot) = self.slot(seat)?;
-        let place = take(slot)?;
-        Ok(Taken {
-            shared,
-            slot,
-            place,
-        })
+/// The slot of a seat.
+fn slot_in(shared: &'static Shared, seat: u32) -> Result<&'static Slot, Refusal>
+    ensures slot { IfOk result (λ slot. slice_get shared.now.slots.items seat ≡ Some slot.now) }
+    ensures refused { IfErr result (IsRefused (Some shared.now) seat) }
+{
+    match shared.slots.get(seat as usize) {
+        Some(slot) => Ok(slot),
+        None => Err(Refusal::NoSeat),
     }
 }
 
-/// A seat that was taken out of its slot, and whose it is.
+/// Takes a seat out of its slot, for a call.
+pub(crate) fn take_in(shared: &'static Shared, seat: u32) -> Result<Taken, Refusal>
+    ensures slot { IfOk result (λ taken. slice_get shared.now.slots.items seat ≡ Some taken.slot.now) }
+    ensures kin { IfOk result (λ taken. IsKin taken.slot.now taken.place.value) }
+    ensures refused { IfErr result (IsRefused (Some shared.now) seat) }
+{
+    let slot = slot_in(shared, seat)?;
+    let place = take(slot)?;
+    Ok(Taken { slot, place })
+}
+
+/// A seat that was taken out of its slot.
 pub struct Taken {
-    pub(crate) shared: &'static Shared,
     pub(crate) slot: &'static Slot,
     pub(crate) place: Box<Place>,
 }

@@ -1,59 +1,72 @@
 //! A tree is opened with pairs.
-ghost use Rattle.std.specs.Prelude.{◌≡◌, ◌↔◌, ◌⊎◌, IfErr, IfOk, IsSome, None, map};
+ghost use Rattle.std.specs.Prelude.{◌≡◌, ◌↔◌, ◌⊎◌, [], IfErr, IfOk, IsSome, None, Some, map};
 ghost use Rattle.bw_model.specs.declared.command.Reply.TheVariants as reply;
 ghost use Rattle.running_tree.specs.Loaded.{KeysAscend};
+ghost use Rattle.call_log.specs.declared.log.Authors.TheVariants.{AllFrom};
+ghost use Rattle.call_log.specs.declared.log.Kind.TheVariants.{Open};
+ghost use Rattle.bw_tree_c.specs.Handles.{IsReceipt, kind_of};
 ghost use Rattle.bw_tree_c.specs.Loaded.{AreShort, HasOpenedWith, IsLoadedWith, IsUnloaded, StopsLoad, TellsUnloaded, given_pair};
+ghost use Rattle.bw_tree_c.specs.Opened.{IsFirstNote};
 ghost use Rattle.bw_tree_c.specs.Shown.{AreOpenable};
 
 use crate::answers::{BAD_LIMITS, BAD_ORDER, FULL, NO_MEMORY, OK, OPEN, SPENT, TOO_LONG};
 use crate::bytes::{Pair, TreeLimits};
 use crate::given::pairs_of;
 use crate::handle::TreeHandle;
+use crate::handle_log::SeatHand;
 use crate::opening::shared_with_seats;
+use crate::receipt::Told;
 use crate::shared::Shared;
 use bw_model::Limits;
 use running_tree::{Called, LoadError};
 use seats::opened_from;
 use std::alloc::Global;
 
-/// Opens a tree with these pairs, whose keys ascend, in a handle that keeps nothing.
+/// Opens a tree with these pairs, whose keys ascend, in a handle that keeps nothing. Its receipt has all authors of the handle's log.
 #[unsafe(no_mangle)]
 pub extern "C" fn bwtree_raw_open_from(
     alloc: Global,
     limits: &TreeLimits,
     pairs: &[Pair],
     tree: &mut TreeHandle,
-) -> u32
-    ensures bad { (result ≡ BAD_LIMITS) ↔ (AreOpenable limits.now → ⊥) }
-    ensures told { (result ≡ OK) ⊎ (result ≡ BAD_LIMITS) ⊎ (result ≡ OPEN) ⊎ TellsUnloaded result }
-    ensures ok { result ≡ OK → HasOpenedWith limits.now pairs.now tree.new.kept.value }
-    ensures open { result ≡ OPEN → IsSome tree.old.kept.value }
-    ensures over { result ≡ OK → tree.old.kept.value ≡ None }
-    ensures long { result ≡ TOO_LONG → AreShort pairs.now → ⊥ }
-    ensures order { result ≡ BAD_ORDER → KeysAscend (map given_pair pairs.now) → ⊥ }
-    ensures full { result ≡ FULL → StopsLoad limits.now pairs.now (Called.Done reply.Full) }
-    ensures spent { result ≡ SPENT → StopsLoad limits.now pairs.now Called.Spent }
-    ensures same { (result ≡ OK → ⊥) → tree.new ≡ tree.old }
+) -> Told
+    ensures bad { (result.status ≡ BAD_LIMITS) ↔ (AreOpenable limits.now → ⊥) }
+    ensures told { (result.status ≡ OK) ⊎ (result.status ≡ BAD_LIMITS) ⊎ (result.status ≡ OPEN) ⊎ TellsUnloaded result.status }
+    ensures ok { result.status ≡ OK → HasOpenedWith limits.now pairs.now tree.new.kept.value }
+    ensures authors { result.status ≡ OK → IsReceipt tree.new.kept.value (AllFrom 0) [] result.receipt }
+    ensures open { result.status ≡ OPEN → IsSome tree.old.kept.value }
+    ensures over { result.status ≡ OK → tree.old.kept.value ≡ None }
+    ensures long { result.status ≡ TOO_LONG → AreShort pairs.now → ⊥ }
+    ensures order { result.status ≡ BAD_ORDER → KeysAscend (map given_pair pairs.now) → ⊥ }
+    ensures full { result.status ≡ FULL → StopsLoad limits.now pairs.now (Called.Done reply.Full) }
+    ensures spent { result.status ≡ SPENT → StopsLoad limits.now pairs.now Called.Spent }
+    ensures same { (result.status ≡ OK → ⊥) → tree.new ≡ tree.old }
 {
     let Some(limits) = limits.limits() else {
-        return BAD_LIMITS;
+        return Told::alone(BAD_LIMITS);
     };
     if let Some(_) = tree.shared() {
-        return OPEN;
+        return Told::alone(OPEN);
     }
     match shared_with(alloc, limits, pairs) {
-        Ok(shared) => {
+        Ok((shared, note)) => {
             *tree = TreeHandle::of(shared);
-            OK
+            Told::of(OK, note)
         }
-        Err(told) => told,
+        Err(told) => Told::alone(told),
     }
 }
 
-/// A tree with these pairs, with its seats in their slots; or the status that says why there is none.
-fn shared_with(alloc: Global, limits: Limits, given: &[Pair]) -> Result<Box<Shared>, u32>
-    ensures ok { IfOk result (λ shared. IsLoadedWith limits (map given_pair given.now) shared.value.log.shared.key.items) }
-    ensures short { IfOk result (λ shared. AreShort given.now) }
+/// A tree with these pairs, with its seats in their slots, and what has all authors of its log; or the status that says why there is none.
+fn shared_with(
+    alloc: Global,
+    limits: Limits,
+    given: &[Pair],
+) -> Result<(Box<Shared>, SeatHand), u32>
+    ensures ok { IfOk result (λ made. IsLoadedWith limits (map given_pair given.now) made.0.value.log.shared.key.items) }
+    ensures open { IfOk result (λ made. kind_of made.0.value ≡ Some Open) }
+    ensures authors { IfOk result (λ made. IsFirstNote made.0.value made.1) }
+    ensures short { IfOk result (λ made. AreShort given.now) }
     ensures err { IfErr result (IsUnloaded limits given.now) }
     ensures told { IfErr result TellsUnloaded }
 {
@@ -66,7 +79,7 @@ fn shared_with(alloc: Global, limits: Limits, given: &[Pair]) -> Result<Box<Shar
         Err(LoadError::Spent) => return Err(SPENT),
     };
     match shared_with_seats(alloc, limits, tree, seats) {
-        Some(shared) => Ok(shared),
+        Some(made) => Ok(made),
         None => Err(NO_MEMORY),
     }
 }

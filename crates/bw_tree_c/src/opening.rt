@@ -1,13 +1,16 @@
 //! A tree is opened.
-ghost use Rattle.std.specs.Prelude.{◌≡◌, ◌<◌, ◌⊎◌, ◌↔◌, [], IfSome, IsSome, None, length};
+ghost use Rattle.std.specs.Prelude.{◌≡◌, ◌<◌, ◌⊎◌, ◌↔◌, [], IfSome, IsSome, None, Some, length};
 ghost use Rattle.std.specs.Arc.{arc_value};
-ghost use Rattle.tree_limits.specs.Room.{AreProposed, AreProposedLarge};
+ghost use Rattle.tree_limits.specs.Room.{AreProposed, AreProposedLarge, AreProposedPairs};
 ghost use Rattle.running_tree.specs.Trees.{AreSeatsOf};
+ghost use Rattle.call_log.specs.declared.log.Authors.TheVariants.{AllFrom};
+ghost use Rattle.call_log.specs.declared.log.Kind.TheVariants.{Open};
 ghost use Rattle.call_log.specs.Rule.{all_of};
 ghost use Rattle.bw_tree_c.specs.Closing.{IsInUse, IsVacant};
+ghost use Rattle.bw_tree_c.specs.Handles.{IsReceipt, kind_of};
 ghost use Rattle.bw_tree_c.specs.Hands.{AreSlotsOf};
 ghost use Rattle.bw_tree_c.specs.Left.{HaveOneTree};
-ghost use Rattle.bw_tree_c.specs.Opened.{HasOpened, IsOpenedAt, ProposesLargeLimits, ProposesLimits};
+ghost use Rattle.bw_tree_c.specs.Opened.{HasAllAuthors, HasOpened, IsFirstNote, IsOpenedAt, ProposesLargeLimits, ProposesLimits, ProposesPairLimits};
 ghost use Rattle.bw_tree_c.specs.Shown.{AreOpenable};
 
 use crate::answers::{BAD_LIMITS, NO_MEMORY, OK, OPEN};
@@ -19,7 +22,7 @@ use crate::receipt::{Receipt, Told};
 use crate::shared::Shared;
 use crate::slot::{Slot, slot_of};
 use bw_model::Limits;
-use call_log::{dealt, looked, observed, recalled};
+use call_log::{copied, dealt, looked, observed, recalled};
 use running_tree::{BwSeat, Tree};
 use seats::opened;
 use std::alloc::Global;
@@ -61,27 +64,50 @@ pub extern "C" fn bwtree_raw_limits_for_many_keys(
     }
 }
 
-/// Opens an empty tree, in a handle that keeps nothing.
+/// Limits of a large tree for so many seats and pairs, whose keys and values have so many bytes at most.
 #[unsafe(no_mangle)]
-pub extern "C" fn bwtree_raw_open(alloc: Global, limits: &TreeLimits, tree: &mut TreeHandle) -> u32
-    ensures bad { (result ≡ BAD_LIMITS) ↔ (AreOpenable limits.now → ⊥) }
-    ensures told { (result ≡ OK) ⊎ (result ≡ BAD_LIMITS) ⊎ (result ≡ OPEN) ⊎ (result ≡ NO_MEMORY) }
-    ensures ok { result ≡ OK → HasOpened limits.now tree.new.kept.value }
-    ensures open { result ≡ OPEN → IsSome tree.old.kept.value }
-    ensures over { result ≡ OK → tree.old.kept.value ≡ None }
-    ensures same { (result ≡ OK → ⊥) → tree.new ≡ tree.old }
+pub extern "C" fn bwtree_raw_limits_for_pairs(
+    actors: u64,
+    keys: u64,
+    key_bytes: u64,
+    value_bytes: u64,
+    limits: &mut TreeLimits,
+) -> u32
+    ensures ok { (result ≡ OK) ↔ AreProposedPairs actors keys key_bytes value_bytes }
+    ensures limits { result ≡ OK → ProposesPairLimits actors keys key_bytes value_bytes limits.new }
+    ensures bad { (result ≡ OK → ⊥) → (result ≡ BAD_LIMITS) × (limits.new ≡ limits.old) }
+{
+    match Limits::for_pairs(actors, keys, key_bytes, value_bytes) {
+        Ok(proposed) => {
+            limits.set(&proposed);
+            OK
+        }
+        Err(_) => BAD_LIMITS,
+    }
+}
+
+/// Opens an empty tree, in a handle that keeps nothing. Its receipt has all authors of the handle's log.
+#[unsafe(no_mangle)]
+pub extern "C" fn bwtree_raw_open(alloc: Global, limits: &TreeLimits, tree: &mut TreeHandle) -> Told
+    ensures bad { (result.status ≡ BAD_LIMITS) ↔ (AreOpenable limits.now → ⊥) }
+    ensures told { (result.status ≡ OK) ⊎ (result.status ≡ BAD_LIMITS) ⊎ (result.status ≡ OPEN) ⊎ (result.status ≡ NO_MEMORY) }
+    ensures ok { result.status ≡ OK → HasOpened limits.now tree.new.kept.value }
+    ensures authors { result.status ≡ OK → IsReceipt tree.new.kept.value (AllFrom 0) [] result.receipt }
+    ensures open { result.status ≡ OPEN → IsSome tree.old.kept.value }
+    ensures over { result.status ≡ OK → tree.old.kept.value ≡ None }
+    ensures same { (result.status ≡ OK → ⊥) → tree.new ≡ tree.old }
 {
     let Some(limits) = limits.limits() else {
-        return BAD_LIMITS;
+        return Told::alone(BAD_LIMITS);
     };
     if let Some(_) = tree.shared() {
-        return OPEN;
+        return Told::alone(OPEN);
     }
-    let Some(shared) = shared_of(alloc, limits) else {
-        return NO_MEMORY;
+    let Some((shared, note)) = shared_of(alloc, limits) else {
+        return Told::alone(NO_MEMORY);
     };
     *tree = TreeHandle::of(shared);
-    OK
+    Told::of(OK, note)
 }
 
 /// Empties the handle of a tree that is closed and of which no pairs wait: it is then as one that was never opened.
@@ -108,36 +134,51 @@ impl TreeHandle {
         ensures open { result.status ≡ OPEN → IsInUse self.now.kept.value since result.receipt }
     {
         let Some(shared) = self.shared() else {
-            return Told::alone(OK);
+            return Told::refused(OK, since);
         };
-        let (_, mut note) = looked(&shared.log.shared);
-        observed(&shared.log.shared, &mut note, shared.seen_by(since));
-        let stage = recalled(&shared.log.shared, &mut note);
+        shared.stage(since)
+    }
+}
+
+impl Shared {
+    /// Whether the handle is vacant. Unless the log is open to all, nothing can be written but as the caller's author.
+    fn stage(&self, since: Receipt) -> Told
+        ensures told { (result.status ≡ OK) ⊎ (result.status ≡ OPEN) }
+        ensures vacant { result.status ≡ OK → IsVacant (Some self.now) since result.receipt }
+        ensures open { result.status ≡ OPEN → IsInUse (Some self.now) since result.receipt }
+    {
+        let (_, mut note) = looked(&self.log.shared);
+        observed(&self.log.shared, &mut note, self.seen_by(since));
+        let stage = recalled(&self.log.shared, &mut note);
         Told::of(if stage == 2 { OK } else { OPEN }, note)
     }
 }
 
-/// A new tree, with its seats in their slots.
-fn shared_of(alloc: Global, limits: Limits) -> Option<Box<Shared>>
-    ensures { IfSome result (λ shared. IsOpenedAt limits shared.value.log.shared.key.items) }
+/// A new tree, with its seats in their slots, and what has all authors.
+fn shared_of(alloc: Global, limits: Limits) -> Option<(Box<Shared>, SeatHand)>
+    ensures opened { IfSome result (λ made. IsOpenedAt limits made.0.value.log.shared.key.items) }
+    ensures open { IfSome result (λ made. kind_of made.0.value ≡ Some Open) }
+    ensures authors { IfSome result (λ made. IsFirstNote made.0.value made.1) }
 {
     let Ok((tree, seats)) = opened(alloc, limits) else {
         return None;
     };
-    let shared = shared_with_seats(alloc, limits, tree, seats)?;
-    Some(shared)
+    let made = shared_with_seats(alloc, limits, tree, seats)?;
+    Some(made)
 }
 
-/// What is shared of a tree with these seats, if there is memory for it.
+/// What is shared of a tree with these seats, and what has all authors of its log, if there is memory for it.
 pub(crate) fn shared_with_seats(
     alloc: Global,
     limits: Limits,
     tree: Tree,
     seats: Vec<BwSeat>,
-) -> Option<Box<Shared>>
+) -> Option<(Box<Shared>, SeatHand)>
     requires own { AreSeatsOf tree seats.items }
     requires one { HaveOneTree limits seats.items }
-    ensures { IfSome result (λ shared. shared.value.log.shared.key.items ≡ seats.items) }
+    ensures items { IfSome result (λ made. made.0.value.log.shared.key.items ≡ seats.items) }
+    ensures open { IfSome result (λ made. kind_of made.0.value ≡ Some Open) }
+    ensures authors { IfSome result (λ made. IsFirstNote made.0.value made.1) }
 {
     let Ok(tree) = Arc::new(alloc, tree) else {
         return None;
@@ -145,13 +186,14 @@ pub(crate) fn shared_with_seats(
     let (log, mut hand) = call_log::opened(alloc, &seats)?;
     let left = nothing_left(&hand);
     let slots = slots_of(alloc, &log, &mut hand, &tree, seats)?;
+    let note = copied(&log.shared, &mut hand);
     match Box::new(alloc, Shared::of(limits, log, slots, left)) {
-        Ok(shared) => Some(shared),
+        Ok(shared) => Some((shared, note)),
         Err(_) => None,
     }
 }
 
-/// A slot for each seat, in order.
+/// A slot for each seat, in order. The hand keeps all authors.
 fn slots_of(
     alloc: Global,
     log: &SeatLog,
@@ -162,9 +204,10 @@ fn slots_of(
     requires own { AreSeatsOf (arc_value tree.now) seats.items }
     requires word { 0 < log.now.shared.table_id.words }
     requires table { hand.old.table_id ≡ log.now.shared.table_id }
-    requires hand { hand.old.me ≡ (all_of seats.items, []) }
+    requires hand { hand.old.me ≡ (all_of Open seats.items, []) }
     ensures count { IfSome result (λ slots. length slots.items ≡ length seats.items) }
-    ensures own { IfSome result (λ slots. AreSlotsOf log.now.shared.table_id seats.items slots.items) }
+    ensures own { IfSome result (λ slots. AreSlotsOf log.now.shared.table_id seats.items (Some Open) slots.items) }
+    ensures rest { IfSome result (λ _. HasAllAuthors log.now.shared.table_id seats.items hand.new) }
 {
     let mut slots = Vec::with_capacity(alloc, seats.len()).ok()?;
     for seat in seats {

@@ -1,13 +1,15 @@
 //! Pages of either direction, and operations that go on.
-ghost use Rattle.std.specs.Prelude.{◌≡◌, ◌<◌, ◌≤◌, length};
+ghost use Rattle.std.specs.Prelude.{◌≡◌, ◌<◌, ◌≤◌, Some, length};
 ghost use Rattle.bw_model.specs.declared.command.Command.TheVariants as command;
 ghost use Rattle.bw_model.specs.declared.short_bytes.TheConstants.{MAX_LENGTH};
 ghost use Rattle.bw_tree_c.specs.Calls.{ComesOn, ComesToPage};
+ghost use Rattle.bw_tree_c.specs.Handles.{MayCall};
 
-use crate::answers::TOO_LONG;
+use crate::answers::{CLOSED, TOO_LONG};
 use crate::bytes::{Bytes, Page};
-use crate::handle::{Taken, TreeHandle};
+use crate::handle::{Taken, TreeHandle, take_in};
 use crate::receipt::{Receipt, Told};
+use crate::shared::Shared;
 use crate::slot::finish;
 use bw_model::{Command, Key};
 
@@ -16,17 +18,50 @@ impl TreeHandle {
     fn page(&self, seat: u32, command: Command, page: &mut Page, since: Receipt) -> Told
         ensures { ComesToPage self.now.kept.value seat command since result page.old page.new }
     {
-        let Taken {
-            shared,
-            slot,
-            mut place,
-        } = match self.take(seat) {
-            Ok(taken) => taken,
-            Err(refusal) => return Told::alone(refusal.status()),
-        };
-        let status = place.page(command, page);
-        finish(shared, slot, place, status, since)
+        match self.shared() {
+            Some(shared) => page_in(shared, seat, command, page, since),
+            None => Told::refused(CLOSED, since),
+        }
     }
+}
+
+/// Runs a command whose reply is a page on a seat of a handle.
+fn page_in(
+    shared: &'static Shared,
+    seat: u32,
+    command: Command,
+    page: &mut Page,
+    since: Receipt,
+) -> Told
+    requires { MayCall shared.now since }
+    ensures { ComesToPage (Some shared.now) seat command since result page.old page.new }
+{
+    let Taken { slot, mut place } = match take_in(shared, seat) {
+        Ok(taken) => taken,
+        Err(refusal) => return Told::refused(refusal.status(), since),
+    };
+    let status = place.page(command, page);
+    finish(shared, slot, place, status, since)
+}
+
+/// Goes on with the unfinished operation of a seat of a handle.
+fn resume_in(
+    shared: &'static Shared,
+    seat: u32,
+    budget: u32,
+    old: &mut Bytes,
+    page: &mut Page,
+    since: Receipt,
+) -> Told
+    requires { MayCall shared.now since }
+    ensures { ComesOn (Some shared.now) seat budget since result old.old old.new page.old page.new }
+{
+    let Taken { slot, mut place } = match take_in(shared, seat) {
+        Ok(taken) => taken,
+        Err(refusal) => return Told::refused(refusal.status(), since),
+    };
+    let status = place.resume(budget, old, page);
+    finish(shared, slot, place, status, since)
 }
 
 /// The pairs of the leaf that has the key, from the key on.
@@ -38,11 +73,11 @@ pub extern "C" fn bwtree_raw_page(
     page: &mut Page,
     since: Receipt,
 ) -> Told
-    ensures long { MAX_LENGTH < length from.now → (result.status ≡ TOO_LONG) × (page.new ≡ page.old) }
+    ensures long { MAX_LENGTH < length from.now → (result.status ≡ TOO_LONG) × (page.new ≡ page.old) × (result.receipt ≡ since) }
     ensures called { length from.now ≤ MAX_LENGTH → ComesToPage tree.now.kept.value seat (command.Page from.now) since result page.old page.new }
 {
     let Ok(from) = Key::from_slice(from) else {
-        return Told::alone(TOO_LONG);
+        return Told::refused(TOO_LONG, since);
     };
     tree.page(seat, Command::Page(from), page, since)
 }
@@ -56,11 +91,11 @@ pub extern "C" fn bwtree_raw_back(
     page: &mut Page,
     since: Receipt,
 ) -> Told
-    ensures long { MAX_LENGTH < length upto.now → (result.status ≡ TOO_LONG) × (page.new ≡ page.old) }
+    ensures long { MAX_LENGTH < length upto.now → (result.status ≡ TOO_LONG) × (page.new ≡ page.old) × (result.receipt ≡ since) }
     ensures called { length upto.now ≤ MAX_LENGTH → ComesToPage tree.now.kept.value seat (command.Back upto.now) since result page.old page.new }
 {
     let Ok(upto) = Key::from_slice(upto) else {
-        return Told::alone(TOO_LONG);
+        return Told::refused(TOO_LONG, since);
     };
     tree.page(seat, Command::Back(upto), page, since)
 }
@@ -77,14 +112,8 @@ pub extern "C" fn bwtree_raw_resume(
 ) -> Told
     ensures { ComesOn tree.now.kept.value seat budget since result old.old old.new page.old page.new }
 {
-    let Taken {
-        shared,
-        slot,
-        mut place,
-    } = match tree.take(seat) {
-        Ok(taken) => taken,
-        Err(refusal) => return Told::alone(refusal.status()),
-    };
-    let status = place.resume(budget, old, page);
-    finish(shared, slot, place, status, since)
+    match tree.shared() {
+        Some(shared) => resume_in(shared, seat, budget, old, page, since),
+        None => Told::refused(CLOSED, since),
+    }
 }

@@ -87,6 +87,17 @@ impl Told {
         }
     }
 
+    /// The status of a call that did nothing, and the caller's own receipt.
+    pub(crate) fn refused(status: u32, since: Receipt) -> Told
+        ensures status { result.status ≡ status }
+        ensures back { result.receipt ≡ since }
+    {
+        Told {
+            status,
+            receipt: since,
+        }
+    }
+
     /// A status, and a receipt of what the hand has seen.
     pub(crate) fn of(status: u32, hand: SeatHand) -> Told
         requires empty { hand.me.1 ≡ [] }

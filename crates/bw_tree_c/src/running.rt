@@ -1,5 +1,5 @@
 //! What runs on the seat that a call has.
-ghost use Rattle.std.specs.Prelude.{◌≡◌, []};
+ghost use Rattle.std.specs.Prelude.{◌≡◌, ◌≤◌, []};
 ghost use Rattle.bw_model.specs.declared.command.Command.TheVariants as command;
 ghost use Rattle.bw_tree_c.specs.Places.{CanWriteSeat, IsWritten};
 ghost use Rattle.bw_tree_c.specs.Running.{IsRunToValue, IsRunFurther, IsRunToPage, IsTidied, IsWatched, TellsIdle};
@@ -15,13 +15,14 @@ use call_log::written;
 use seats::{BUDGET, called_in, resumed_in};
 
 impl Place {
-    /// Runs a command, if the seat is idle.
-    pub(crate) fn run(&mut self, command: Command, old: &mut Bytes) -> u32
+    /// Runs a command for at most so many steps, if the seat is idle.
+    pub(crate) fn run(&mut self, command: Command, budget: u32, old: &mut Bytes) -> u32
+        requires some { 1 ≤ budget }
         ensures later { IsLater self.old.seat self.new.seat }
         ensures hand { self.new.hand ≡ self.old.hand }
-        ensures run { IsRunToValue self.old.seat command result old.old old.new self.new.seat }
+        ensures run { IsRunToValue self.old.seat command budget result old.old old.new self.new.seat }
     {
-        match called_in(&self.tree, &mut self.seat, command, BUDGET, &mut self.reply) {
+        match called_in(&self.tree, &mut self.seat, command, budget, &mut self.reply) {
             Some(done) => tell_value(done, &self.reply, old),
             None => UNFINISHED,
         }
@@ -81,10 +82,10 @@ impl Place {
 
     /// Writes into the log of the handle what a call made of the seat, behind what a hand has seen, and gives what has seen that.
     pub(crate) fn write(&mut self, shared: &Shared, since: SeatHand) -> SeatHand
-        requires can { CanWriteSeat shared.now self.old }
+        requires can { CanWriteSeat shared.now self.old since }
         requires since { (since.table_id ≡ shared.now.log.shared.table_id) × (since.me.1 ≡ []) }
         ensures seat { self.new.seat ≡ self.old.seat }
-        ensures written { IsWritten shared.now since.me.0.logs self.old self.new result }
+        ensures written { IsWritten shared.now since self.old self.new result }
     {
         written(&shared.log.shared, &mut self.hand, since, &self.seat)
     }

@@ -9,16 +9,15 @@ use crate::answers::{
 use crate::asking::{bwtree_raw_is_idle, bwtree_raw_room};
 use crate::bytes::{Bytes, FreeRoom, Page, Pair, TreeLimits};
 use crate::calls::{
-    bwtree_raw_add, bwtree_raw_delete, bwtree_raw_delete_if, bwtree_raw_get, bwtree_raw_insert,
-    bwtree_raw_swap, bwtree_raw_tidy, bwtree_raw_upsert,
+    bwtree_raw_add, bwtree_raw_delete, bwtree_raw_delete_if, bwtree_raw_get, bwtree_raw_get_within,
+    bwtree_raw_insert, bwtree_raw_swap, bwtree_raw_tidy, bwtree_raw_upsert,
+    bwtree_raw_upsert_within,
 };
 use crate::closing::bwtree_raw_close;
 use crate::handing::bwtree_raw_close_pairs;
-use crate::handle::{Taken, TreeHandle};
+use crate::handle::{Taken, TreeHandle, take_in};
 use crate::loading::bwtree_raw_open_from;
-use crate::opening::{
-    bwtree_raw_limits_for_keys, bwtree_raw_limits_for_many_keys, bwtree_raw_open, bwtree_raw_vacate,
-};
+use crate::opening::{bwtree_raw_limits_for_keys, bwtree_raw_open, bwtree_raw_vacate};
 use crate::pages::{bwtree_raw_back, bwtree_raw_page, bwtree_raw_resume};
 use crate::place::Place;
 use crate::receipt::Receipt;
@@ -27,6 +26,8 @@ use bw_model::{Command, Key};
 use seats::called;
 use std::alloc::Global;
 use std::test::Fail;
+
+mod limits;
 
 /// A receipt of nothing.
 fn nothing() -> Receipt {
@@ -92,6 +93,10 @@ fn no_limits() -> TreeLimits {
         rows: 0,
         epoch: 0,
         large: 0,
+        narrow_rows: 0,
+        wide_from: 0,
+        narrow_words: 0,
+        page_words: 0,
     }
 }
 
@@ -100,7 +105,7 @@ fn two_seats(alloc: Global) -> TreeHandle {
     let mut tree = TreeHandle::unopened();
     let mut limits = no_limits();
     bwtree_raw_limits_for_keys(2, 100, &mut limits);
-    bwtree_raw_open(alloc, &limits, &mut tree);
+    bwtree_raw_open(alloc, &limits, &mut tree).status;
     tree
 }
 
@@ -111,45 +116,41 @@ fn told_of_handles(alloc: Global) -> [u32; 14] {
     let mut old = no_bytes();
     [
         bwtree_raw_get(&tree, 0, b"a", &mut old, nothing()).status,
-        bwtree_raw_open(alloc, &limits, &mut tree),
+        bwtree_raw_open(alloc, &limits, &mut tree).status,
         bwtree_raw_limits_for_keys(17, 100, &mut limits),
         bwtree_raw_limits_for_keys(2, 100, &mut limits),
-        bwtree_raw_open(alloc, &limits, &mut tree),
-        bwtree_raw_open(alloc, &limits, &mut tree),
+        bwtree_raw_open(alloc, &limits, &mut tree).status,
+        bwtree_raw_open(alloc, &limits, &mut tree).status,
         bwtree_raw_vacate(&mut tree, nothing()).status,
         bwtree_raw_close(&tree, nothing()).status,
         bwtree_raw_close(&tree, nothing()).status,
         bwtree_raw_get(&tree, 0, b"a", &mut old, nothing()).status,
-        bwtree_raw_open(alloc, &limits, &mut tree),
+        bwtree_raw_open(alloc, &limits, &mut tree).status,
         bwtree_raw_vacate(&mut tree, nothing()).status,
         bwtree_raw_vacate(&mut tree, nothing()).status,
-        bwtree_raw_open(alloc, &limits, &mut tree),
+        bwtree_raw_open(alloc, &limits, &mut tree).status,
     ]
 }
 
-/// What openings of large trees answer, and of limits of neither kind.
-fn told_of_large(alloc: Global) -> [u32; 7] {
-    let mut tree = TreeHandle::unopened();
-    let mut limits = no_limits();
+/// What calls in few steps answer: with none nothing is begun, and one doesn't suffice.
+fn told_within(alloc: Global) -> [u32; 6] {
+    let tree = two_seats(alloc);
     let mut old = no_bytes();
-    let told = [
-        bwtree_raw_limits_for_many_keys(64, 100, &mut limits),
-        bwtree_raw_limits_for_many_keys(63, 100, &mut limits),
-        bwtree_raw_open(alloc, &limits, &mut tree),
-        bwtree_raw_get(&tree, 62, b"a", &mut old, nothing()).status,
-        bwtree_raw_get(&tree, 63, b"a", &mut old, nothing()).status,
-        bwtree_raw_close(&tree, nothing()).status,
-    ];
-    limits.large = 2;
-    let [first, second, third, fourth, fifth, sixth] = told;
-    let last = bwtree_raw_open(alloc, &limits, &mut tree);
-    [first, second, third, fourth, fifth, sixth, last]
+    let mut page = no_page();
+    [
+        bwtree_raw_upsert_within(&tree, 0, 0, b"a", b"x", &mut old, nothing()).status,
+        bwtree_raw_is_idle(&tree, 0, nothing()).status,
+        bwtree_raw_upsert_within(&tree, 0, 1, b"a", b"x", &mut old, nothing()).status,
+        bwtree_raw_get_within(&tree, 0, 9, b"a", &mut old, nothing()).status,
+        bwtree_raw_resume(&tree, 0, 65536, &mut old, &mut page, nothing()).status,
+        bwtree_raw_get_within(&tree, 0, 1000, b"a", &mut old, nothing()).status,
+    ]
 }
 
 #[test]
-fn large_trees_are_opened(rt: HostRuntime) {
-    let wanted = [BAD_LIMITS, OK, OK, ABSENT, NO_SEAT, OK, BAD_LIMITS];
-    assert!(rt; told_of_large(rt.alloc()) == wanted);
+fn calls_take_so_many_steps(rt: HostRuntime) {
+    let wanted = [SPENT, OK, SPENT, UNFINISHED, OK, OK];
+    assert!(rt; told_within(rt.alloc()) == wanted);
 }
 
 #[test]
@@ -260,11 +261,10 @@ fn resumes_a_page(tree: &TreeHandle) -> Option<bool> {
     let mut old = no_bytes();
     let mut page = no_page();
     let set = bwtree_raw_upsert(tree, 1, b"", b"x", &mut old, nothing()).status;
-    let Taken {
-        shared,
-        slot,
-        mut place,
-    } = match tree.take(0) {
+    let Some(shared) = tree.shared() else {
+        return None;
+    };
+    let Taken { slot, mut place } = match take_in(shared, 0) {
         Ok(taken) => taken,
         Err(_) => return None,
     };
@@ -334,15 +334,15 @@ fn told_of_loads(alloc: Global) -> [u32; 8] {
     long.value.length = 65;
     let pairs = [short_pair(b'a', b'x'), short_pair(b'b', b'y'), long];
     let turned = [short_pair(b'b', b'y'), short_pair(b'a', b'x')];
-    let bad = bwtree_raw_open_from(alloc, &limits, &pairs, &mut tree);
+    let bad = bwtree_raw_open_from(alloc, &limits, &pairs, &mut tree).status;
     let told = bwtree_raw_limits_for_keys(2, 10, &mut limits);
     [
         bad,
         told,
-        bwtree_raw_open_from(alloc, &limits, &pairs, &mut tree),
-        bwtree_raw_open_from(alloc, &limits, &turned, &mut tree),
-        bwtree_raw_open_from(alloc, &limits, &pairs[..2], &mut tree),
-        bwtree_raw_open_from(alloc, &limits, &pairs[..1], &mut tree),
+        bwtree_raw_open_from(alloc, &limits, &pairs, &mut tree).status,
+        bwtree_raw_open_from(alloc, &limits, &turned, &mut tree).status,
+        bwtree_raw_open_from(alloc, &limits, &pairs[..2], &mut tree).status,
+        bwtree_raw_open_from(alloc, &limits, &pairs[..1], &mut tree).status,
         bwtree_raw_get(&tree, 1, b"b", &mut old, nothing()).status,
         bwtree_raw_insert(&tree, 0, b"a", b"z", &mut old, nothing()).status,
     ]
@@ -415,11 +415,10 @@ fn told_of_seats(alloc: Global, tree: &TreeHandle) -> Option<[u32; 13]> {
     let mut old = no_bytes();
     let mut page = no_page();
     let mut count = 0;
-    let Taken {
-        shared,
-        slot,
-        mut place,
-    } = match tree.take(0) {
+    let Some(shared) = tree.shared() else {
+        return None;
+    };
+    let Taken { slot, mut place } = match take_in(shared, 0) {
         Ok(taken) => taken,
         Err(_) => return None,
     };

@@ -2,7 +2,7 @@
 use Rattle.std.proofs.Common.{◌≡◌, ◌⊎◌, ℕ, List, Bool, Option}
 use Rattle.tree_limits.specs.declared.limits.Limits.{Limits}
 use Rattle.shell_options.specs.declared.words.Program.{Program}
-use Rattle.shell_options.specs.declared.words.Program.TheVariants.{Script, Weave, Draw, Race}
+use Rattle.shell_options.specs.declared.words.Program.TheVariants.{Script, Weave, Draw, Film, Race}
 use Rattle.bwtree.specs.Runs.{IsProgramRun}
 
 -- Each program ends with 0 or 1.
@@ -12,4 +12,5 @@ pub ends_with_0_or_1 : (program : Program) → (limits : Limits) → (in_old in_
 ends_with_0_or_1 Script _ _ _ _ _ _ _ _ run = run.status_else
 ends_with_0_or_1 Weave _ _ _ _ _ _ _ _ run = run.status_else
 ends_with_0_or_1 Draw _ _ _ _ _ _ _ _ run = run.status_else
+ends_with_0_or_1 Film _ _ _ _ _ _ _ _ run = run.status_else
 ends_with_0_or_1 Race _ _ _ _ _ _ _ _ run = run.status_else

@@ -3,10 +3,11 @@ use Rattle.std.specs.Prelude.{◌≡◌, ℕ, List, Bool, Option}
 use Rattle.tree_limits.specs.declared.limits.Limits.{Limits}
 use Rattle.shell_lines.specs.declared.request.Language.TheVariants as language
 use Rattle.shell_options.specs.declared.words.Program.{Program}
-use Rattle.shell_options.specs.declared.words.Program.TheVariants.{Script, Weave, Draw, Race}
+use Rattle.shell_options.specs.declared.words.Program.TheVariants.{Script, Weave, Draw, Film, Race}
 use Rattle.shell_options.specs.declared.words.Settings.{Settings}
 use Rattle.bw_shell.specs.Weave.{IsWholeRun}
 use Rattle.drawing.specs.Drawings.{IsWholeDrawing}
+use Rattle.filming.specs.Films.{IsWholeFilm}
 use Rattle.race.specs.Race.{IsRace}
 
 -- What a program does: what it takes from its input, what it writes for it, and its status.
@@ -14,6 +15,7 @@ abbrev pub IsProgramRun : Program → Limits → Option (List ℕ) → Option (L
 IsProgramRun Script = IsWholeRun language.Script
 IsProgramRun Weave = IsWholeRun language.Weave
 IsProgramRun Draw = IsWholeDrawing
+IsProgramRun Film = IsWholeFilm
 IsProgramRun Race = IsRace
 
 -- The program that the settings name ran so, on a tree of exactly their limits.

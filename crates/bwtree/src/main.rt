@@ -4,7 +4,7 @@
 //! output. `main` hands it standard input and standard output, which is seen by reading, by a stored run and by checks/statuses.
 //!
 //! Called by who starts it, and by the script `./bwtree`, which builds it first. It chooses what to run, and runs nothing itself: that is
-//! `bw_shell`, `drawing` or `race`.
+//! `bw_shell`, `drawing`, `filming` or `race`.
 #![tactic(auto)]
 
 mod command_line;

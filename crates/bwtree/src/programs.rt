@@ -1,4 +1,4 @@
-//! The four programs, over any input and output.
+//! The five programs, over any input and output.
 
 ghost use Rattle.std.specs.Prelude.{◌≡◌, ◌≤◌, ◌^◌, ◌↔◌, [], IfSome, IsSome, None, false};
 ghost use Rattle.shell_options.specs.Words.{MayOpen};
@@ -8,6 +8,7 @@ use bw_model::Limits;
 use bw_shell::{script, weave};
 use byte_streams::{Input, Output};
 use drawing::draw;
+use filming::film;
 use race::race;
 use shell_options::{Program, Settings};
 use std::alloc::Global;
@@ -60,6 +61,7 @@ fn run_over<R: Threads + Wait + Sync, I: Input, O: Output>(
         Program::Script => script(alloc, limits, input, out),
         Program::Weave => weave(alloc, limits, input, out),
         Program::Draw => draw(alloc, limits, input, out),
+        Program::Film => film(alloc, limits, input, out),
         Program::Race => race(threads, alloc, limits, input, out),
     }
 }

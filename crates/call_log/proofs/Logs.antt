@@ -1,11 +1,13 @@
 -- Events that are added to a log.
-use Rattle.std.proofs.Common.{◌≡◌, ◌≢◌, ◌<◌, ◌++◌, ◌∷◌, ◌∙◌, ℕ, zero, suc, List, [], Some, ap, append-nil, arith, inl, inr, length, refl, sym}
-use Rattle.std.specs.Prelude.{slice_get, slice_set}
+use Rattle.std.proofs.Common.{◌≡◌, ◌≢◌, ◌<◌, ◌++◌, ◌∷◌, ◌∙◌, ℕ, zero, suc, Bool, List, [], None, Option, Some, ap, append-nil, arith, false, inl, inr, length, ne_eqb, refl, sym, true}
+use Rattle.std.specs.Prelude.{if◌then◌else◌, slice_get, slice_set}
 use Rattle.std.proofs.lemmas.Option.{same_Some}
 use Rattle.call_log.specs.declared.log.Event.{Event}
 use Rattle.call_log.specs.declared.log.Event.TheVariants.{Called, Closed, Emptied}
+use Rattle.call_log.specs.declared.log.Kind.{Kind}
+use Rattle.call_log.specs.declared.log.Kind.TheVariants.{Open, Signed}
 use Rattle.call_log.specs.declared.log.Known.{Known}
-use Rattle.call_log.specs.Logs.{BeganAs, IsLog, seats_after, stage_of}
+use Rattle.call_log.specs.Logs.{AreSigned, BeganAs, IsLog, IsOfKind, IsSigned, author_of, by, is_by, seats_after, stage_of}
 use Rattle.call_log.specs.Rule.{ExtendsAll}
 
 module _ {X : Type 0} where
@@ -50,68 +52,68 @@ module _ {X : Type 0} where
 
   pub after_length : (seats : List X) (log : List (Event X)) → length (seats_after seats log) ≡ length seats
   after_length seats [] = refl
-  after_length seats (Called n b a ∷ log) = after_length (slice_set seats n a) log ∙ set_length seats n a
-  after_length seats (Closed ∷ log) = refl
-  after_length seats (Emptied ∷ log) = refl
+  after_length seats (Called u n b a ∷ log) = after_length (slice_set seats n a) log ∙ set_length seats n a
+  after_length seats (Closed u ∷ log) = refl
+  after_length seats (Emptied u ∷ log) = refl
 
   module _ (goes_on : X → X → Type 0) where
-    pub called_on : (seats : List X) (log : List (Event X)) (n : ℕ) (b a : X) → IsLog goes_on seats log → stage_of log ≡ 0 → slice_get (seats_after seats log) n ≡ Some b
-        → goes_on b a → IsLog goes_on seats (log ++ Called n b a ∷ [])
-    called_on seats [] n b a l s at g = (at, g, tt)
-    called_on seats (Called m c d ∷ log) n b a l s at g = (l.0, l.1, called_on (slice_set seats m d) log n b a l.2 s at g)
-    called_on seats (Closed ∷ log) n b a l s at g = absurd (omega (arith, s))
-    called_on seats (Emptied ∷ log) n b a l s at g = absurd (omega (arith, s))
+    pub called_on : (seats : List X) (log : List (Event X)) (w : Option ℕ) (n : ℕ) (b a : X) → IsLog goes_on seats log → stage_of log ≡ 0 → slice_get (seats_after seats log) n ≡ Some b
+        → goes_on b a → IsLog goes_on seats (log ++ Called w n b a ∷ [])
+    called_on seats [] w n b a l s at g = (at, g, tt)
+    called_on seats (Called u m c d ∷ log) w n b a l s at g = (l.0, l.1, called_on (slice_set seats m d) log w n b a l.2 s at g)
+    called_on seats (Closed u ∷ log) w n b a l s at g = absurd (omega (arith, s))
+    called_on seats (Emptied u ∷ log) w n b a l s at g = absurd (omega (arith, s))
 
-    pub closed_on : (seats : List X) (log : List (Event X)) → IsLog goes_on seats log → stage_of log < 1 → IsLog goes_on seats (log ++ Closed ∷ [])
-    closed_on seats [] l s = inl refl
-    closed_on seats (Called m c d ∷ log) l s = (l.0, l.1, closed_on (slice_set seats m d) log l.2 s)
-    closed_on seats (Closed ∷ log) l s = absurd (omega (arith, s))
-    closed_on seats (Emptied ∷ log) l s = absurd (omega (arith, s))
+    pub closed_on : (w : Option ℕ) (seats : List X) (log : List (Event X)) → IsLog goes_on seats log → stage_of log < 1 → IsLog goes_on seats (log ++ Closed w ∷ [])
+    closed_on w seats [] l s = inl refl
+    closed_on w seats (Called u m c d ∷ log) l s = (l.0, l.1, closed_on w (slice_set seats m d) log l.2 s)
+    closed_on w seats (Closed u ∷ log) l s = absurd (omega (arith, s))
+    closed_on w seats (Emptied u ∷ log) l s = absurd (omega (arith, s))
 
-    pub emptied_on : (seats : List X) (log : List (Event X)) → IsLog goes_on seats log → stage_of log < 2 → IsLog goes_on seats (log ++ Emptied ∷ [])
-    emptied_on seats [] l s = refl
-    emptied_on seats (Called m c d ∷ log) l s = (l.0, l.1, emptied_on (slice_set seats m d) log l.2 s)
-    emptied_on seats (Closed ∷ []) l s = inr refl
-    emptied_on seats (Closed ∷ event ∷ log) l s = absurd (omega (arith, s))
-    emptied_on seats (Emptied ∷ log) l s = absurd (omega (arith, s))
+    pub emptied_on : (w : Option ℕ) (seats : List X) (log : List (Event X)) → IsLog goes_on seats log → stage_of log < 2 → IsLog goes_on seats (log ++ Emptied w ∷ [])
+    emptied_on w seats [] l s = refl
+    emptied_on w seats (Called u m c d ∷ log) l s = (l.0, l.1, emptied_on w (slice_set seats m d) log l.2 s)
+    emptied_on w seats (Closed u ∷ []) l s = inr (w, refl)
+    emptied_on w seats (Closed u ∷ event ∷ log) l s = absurd (omega (arith, s))
+    emptied_on w seats (Emptied u ∷ log) l s = absurd (omega (arith, s))
 
-  pub called_stage : (log : List (Event X)) (n : ℕ) (b a : X) → stage_of log ≡ 0 → stage_of (log ++ Called n b a ∷ []) ≡ stage_of log
-  called_stage [] n b a s = refl
-  called_stage (Called m c d ∷ log) n b a s = called_stage log n b a s
-  called_stage (Closed ∷ log) n b a s = absurd (omega (arith, s))
-  called_stage (Emptied ∷ log) n b a s = absurd (omega (arith, s))
+  pub called_stage : (log : List (Event X)) (w : Option ℕ) (n : ℕ) (b a : X) → stage_of log ≡ 0 → stage_of (log ++ Called w n b a ∷ []) ≡ stage_of log
+  called_stage [] w n b a s = refl
+  called_stage (Called u m c d ∷ log) w n b a s = called_stage log w n b a s
+  called_stage (Closed u ∷ log) w n b a s = absurd (omega (arith, s))
+  called_stage (Emptied u ∷ log) w n b a s = absurd (omega (arith, s))
 
-  pub called_after : (seats : List X) (log : List (Event X)) (n : ℕ) (b a : X) → stage_of log ≡ 0
-      → seats_after seats (log ++ Called n b a ∷ []) ≡ slice_set (seats_after seats log) n a
-  called_after seats [] n b a s = refl
-  called_after seats (Called m c d ∷ log) n b a s = called_after (slice_set seats m d) log n b a s
-  called_after seats (Closed ∷ log) n b a s = absurd (omega (arith, s))
-  called_after seats (Emptied ∷ log) n b a s = absurd (omega (arith, s))
+  pub called_after : (seats : List X) (log : List (Event X)) (w : Option ℕ) (n : ℕ) (b a : X) → stage_of log ≡ 0
+      → seats_after seats (log ++ Called w n b a ∷ []) ≡ slice_set (seats_after seats log) n a
+  called_after seats [] w n b a s = refl
+  called_after seats (Called u m c d ∷ log) w n b a s = called_after (slice_set seats m d) log w n b a s
+  called_after seats (Closed u ∷ log) w n b a s = absurd (omega (arith, s))
+  called_after seats (Emptied u ∷ log) w n b a s = absurd (omega (arith, s))
 
-  pub closed_stage : (log : List (Event X)) → stage_of log < 1 → stage_of (log ++ Closed ∷ []) ≡ 1
-  closed_stage [] s = refl
-  closed_stage (Called m c d ∷ log) s = closed_stage log s
-  closed_stage (Closed ∷ log) s = absurd (omega (arith, s))
-  closed_stage (Emptied ∷ log) s = absurd (omega (arith, s))
+  pub closed_stage : (w : Option ℕ) (log : List (Event X)) → stage_of log < 1 → stage_of (log ++ Closed w ∷ []) ≡ 1
+  closed_stage w [] s = refl
+  closed_stage w (Called u m c d ∷ log) s = closed_stage w log s
+  closed_stage w (Closed u ∷ log) s = absurd (omega (arith, s))
+  closed_stage w (Emptied u ∷ log) s = absurd (omega (arith, s))
 
-  pub closed_after : (seats : List X) (log : List (Event X)) → stage_of log < 1 → seats_after seats (log ++ Closed ∷ []) ≡ seats_after seats log
-  closed_after seats [] s = refl
-  closed_after seats (Called m c d ∷ log) s = closed_after (slice_set seats m d) log s
-  closed_after seats (Closed ∷ log) s = refl
-  closed_after seats (Emptied ∷ log) s = refl
+  pub closed_after : (w : Option ℕ) (seats : List X) (log : List (Event X)) → stage_of log < 1 → seats_after seats (log ++ Closed w ∷ []) ≡ seats_after seats log
+  closed_after w seats [] s = refl
+  closed_after w seats (Called u m c d ∷ log) s = closed_after w (slice_set seats m d) log s
+  closed_after w seats (Closed u ∷ log) s = refl
+  closed_after w seats (Emptied u ∷ log) s = refl
 
-  pub emptied_stage : (log : List (Event X)) → stage_of log < 2 → stage_of (log ++ Emptied ∷ []) ≡ 2
-  emptied_stage [] s = refl
-  emptied_stage (Called m c d ∷ log) s = emptied_stage log s
-  emptied_stage (Closed ∷ []) s = refl
-  emptied_stage (Closed ∷ event ∷ log) s = absurd (omega (arith, s))
-  emptied_stage (Emptied ∷ log) s = refl
+  pub emptied_stage : (w : Option ℕ) (log : List (Event X)) → stage_of log < 2 → stage_of (log ++ Emptied w ∷ []) ≡ 2
+  emptied_stage w [] s = refl
+  emptied_stage w (Called u m c d ∷ log) s = emptied_stage w log s
+  emptied_stage w (Closed u ∷ []) s = refl
+  emptied_stage w (Closed u ∷ event ∷ log) s = absurd (omega (arith, s))
+  emptied_stage w (Emptied u ∷ log) s = refl
 
-  pub emptied_after : (seats : List X) (log : List (Event X)) → stage_of log < 2 → seats_after seats (log ++ Emptied ∷ []) ≡ seats_after seats log
-  emptied_after seats [] s = refl
-  emptied_after seats (Called m c d ∷ log) s = emptied_after (slice_set seats m d) log s
-  emptied_after seats (Closed ∷ log) s = refl
-  emptied_after seats (Emptied ∷ log) s = refl
+  pub emptied_after : (w : Option ℕ) (seats : List X) (log : List (Event X)) → stage_of log < 2 → seats_after seats (log ++ Emptied w ∷ []) ≡ seats_after seats log
+  emptied_after w seats [] s = refl
+  emptied_after w seats (Called u m c d ∷ log) s = emptied_after w (slice_set seats m d) log s
+  emptied_after w seats (Closed u ∷ log) s = refl
+  emptied_after w seats (Emptied u ∷ log) s = refl
 
 -- what began so still did
 pub began_self : {X : Type 0} (log : List (Event X)) → BeganAs log log
@@ -131,3 +133,31 @@ all_both opened log (it ∷ some) others t u = (t.0, all_both opened log some ot
 pub second_of_both : {X : Type 0} (opened : List X) (log : List (Event X)) (some others : List (Known X)) → ExtendsAll opened log (some ++ others) → ExtendsAll opened log others
 second_of_both opened log [] others t = t
 second_of_both opened log (it ∷ some) others t = second_of_both opened log some others t.1
+
+pub first_of_both : {X : Type 0} (opened : List X) (log : List (Event X)) (some others : List (Known X)) → ExtendsAll opened log (some ++ others) → ExtendsAll opened log some
+first_of_both opened log [] others t = tt
+first_of_both opened log (it ∷ some) others t = (t.0, first_of_both opened log some others t.1)
+
+-- what an author wrote in a log that others wrote on
+module _ {X : Type 0} where
+  chosen_both : (b : Bool) (event : Event X) (xs xs' ys : List (Event X)) → xs' ≡ xs ++ ys → (if b then event ∷ xs' else xs') ≡ (if b then event ∷ xs else xs) ++ ys
+  chosen_both true event xs xs' ys e = ap (λ l. event ∷ l) e
+  chosen_both false event xs xs' ys e = e
+
+  pub by_both : (author : ℕ) (xs ys : List (Event X)) → by author (xs ++ ys) ≡ by author xs ++ by author ys
+  by_both author [] ys = refl
+  by_both author (event ∷ xs) ys = chosen_both (is_by author (author_of event)) event (by author xs) (by author (xs ++ ys)) (by author ys) (by_both author xs ys)
+
+  pub not_by : (author : ℕ) (event : Event X) → is_by author (author_of event) ≡ false → by author (event ∷ []) ≡ []
+  not_by author event is = ap (λ (b : Bool). if b then event ∷ [] else []) is
+
+  pub by_others : (author : ℕ) (log : List (Event X)) (event : Event X) → is_by author (author_of event) ≡ false → by author (log ++ event ∷ []) ≡ by author log
+  by_others author log event is = by_both author log (event ∷ []) ∙ ap (λ l. by author log ++ l) (not_by author event is) ∙ append-nil (by author log)
+
+  signed_more : (log : List (Event X)) (event : Event X) → AreSigned log → IsSigned (author_of event) → AreSigned (log ++ event ∷ [])
+  signed_more [] event all is = (is, tt)
+  signed_more (e ∷ log) event all is = (all.0, signed_more log event all.1 is)
+
+  pub signed_on : (kind : Kind) (log : List (Event X)) (event : Event X) → IsOfKind kind log → IsSigned (author_of event) → IsOfKind kind (log ++ event ∷ [])
+  signed_on Open log event all is = tt
+  signed_on Signed log event all is = signed_more log event all is

@@ -6,7 +6,7 @@ use crate::rule::{Course, Hand, Log};
 use crate::steps::{called, copied, observed};
 
 /// Writes a call into the log, which found the seat that the hand has, and left another one; and gives a receipt of it. The call comes behind all that the
-/// other hand has seen.
+/// other hand has seen, and is written as its first author, if it has one; its authors are the receipt's.
 pub fn written<X, P: Course<X>>(
     log: &Log<X, P>,
     hand: &mut Hand<X>,
@@ -16,8 +16,8 @@ pub fn written<X, P: Course<X>>(
     requires word { 0 < log.now.table_id.words }
     requires since { since.table_id ≡ log.now.table_id }
     requires empty { since.me.1 ≡ [] }
-    requires can { CanWrite P.goes_on log.now.table_id log.now.key.items after.now hand.old }
-    ensures { HasWritten P.goes_on log.now.table_id log.now.key.items since.me.0.logs after.now hand.old hand.new result }
+    requires can { CanWrite P.goes_on log.now.table_id log.now.key.items after.now hand.old since }
+    ensures { HasWritten P.goes_on log.now.table_id log.now.key.items after.now hand.old since hand.new result }
 {
     observed(log, hand, since);
     called(log, hand, after);

@@ -2,14 +2,32 @@
 
 use std::collections::LinkedList;
 
-/// What was done.
+/// Who may write as whom. An author is a number, which one view has alone.
+pub enum Authors {
+    /// No author: what is written is nobody's.
+    Nobody,
+    /// One author.
+    One(u64),
+    /// All authors from this number on.
+    AllFrom(u64),
+}
+
+/// What a log requires of whoever writes into it.
+pub enum Kind {
+    /// No author.
+    Open,
+    /// An author.
+    Signed,
+}
+
+/// What was done, and by which author, if it was by one.
 pub enum Event<X> {
     /// A call had the seat of this number to itself: it found the first one, and left the second one.
-    Called(u64, X, X),
+    Called(Option<u64>, u64, X, X),
     /// All seats were taken for good, and what the tree left waits.
-    Closed,
+    Closed(Option<u64>),
     /// Nothing waits any more.
-    Emptied,
+    Emptied(Option<u64>),
 }
 
 /// A log of seats that were these when the tree was opened.
@@ -20,7 +38,7 @@ pub struct Known<X> {
     pub log: LinkedList<Event<X>>,
 }
 
-/// A view: the seats that it has, which nobody else has, and the logs that it has seen.
+/// A view: the seats and the authors that it has, which nobody else has, and the logs that it has seen.
 pub struct Knows<X> {
     /// The number of the first seat that it has.
     pub first: u64,
@@ -28,6 +46,10 @@ pub struct Knows<X> {
     pub here: LinkedList<X>,
     /// How far the log is, if it has a seat.
     pub stage: u64,
+    /// The kind of the log, if it knows that.
+    pub kind: Option<Kind>,
+    /// As whom it may write.
+    pub authors: Authors,
     /// The logs that it has seen.
     pub logs: LinkedList<Known<X>>,
 }

@@ -4,9 +4,13 @@ use atomic_table::{Join, Play, Seat, Shared, Split, Table, TableRule};
 use std::alloc::Global;
 use std::marker::{Brand, PhantomData};
 
-/// How seats go on.
+/// How seats go on, and what a log of them requires of whoever writes.
 pub trait Course<X> {
+    ghost use Rattle.call_log.specs.declared.log.Kind.{Kind};
+
     ghost goes_on: { X → X → Type 0 };
+
+    ghost kind: { Kind };
 }
 
 /// The rule of a log of seats that go on so.
@@ -19,7 +23,7 @@ impl<X, P: Course<X>> TableRule<(), Knows<X>, Vec<X>> for Rule<X, P> {
 
     ghost holds = { λ seats. Holds P.goes_on seats.items };
 
-    ghost first = { λ seats. all_of seats.items };
+    ghost first = { λ seats. all_of P.kind seats.items };
 }
 
 /// A log's table, with its memory.
@@ -99,15 +103,28 @@ impl<X, P: Course<X>> Play<(), Knows<X>> for Recalling<X, P> {
     ghost then = { λ made. HasRecalled P.goes_on };
 }
 
-/// A receipt is split off.
+/// A receipt is split off, with all authors.
 pub(crate) struct Copying;
 
 impl<X> Split<Knows<X>> for Copying {
     ghost use Rattle.call_log.specs.Rule.{receipt};
+    ghost use Rattle.call_log.specs.Steps.{mute};
 
-    ghost left = { λ view. view };
+    ghost left = { mute };
 
-    ghost right = { λ view. receipt view.logs };
+    ghost right = { λ view. receipt view.authors view.logs };
+}
+
+/// A receipt is split off, with the first author.
+pub(crate) struct Parting;
+
+impl<X> Split<Knows<X>> for Parting {
+    ghost use Rattle.call_log.specs.Rule.{receipt};
+    ghost use Rattle.call_log.specs.Steps.{one_of, parting};
+
+    ghost left = { parting };
+
+    ghost right = { λ view. receipt (one_of view.authors) view.logs };
 }
 
 /// The first seat is split off.
@@ -121,28 +138,30 @@ impl<X> Split<Knows<X>> for Dealing {
     ghost right = { one };
 }
 
-/// A view has also seen what another one has, whose seats, if it has any, are lost.
+/// A view has also seen what another one has, and has the authors of that one, whose seats, if it has any, are lost.
 pub(crate) struct Observing;
 
 impl<X> Join<Knows<X>> for Observing {
     ghost use Rattle.std.specs.Prelude.{[]};
+    ghost use Rattle.call_log.specs.declared.log.Authors.TheVariants.{Nobody};
     ghost use Rattle.call_log.specs.Rule.{receipt};
     ghost use Rattle.call_log.specs.Steps.{observing};
 
     ghost both = { observing };
 
-    ghost spent = { receipt [] };
+    ghost spent = { receipt Nobody [] };
 }
 
-/// Two views become one.
+/// Two views become one, with the authors of the first one.
 pub(crate) struct Together;
 
 impl<X> Join<Knows<X>> for Together {
     ghost use Rattle.std.specs.Prelude.{[]};
+    ghost use Rattle.call_log.specs.declared.log.Authors.TheVariants.{Nobody};
     ghost use Rattle.call_log.specs.Rule.{receipt};
     ghost use Rattle.call_log.specs.Steps.{both};
 
     ghost both = { both };
 
-    ghost spent = { receipt [] };
+    ghost spent = { receipt Nobody [] };
 }

@@ -1,20 +1,20 @@
 //! Steps on the word of a log's table: each is one load or store, and writes into the log or sees it.
 ghost use Rattle.std.specs.Prelude.{◌≡◌, ◌<◌, ◌∷◌, [], Some, IfSome, length};
 ghost use Rattle.call_log.specs.Rule.{all_of, receipt};
-ghost use Rattle.call_log.specs.Steps.{Adjoins, CanCall, CanEnd, HasLogged, HasLoggedClosing, HasLoggedEmptying, HasLooked, HasRecalled, both, observing, one, others};
+ghost use Rattle.call_log.specs.Steps.{Adjoins, CanCall, CanEnd, HasLogged, HasLoggedClosing, HasLoggedEmptying, HasLooked, HasRecalled, both, mute, observing, one, one_of, others, parting};
 
 use crate::rule::{
     Calling, Closing, Copying, Course, Dealing, Emptying, Hand, Log, LogTable, Looking, Observing,
-    Recalling, Telling, Together,
+    Parting, Recalling, Telling, Together,
 };
 use atomic_table::Table;
 use std::alloc::Global;
 use std::marker::Brand;
 
-/// A log of these seats, and the seat of its table that has them all, if there is memory for it.
+/// A log of these seats, and the seat of its table that has them all, and all authors, if there is memory for it.
 pub fn opened<X, P: Course<X>>(alloc: Global, seats: &Vec<X>) -> Option<(LogTable<X, P>, Hand<X>)>
     ensures table { IfSome result (λ made. (made.1.table_id ≡ made.0.shared.table_id) × (0 < made.0.shared.table_id.words) × (made.0.shared.key ≡ seats.now)) }
-    ensures hand { IfSome result (λ made. made.1.me ≡ (all_of seats.now.items, [])) }
+    ensures hand { IfSome result (λ made. made.1.me ≡ (all_of P.kind seats.now.items, [])) }
 {
     match Table::of_words(alloc, &[0], seats) {
         Ok(made) => Some(made),
@@ -35,16 +35,28 @@ pub fn dealt<X, P: Course<X>>(log: &Log<X, P>, hand: &mut Hand<X>) -> Hand<X>
     log.split_seat::<Dealing>(hand)
 }
 
-/// A receipt of what the seat has seen.
+/// A receipt of what the seat has seen, with the authors that it had.
 pub fn copied<X, P: Course<X>>(log: &Log<X, P>, hand: &mut Hand<X>) -> Hand<X>
     requires table { hand.old.table_id ≡ log.now.table_id }
     requires word { 0 < log.now.table_id.words }
     ensures same { hand.new.table_id ≡ hand.old.table_id }
     ensures table { result.table_id ≡ hand.old.table_id }
-    ensures stays { hand.new.me ≡ hand.old.me }
-    ensures receipt { result.me ≡ (receipt hand.old.me.0.logs, []) }
+    ensures stays { hand.new.me ≡ (mute hand.old.me.0, hand.old.me.1) }
+    ensures receipt { result.me ≡ (receipt hand.old.me.0.authors hand.old.me.0.logs, []) }
 {
     log.split_seat::<Copying>(hand)
+}
+
+/// A receipt of what the seat has seen, with the first of its authors.
+pub fn parted<X, P: Course<X>>(log: &Log<X, P>, hand: &mut Hand<X>) -> Hand<X>
+    requires table { hand.old.table_id ≡ log.now.table_id }
+    requires word { 0 < log.now.table_id.words }
+    ensures same { hand.new.table_id ≡ hand.old.table_id }
+    ensures table { result.table_id ≡ hand.old.table_id }
+    ensures others { hand.new.me ≡ (parting hand.old.me.0, hand.old.me.1) }
+    ensures one { result.me ≡ (receipt (one_of hand.old.me.0.authors) hand.old.me.0.logs, []) }
+{
+    log.split_seat::<Parting>(hand)
 }
 
 /// Takes in another seat, whose seats are those behind this one's.
@@ -60,7 +72,7 @@ pub fn joined<X, P: Course<X>>(log: &Log<X, P>, hand: &mut Hand<X>, other: Hand<
     log.join_seat::<Together>(hand, other);
 }
 
-/// Takes in what another seat has seen; the seats that it has, if any, are lost.
+/// Takes in what another seat has seen, and its authors in place of this one's; the seats that it has, if any, are lost.
 pub fn observed<X, P: Course<X>>(log: &Log<X, P>, hand: &mut Hand<X>, other: Hand<X>)
     requires table { hand.old.table_id ≡ log.now.table_id }
     requires word { 0 < log.now.table_id.words }
@@ -72,7 +84,7 @@ pub fn observed<X, P: Course<X>>(log: &Log<X, P>, hand: &mut Hand<X>, other: Han
     log.join_seat::<Observing>(hand, other);
 }
 
-/// Writes a call into the log, which found the seat that this one has, and left another one.
+/// Writes a call into the log, as the seat's first author, if it has one. The call found the seat that this one has, and left another one.
 pub fn called<X, P: Course<X>>(log: &Log<X, P>, hand: &mut Hand<X>, after: &X)
     requires table { hand.old.table_id ≡ log.now.table_id }
     requires word { 0 < log.now.table_id.words }
@@ -96,7 +108,7 @@ fn tell_called<X, P: Course<X>, C: Telling<X>>(log: &Log<X, P>, hand: &mut Hand<
     log.load::<Calling<X, P, C>>(hand, 0);
 }
 
-/// Writes into the log that the tree is closed, and that what it left waits.
+/// Writes into the log, as the seat's first author, that the tree is closed, and that what it left waits.
 pub fn closed<X, P: Course<X>>(log: &Log<X, P>, hand: &mut Hand<X>)
     requires table { hand.old.table_id ≡ log.now.table_id }
     requires word { 0 < log.now.table_id.words }
@@ -107,7 +119,7 @@ pub fn closed<X, P: Course<X>>(log: &Log<X, P>, hand: &mut Hand<X>)
     log.store::<Closing<X, P>>(hand, 0, 1);
 }
 
-/// Writes into the log that nothing waits any more.
+/// Writes into the log, as the seat's first author, that nothing waits any more.
 pub fn emptied<X, P: Course<X>>(log: &Log<X, P>, hand: &mut Hand<X>)
     requires table { hand.old.table_id ≡ log.now.table_id }
     requires word { 0 < log.now.table_id.words }
@@ -128,7 +140,7 @@ pub fn recalled<X, P: Course<X>>(log: &Log<X, P>, hand: &mut Hand<X>) -> u64
     log.load::<Recalling<X, P>>(hand, 0)
 }
 
-/// How far the log is, and a receipt of it.
+/// How far the log is, and a receipt of it, which has no author.
 pub fn looked<X, P: Course<X>>(log: &Log<X, P>) -> (u64, Hand<X>)
     requires word { 0 < log.now.table_id.words }
     ensures table { result.1.table_id ≡ log.now.table_id }

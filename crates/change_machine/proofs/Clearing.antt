@@ -44,8 +44,8 @@ may_end actor change spares k is sound target shows =
 module _ (actor : ℕ) (limits : Limits) (k : Knowledge) (spares : Spares) where
   -- what is known then
   pub cleared_so : (plan : Plan) (told : Answer Record) → clears plan ≡ true → IsTarget limits plan → Shows actor (bare_at limits plan state.Clear) spares k
-      → Fits limits k (wanted_at plan spares state.Clear) told
-      → ChangeIsOver k (learn k (wanted_at plan spares state.Clear) told) (bare_at limits plan state.Clear) told spares end.Won
+      → Fits limits k (wanted_at limits plan spares state.Clear) told
+      → ChangeIsOver k (learn k (wanted_at limits plan spares state.Clear) told) (bare_at limits plan state.Clear) told spares end.Won
   cleared_so (Install pid head content) told is target h fits = cc
   cleared_so (Split pid plan) told is target h fits = cc
   cleared_so (Root left root) told is target h fits = cc

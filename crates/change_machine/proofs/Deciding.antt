@@ -1,14 +1,14 @@
 -- By which step a change comes to its end, or to where its exchange was taken.
 use Rattle.std.proofs.Common.{◌≡◌, inl, inr, Bool, true, false, Option, None, Some, refl, sym, ap, subst, ◌∙◌}
-use Rattle.std.specs.Prelude.{if◌then◌else◌, ◌&&◌, not, is_some, length, ltb}
+use Rattle.std.specs.Prelude.{if◌then◌else◌, ◌&&◌, ◌/◌, not, is_some}
 use Rattle.tree_limits.specs.declared.limits.Limits.{Limits}
 use Rattle.bw_model.specs.declared.step.Answer.{Answer}
 use Rattle.deltas.specs.declared.record.Record.{Record}
-use Rattle.structure_changes.specs.Plans.{clears, head_of, needs_pid, rows_needed}
+use Rattle.structure_changes.specs.Plans.{clears, head_of, needs_pid}
 use Rattle.structure_changes.specs.declared.plan.Plan.{Plan}
 use Rattle.structure_changes.specs.declared.plan.Plan.TheVariants.{Install, Split, Root, Unlink}
 use Rattle.change_machine.specs.Changes.{CanDecide, EndsByDeciding, has_decided}
-use Rattle.change_machine.specs.Moves.{Moved, after_ready, after_taking, decided_by, first_state, moved_by, next_move, spares_left, whether_in, with_number}
+use Rattle.change_machine.specs.Moves.{Moved, after_ready, after_taking, decided_by, first_state, has_rows, moved_by, next_move, spares_left, wanted_from, whether_in, with_number}
 use Rattle.change_machine.specs.Spares.{Spares}
 use Rattle.change_machine.specs.Taking.{begun_at, found_after}
 use Rattle.change_machine.specs.declared.change.End.{End}
@@ -33,14 +33,14 @@ ready_open (Split pid plan) = refl
 ready_open (Root left root) = refl
 ready_open (Unlink pid head unterm removal) = refl
 
-either_open : (b c : Bool) (one two : TakingOf) (rest : State) → has_decided rest ≡ false → has_decided (if b then Taking one else if c then Taking two else rest) ≡ false
+either_open : (b c : Bool) (one two : TakingOf) (rest : State) → has_decided rest ≡ false → has_decided (if b then Taking one else if c then rest else Taking two) ≡ false
 either_open true c one two rest opens = refl
-either_open false true one two rest opens = refl
-either_open false false one two rest opens = opens
+either_open false true one two rest opens = opens
+either_open false false one two rest opens = refl
 
 -- a change begins before that exchange
 pub first_open : (limits : Limits) (plan : Plan) (spares : Spares) → has_decided (first_state limits plan spares) ≡ false
-first_open limits plan spares = either_open (needs_pid plan && not (is_some spares.pid)) (ltb (length spares.rows) (rows_needed plan)) (begun_at limits Pid (head_of plan)) (begun_at limits Row (head_of plan))
+first_open limits plan spares = either_open (needs_pid plan && not (is_some spares.pid)) (has_rows limits plan spares.rows) (begun_at limits Pid 0 (head_of plan)) (begun_at limits Row (wanted_from limits plan spares.rows / 64) (head_of plan))
     (after_taking plan) (after_open plan)
 
 -- what goes on before it hasn't decided

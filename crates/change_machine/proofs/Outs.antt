@@ -9,7 +9,7 @@ use Rattle.deltas.specs.declared.record.Record.TheVariants as kind
 use Rattle.traces.specs.discipline.Fitting.{Fits}
 use Rattle.traces.specs.discipline.Knowledge.{Knowledge, OwnPage, Other, Empty, Ready, Gone, Written, after_exchange, learn, linked_over, split_off}
 use Rattle.structure_changes.specs.Splits.{split_to}
-use Rattle.change_machine.specs.Changes.{Change, IsPlaced, IsSoundChange, IsTarget, Shows, StandsReady, linked_number, wanted_step, wanted_at}
+use Rattle.change_machine.specs.Changes.{Change, IsPlaced, IsSoundChange, IsTarget, Shows, StandsReady, linked_number, record_row, split_row, wanted_step, wanted_at}
 use Rattle.structure_changes.specs.Plans.{clears, head_of, slot_of}
 use Rattle.change_machine.specs.Moves.{Moved, next_move, moved_by, whether_in}
 use Rattle.change_machine.specs.Outs.{IsFreshOver, TakesFresh, limbo_after, limbo_over}
@@ -25,7 +25,7 @@ use Rattle.change_machine.specs.declared.taking.Found.TheVariants.{Not, Taken, F
 use Rattle.change_machine.specs.declared.taking.Kind.TheVariants.{Pid, Row}
 use Rattle.change_machine.specs.declared.taking.Taking.{Taking}
 use Rattle.change_machine.specs.declared.taking.Taking.TheVariants.{Bits, Take}
-use Rattle.change_machine.proofs.Following.{last_is, set_learnt, undo_learnt}
+use Rattle.change_machine.proofs.Following.{record_is, set_learnt, undo_learnt}
 use Rattle.change_machine.proofs.Learning.{clear_fresh, clear_went, cleared_learnt, over_fresh, over_learnt, over_other, rooted_learnt, went}
 use Rattle.change_machine.proofs.Making.{bare_at, shows_bare, sound_bare}
 
@@ -45,10 +45,10 @@ module _ (k : Knowledge) where
 
   -- a taking takes nothing out
   number_limbo : (taking : Taking) (told : Answer Record) → (learn k (wanted_number taking) told).limbo ≡ k.limbo
-  number_limbo (Bits Pid word whole) answer.Start = refl
-  number_limbo (Bits Row word whole) answer.Start = refl
-  number_limbo (Take Pid number whole) (answer.Whether true) = refl
-  number_limbo (Take Row number whole) (answer.Whether true) = refl
+  number_limbo (Bits Pid from word whole) answer.Start = refl
+  number_limbo (Bits Row from word whole) answer.Start = refl
+  number_limbo (Take Pid from number whole) (answer.Whether true) = refl
+  number_limbo (Take Row from number whole) (answer.Whether true) = refl
   number_limbo taking told = refl
 
   module _ (limits : Limits) where
@@ -69,18 +69,18 @@ module _ (k : Knowledge) where
 
       -- what a change takes out where it goes on so
       abbrev pub TakesOutTo : State → Answer Record → Type 0
-      TakesOutTo state told = TakesOut limits k (learn k (wanted_at plan spares state) told) plan (next_move limits plan spares state told).end
+      TakesOutTo state told = TakesOut limits k (learn k (wanted_at limits plan spares state) told) plan (next_move limits plan spares state told).end
 
 -- the exchange that decides won
-won_outs : (k : Knowledge) (limits : Limits) (plan : Plan) (spares : Spares) → 0 < last_row spares → IsTarget limits plan → StandsReady plan spares k.own
-    → IsPlaced plan spares k.own → Fits limits k (wanted_at plan spares state.Link) (answer.Whether true)
+won_outs : (k : Knowledge) (limits : Limits) (plan : Plan) (spares : Spares) → 0 < record_row limits plan spares → IsTarget limits plan → StandsReady limits plan spares k.own
+    → IsPlaced limits plan spares k.own → Fits limits k (wanted_at limits plan spares state.Link) (answer.Whether true)
     → TakesOutTo k limits plan spares state.Link (answer.Whether true)
 won_outs k limits (Install pid head content) spares row target ready placed fits = record {
   limbo = linked_outs k limits pid head (last_row spares) content target.page target.linked row placed fits;
   fresh = fresh_over k limits content pid head (last_row spares) target.page target.linked row fits;
 }
 won_outs k limits (Split pid plan) spares row target ready placed fits = record
-    { limbo = linked_outs k limits pid plan.next (last_row spares) (kind.Split (split_to plan (pid_of spares))) target.page target.linked row placed fits; fresh = tt }
+    { limbo = linked_outs k limits pid plan.next (split_row limits.is_large spares) (kind.Split (split_to plan (pid_of spares))) target.page target.linked row placed fits; fresh = tt }
 won_outs k limits (Root left root) spares row target ready placed fits = rw (rooted_learnt k left (pid_of spares) (last_row spares) ready.0) (record { limbo = refl; fresh = tt })
 won_outs k limits (Unlink pid head unterm removal) spares row target ready placed fits = record
     { limbo = linked_outs k limits pid head (last_row spares) (kind.Unterm unterm) target.0.page target.0.linked row placed fits; fresh = tt }
@@ -95,16 +95,16 @@ module _ (actor : ℕ) (limits : Limits) (k : Knowledge) (spares : Spares) where
   change plan state = bare_at limits plan state
 
   decided_outs : (plan : Plan) (won : Bool) → IsSoundChange (change plan state.Link) spares → IsTarget limits plan
-      → Shows actor (change plan state.Link) spares k → Fits limits k (wanted_at plan spares state.Link) (answer.Whether won)
+      → Shows actor (change plan state.Link) spares k → Fits limits k (wanted_at limits plan spares state.Link) (answer.Whether won)
       → TakesOutTo k limits plan spares state.Link (answer.Whether won)
   decided_outs plan true sound target h fits =
-      let row = (last_is actor limits k plan spares sound.room sound.state h.may h.keeps h.are).1 in
+      let row = (record_is actor limits k plan spares sound.room sound.state h.may h.keeps h.are).1 in
       won_outs k limits plan spares row target h.stands.0 h.stands.1 fits
   decided_outs plan false sound target h fits = lost_outs k limits plan spares
 
   -- a page whose term is out was cleared
   cleared_outs : (plan : Plan) (told : Answer Record) → clears plan ≡ true → IsTarget limits plan → Shows actor (change plan state.Clear) spares k
-      → Fits limits k (wanted_at plan spares state.Clear) told
+      → Fits limits k (wanted_at limits plan spares state.Clear) told
       → TakesOutTo k limits plan spares state.Clear told
   cleared_outs (Unlink pid head unterm removal) told is target h fits =
       let page = target.1.0 in
@@ -114,7 +114,7 @@ module _ (actor : ℕ) (limits : Limits) (k : Knowledge) (spares : Spares) where
   cleared_outs other told is target h fits = cc
 
   outs_at : (plan : Plan) (state : State) (told : Answer Record) → IsSoundChange (change plan state) spares → IsTarget limits plan
-      → Shows actor (change plan state) spares k → Fits limits k (wanted_at plan spares state) told
+      → Shows actor (change plan state) spares k → Fits limits k (wanted_at limits plan spares state) told
       → TakesOutTo k limits plan spares state told
   outs_at plan (state.Taking taking) told sound target h fits =
       taking_outs k limits plan spares (learn k (wanted_number taking) told) (number_limbo k taking told) (state.Taking taking) (found_after limits taking told)
@@ -123,7 +123,7 @@ module _ (actor : ℕ) (limits : Limits) (k : Knowledge) (spares : Spares) where
       rw (set_learnt actor limits k plan spares sound.room sound.state.0 h.may h.keeps h.are told sound.state.1 h.stands.0 fits) (record { limbo = refl; fresh = tt })
   outs_at plan state.Place told sound target h fits = record { limbo = refl; fresh = tt }
   outs_at plan state.Link told sound target h fits =
-      let is = went k limits (slot_of plan) (head_of plan) (linked_number plan spares) told fits in
+      let is = went k limits (slot_of plan) (head_of plan) (linked_number limits plan spares) told fits in
       rw is (decided_outs plan (whether_in told) sound target h (rw is at fits))
   outs_at plan state.Undo told sound target h fits =
       let is = undo_learnt actor limits k plan spares sound.room sound.state.0 h.may h.keeps h.are told sound.state.1 h.stands fits in

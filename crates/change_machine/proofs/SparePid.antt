@@ -9,7 +9,7 @@ use Rattle.change_machine.specs.Bounded.{IsPidFrom, pid_taken}
 use Rattle.change_machine.specs.Changes.{Change, wanted_step, wanted_at}
 use Rattle.change_machine.specs.Moves.{Moved, decided_by, next_move, moved_by, whether_in}
 use Rattle.change_machine.specs.Spares.{Spares}
-use Rattle.change_machine.specs.Taking.{count_of, found_after, wanted_number}
+use Rattle.change_machine.specs.Taking.{found_after, wanted_number, words_end}
 use Rattle.change_machine.specs.declared.change.State.{State}
 use Rattle.change_machine.specs.declared.change.State.TheVariants as state
 use Rattle.structure_changes.specs.declared.plan.Plan.{Plan}
@@ -30,17 +30,17 @@ number_in found = 0
 
 -- a PID that was found was taken
 is_taken : (limits : Limits) (taking : Taking) (told : Answer Record) (n : ℕ) → found_after limits taking told ≡ Taken Pid n → pid_taken (wanted_number taking) told ≡ Some n
-is_taken limits (Take Pid m whole) (Whether true) n e = ap (λ f. Some (number_in f)) e
-is_taken limits (Take Row m whole) (Whether true) n e = cc
-is_taken limits (Take kind m whole) (Whether false) n e = cc
-is_taken limits (Bits kind word whole) (Number zero) n e = go (ltb (suc word) (count_of limits kind / 64)) whole e
+is_taken limits (Take Pid from m whole) (Whether true) n e = ap (λ f. Some (number_in f)) e
+is_taken limits (Take Row from m whole) (Whether true) n e = cc
+is_taken limits (Take kind from m whole) (Whether false) n e = cc
+is_taken limits (Bits kind from word whole) (Number zero) n e = go (ltb (suc word) (words_end limits kind from whole)) whole e
   where
-    go : (t whole : Bool) → (if t then Not (Bits kind (suc word) whole) else if whole then Full kind else Not (Bits kind 0 true)) ≡ Taken Pid n
-        → pid_taken (wanted_number (Bits kind word whole)) (Number zero) ≡ Some n
+    go : (t whole : Bool) → (if t then Not (Bits kind from (suc word) whole) else if whole then Full kind else Not (Bits kind from from true)) ≡ Taken Pid n
+        → pid_taken (wanted_number (Bits kind from word whole)) (Number zero) ≡ Some n
     go true whole f = cc
     go false true f = cc
     go false false f = cc
-is_taken limits (Bits kind word whole) (Number (suc bits)) n e = cc
+is_taken limits (Bits kind from word whole) (Number (suc bits)) n e = cc
 is_taken limits taking told n e = cc
 
 by_found : (limits : Limits) (plan : Plan) (spares : Spares) (at : State) (taken : Option ℕ) (found : Found) → ((n : ℕ) → found ≡ Taken Pid n → taken ≡ Some n)
@@ -61,7 +61,7 @@ by_deciding (Root left root) spares taken false = same_pid spares.pid taken
 by_deciding (Unlink pid head unterm removal) spares taken false = same_pid spares.pid taken
 
 by_state : (limits : Limits) (plan : Plan) (spares : Spares) (at : State) (told : Answer Record)
-    → IsPidFrom spares.pid (pid_taken (wanted_at plan spares at) told) (next_move limits plan spares at told).spares.pid
+    → IsPidFrom spares.pid (pid_taken (wanted_at limits plan spares at) told) (next_move limits plan spares at told).spares.pid
 by_state limits plan spares (state.Taking taking) told =
     by_found limits plan spares (state.Taking taking) (pid_taken (wanted_number taking) told) (found_after limits taking told) (is_taken limits taking told)
 by_state limits plan spares state.Base told = same_pid spares.pid _

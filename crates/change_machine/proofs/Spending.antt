@@ -13,11 +13,11 @@ use Rattle.traces.specs.discipline.Fitting.{Fits, FitsWord}
 use Rattle.traces.specs.discipline.Knowledge.{Knowledge}
 use Rattle.traces.specs.discipline.Recalled.{Recalled, WasFree, WasHead, recall}
 use Rattle.change_machine.specs.Bounded.{IsApart, RecallsAt, Spends, SpendsTo, few_steps, steps_left_at, numbers_missing, pid_taken, pids_missing}
-use Rattle.change_machine.specs.Changes.{AreEnough, Change, IsNeededNext, IsSameChange, IsSoundChange, linked_number, wanted_step, wanted_at}
-use Rattle.structure_changes.specs.Plans.{clears, head_of, needs_pid, rows_needed, slot_of}
-use Rattle.change_machine.specs.Moves.{Moved, after_ready, after_taking, decided_by, first_state, next_move, moved_by, spares_left, whether_in, with_number}
+use Rattle.change_machine.specs.Changes.{AreEnough, Change, IsNeededNext, IsSameChange, IsSoundChange, linked_number, needed_from, wanted_step, wanted_at}
+use Rattle.structure_changes.specs.Plans.{clears, head_of, needs_pid, slot_of}
+use Rattle.change_machine.specs.Moves.{Moved, after_ready, after_taking, decided_by, first_state, has_rows, next_move, moved_by, spares_left, wanted_from, whether_in, with_number}
 use Rattle.change_machine.specs.Spares.{HaveRoom, Spares, pid_of}
-use Rattle.change_machine.specs.Taking.{IsSoundTaking, begun_at, count_of, first_word, found_after, kind_of, most_reads, most_words, recalled_words, wanted_number}
+use Rattle.change_machine.specs.Taking.{IsSoundTaking, begun_at, count_of, first_word, found_after, from_of, kind_of, most_reads, most_words, recalled_words, wanted_number, words_end}
 use Rattle.change_machine.specs.declared.change.End.{End}
 use Rattle.change_machine.specs.declared.change.State.{State}
 use Rattle.change_machine.specs.declared.change.State.TheVariants as state
@@ -31,6 +31,7 @@ use Rattle.change_machine.specs.declared.taking.Taking.TheVariants.{Bits, Take}
 use Rattle.change_machine.proofs.Answered.{only_state}
 use Rattle.change_machine.proofs.Following.{some_pid}
 use Rattle.change_machine.proofs.Learning.{went}
+use Rattle.change_machine.proofs.RowNeeds.{fewer_rows, missing_few, missing_some, wanted_there}
 use Rattle.change_machine.proofs.Taken.{in_word}
 use Rattle.change_machine.proofs.Making.{bare, bare_at, sound_bare, spends_bare}
 use Rattle.deltas.proofs.Replaced.{replaced_same, replaced_other}
@@ -41,12 +42,12 @@ few_words limits Pid word below = let whole = limits.allowed.whole_pids in omega
 few_words limits Row word below = let whole = limits.allowed.whole_rows in omega (arith, below, whole)
 
 -- one number less is missing once it is taken
-fewer_missing : (plan : Plan) (spares : Spares) (kind : Kind) (number : ℕ) → IsNeededNext plan spares kind → suc (numbers_missing plan (with_number kind number spares)) ≡ numbers_missing plan spares
-fewer_missing plan spares Pid number missing = rw (missing.0, missing.1) (omega arith)
-fewer_missing plan spares Row number missing =
-    let some = missing.0 in
-    let more : length (spares.rows ++ number ∷ []) ≡ length spares.rows + 1 = length-append spares.rows (number ∷ []) in
-    omega (arith, some, more)
+fewer_missing : (limits : Limits) (plan : Plan) (spares : Spares) (kind : Kind) (number : ℕ) → IsNeededNext limits plan spares kind
+    → 64 * needed_from limits plan spares kind ≤ number → suc (numbers_missing limits plan (with_number kind number spares)) ≡ numbers_missing limits plan spares
+fewer_missing limits plan spares Pid number missing least = rw (missing.0, missing.1) (omega arith)
+fewer_missing limits plan spares Row number missing least =
+    let less = fewer_rows limits plan number spares.rows missing.0 (let same = (wanted_there limits plan spares.rows).0 in omega (arith, same, least)) in
+    omega (arith, less)
 
 -- a change that clears a page has no new one
 clears_apart : (plan : Plan) (pid : Option ℕ) → clears plan ≡ true → IsApart plan pid
@@ -72,22 +73,18 @@ reads_same : (limits : Limits) (m n : ℕ) → suc m ≡ n → most_reads limits
 reads_same limits m n e = let same : m ≡ n - 1 = omega (arith, e) in ap (λ k. most_reads limits * k) same
 
 -- at most three numbers are missing
-few_missing : (plan : Plan) (spares : Spares) → numbers_missing plan spares ≤ 3
-few_missing plan spares = let one = one_pid (needs_pid plan) spares.pid in let two = two_rows plan in omega (arith, one, two)
+few_missing : (limits : Limits) (plan : Plan) (spares : Spares) → numbers_missing limits plan spares ≤ 3
+few_missing limits plan spares = let one = one_pid (needs_pid plan) spares.pid in let two = missing_few limits plan spares.rows in omega (arith, one, two)
   where
     one_pid : (needs : Bool) (pid : Option ℕ) → pids_missing needs pid ≤ 1
     one_pid false pid = omega arith
     one_pid true None = omega arith
     one_pid true (Some pid) = omega arith
 
-    two_rows : (plan : Plan) → rows_needed plan ≤ 2
-    two_rows (Install pid head content) = omega arith
-    two_rows other = omega arith
-
 -- how many steps a change takes at most from its first state on
 pub left_first : (limits : Limits) (after : ℕ) (plan : Plan) (spares : Spares)
-    → steps_left_at limits after plan spares (first_state limits plan spares) ≤ most_reads limits * numbers_missing plan spares + 5
-left_first limits after plan spares = at_first (needs_pid plan && not (is_some spares.pid)) refl (ltb (length spares.rows) (rows_needed plan)) refl
+    → steps_left_at limits after plan spares (first_state limits plan spares) ≤ most_reads limits * numbers_missing limits plan spares + 5
+left_first limits after plan spares = at_first (needs_pid plan && not (is_some spares.pid)) refl (has_rows limits plan spares.rows) refl
   where
     some_missing : (needs : Bool) (pid : Option ℕ) → (needs && not (is_some pid)) ≡ true → pids_missing needs pid ≡ 1
     some_missing false pid e = cc
@@ -98,31 +95,32 @@ left_first limits after plan spares = at_first (needs_pid plan && not (is_some s
     at_place (Install pid head content) = omega arith
     at_place other = omega arith
 
-    at_first : (pid : Bool) → (needs_pid plan && not (is_some spares.pid)) ≡ pid → (row : Bool) → ltb (length spares.rows) (rows_needed plan) ≡ row
-        → steps_left_at limits after plan spares
-        (if pid then state.Taking (begun_at limits Pid (head_of plan)) else if row then state.Taking (begun_at limits Row (head_of plan)) else after_taking plan)
-        ≤ most_reads limits * numbers_missing plan spares + 5
+    at_first : (pid : Bool) → (needs_pid plan && not (is_some spares.pid)) ≡ pid → (row : Bool) → has_rows limits plan spares.rows ≡ row
+        → steps_left_at limits after plan spares (if pid then state.Taking (begun_at limits Pid 0 (head_of plan)) else if row then after_taking plan else state.Taking
+        (begun_at limits Row (wanted_from limits plan spares.rows / 64) (head_of plan)))
+        ≤ most_reads limits * numbers_missing limits plan spares + 5
     at_first true pid row e =
         let one = some_missing (needs_pid plan) spares.pid pid in
-        let few = few_left limits (first_word limits Pid (head_of plan)) (first_word limits Pid (head_of plan) == 0) in
-        let more = reads_more limits (numbers_missing plan spares) (omega (arith, one)) in
+        let few = few_left limits (first_word limits Pid 0 (head_of plan)) (first_word limits Pid 0 (head_of plan) == 0) in
+        let more = reads_more limits (numbers_missing limits plan spares) (omega (arith, one)) in
         omega (arith, one, few, more)
-    at_first false pid true e =
-        let some = ltb-true (length spares.rows) (rows_needed plan) e in
-        let few = few_left limits (first_word limits Row (head_of plan)) (first_word limits Row (head_of plan) == 0) in
-        let more = reads_more limits (numbers_missing plan spares) (omega (arith, some)) in
+    at_first false pid false e =
+        let some = missing_some limits plan spares.rows e in
+        let from = wanted_from limits plan spares.rows / 64 in
+        let few = few_left limits (first_word limits Row from (head_of plan)) (first_word limits Row from (head_of plan) == from) in
+        let more = reads_more limits (numbers_missing limits plan spares) (omega (arith, some)) in
         omega (arith, some, few, more)
-    at_first false pid false e = let few = at_place plan in omega (arith, few)
+    at_first false pid true e = let few = at_place plan in omega (arith, few)
 
 pub few_first : (limits : Limits) (after : ℕ) (plan : Plan) (spares : Spares) → steps_left_at limits after plan spares (first_state limits plan spares) ≤ few_steps limits
 few_first limits after plan spares =
     let first = left_first limits after plan spares in
-    let three = mul-le-mul_left (most_reads limits) (few_missing plan spares) in
+    let three = mul-le-mul_left (most_reads limits) (few_missing limits plan spares) in
     omega (arith, first, three)
 
 -- at its first state it recalls the slot that decides
 pub recalls_first : (limits : Limits) (r : Recalled) (plan : Plan) (spares : Spares) → WasHead r (slot_of plan) (head_of plan) → RecallsAt r plan (first_state limits plan spares)
-recalls_first limits r plan spares h = at_first (needs_pid plan && not (is_some spares.pid)) (ltb (length spares.rows) (rows_needed plan))
+recalls_first limits r plan spares h = at_first (needs_pid plan && not (is_some spares.pid)) (has_rows limits plan spares.rows)
   where
     at_place : (other : Plan) → RecallsAt r plan (after_taking other)
     at_place (Install pid head content) = h
@@ -131,10 +129,11 @@ recalls_first limits r plan spares h = at_first (needs_pid plan && not (is_some 
     at_place (Unlink pid head unterm removal) = h
 
     at_first : (pid row : Bool)
-        → RecallsAt r plan (if pid then state.Taking (begun_at limits Pid (head_of plan)) else if row then state.Taking (begun_at limits Row (head_of plan)) else after_taking plan)
+        → RecallsAt r plan (if pid then state.Taking (begun_at limits Pid 0 (head_of plan)) else if row then after_taking plan else state.Taking
+        (begun_at limits Row (wanted_from limits plan spares.rows / 64) (head_of plan)))
     at_first true row = h
-    at_first false true = h
-    at_first false false = at_place plan
+    at_first false true = at_place plan
+    at_first false false = h
 
 module _ (limits : Limits) (plan : Plan) (spares : Spares) (after : ℕ) (r : Recalled) (apart : IsApart plan spares.pid) where
   abbrev change : State → Change
@@ -144,89 +143,94 @@ module _ (limits : Limits) (plan : Plan) (spares : Spares) (after : ℕ) (r : Re
   SpendsSo state told now = SpendsTo after r (change state) spares told (change now.state) now.spares now.end
 
   -- a word was read
-  word_head : (kind : Kind) (word : ℕ) (whole : Bool) (bits : ℕ) → WasHead r (slot_of plan) (head_of plan)
-      → WasHead (recall r (wanted_number (Bits kind word whole)) (answer.Number bits)) (slot_of plan) (head_of plan)
-  word_head Pid word whole bits h = h
-  word_head Row word whole bits h = h
+  word_head : (kind : Kind) (from word : ℕ) (whole : Bool) (bits : ℕ) → WasHead r (slot_of plan) (head_of plan)
+      → WasHead (recall r (wanted_number (Bits kind from word whole)) (answer.Number bits)) (slot_of plan) (head_of plan)
+  word_head Pid from word whole bits h = h
+  word_head Row from word whole bits h = h
 
-  empty_word : (kind : Kind) (word : ℕ) (whole : Bool) → 64 * word < count_of limits kind → WasHead r (slot_of plan) (head_of plan)
-      → SpendsSo (state.Taking (Bits kind word whole)) (answer.Number 0)
-      (moved_by limits plan spares (state.Taking (Bits kind word whole)) (found_after limits (Bits kind word whole) (answer.Number 0)))
-  empty_word kind word whole below h = go (ltb (suc word) (count_of limits kind / 64)) whole
+  empty_word : (kind : Kind) (from word : ℕ) (whole : Bool) → IsSoundTaking limits (Bits kind from word whole) → WasHead r (slot_of plan) (head_of plan)
+      → SpendsSo (state.Taking (Bits kind from word whole)) (answer.Number 0)
+      (moved_by limits plan spares (state.Taking (Bits kind from word whole)) (found_after limits (Bits kind from word whole) (answer.Number 0)))
+  empty_word kind from word whole sound h = go (ltb (suc word) (words_end limits kind from whole)) whole
     where
       after_word : Bool → Bool → Moved
-      after_word more all = moved_by limits plan spares (state.Taking (Bits kind word all)) (if more then Not (Bits kind (suc word) all) else if all then Full kind else Not (Bits kind 0 true))
+      after_word more all =
+          moved_by limits plan spares (state.Taking (Bits kind from word all)) (if more then Not (Bits kind from (suc word) all) else if all then Full kind else Not (Bits kind from from true))
 
       few : word < most_words limits
-      few = few_words limits kind word below
+      few = few_words limits kind word sound.1
 
-      go : (more all : Bool) → SpendsSo (state.Taking (Bits kind word all)) (answer.Number 0) (after_word more all)
-      go true true = (record { at = word_head kind word true 0 h; apart = apart }, inl (let f = few in omega (arith, f)))
-      go true false = (record { at = word_head kind word false 0 h; apart = apart }, inl (let f = few in let are = reads_are limits in omega (arith, f, are)))
+      go : (more all : Bool) → SpendsSo (state.Taking (Bits kind from word all)) (answer.Number 0) (after_word more all)
+      go true true = (record { at = word_head kind from word true 0 h; apart = apart }, inl (let f = few in omega (arith, f)))
+      go true false = (record { at = word_head kind from word false 0 h; apart = apart }, inl (let f = few in let are = reads_are limits in omega (arith, f, are)))
       go false true = let f = few in omega (arith, f)
-      go false false = (record { at = word_head kind word false 0 h; apart = apart }, inl (let f = few in let are = reads_are limits in omega (arith, f, are)))
+      go false false = (record { at = word_head kind from word false 0 h; apart = apart }, inl (let f = few in let are = reads_are limits in omega (arith, f, are)))
 
-  free_then : (kind : Kind) (word : ℕ) (whole : Bool) (bits number : ℕ) → number / 64 ≡ word → bit_at bits (number % 64) ≡ 1
-      → WasFree (recalled_words (recall r (wanted_number (Bits kind word whole)) (answer.Number bits)) kind) number
-  free_then Pid word whole bits number place free = (bits, rw place (replaced_same word (Some bits) r.pids), free)
-  free_then Row word whole bits number place free = (bits, rw place (replaced_same word (Some bits) r.rows), free)
+  free_then : (kind : Kind) (from word : ℕ) (whole : Bool) (bits number : ℕ) → number / 64 ≡ word → bit_at bits (number % 64) ≡ 1
+      → WasFree (recalled_words (recall r (wanted_number (Bits kind from word whole)) (answer.Number bits)) kind) number
+  free_then Pid from word whole bits number place free = (bits, rw place (replaced_same word (Some bits) r.pids), free)
+  free_then Row from word whole bits number place free = (bits, rw place (replaced_same word (Some bits) r.rows), free)
 
-  some_word : (kind : Kind) (word : ℕ) (whole : Bool) (bits : ℕ) → 64 * word < count_of limits kind → FitsWord (count_of limits kind) word (suc bits) → WasHead r (slot_of plan) (head_of plan)
-      → SpendsSo (state.Taking (Bits kind word whole)) (answer.Number (suc bits))
-      (moved_by limits plan spares (state.Taking (Bits kind word whole)) (found_after limits (Bits kind word whole) (answer.Number (suc bits))))
-  some_word kind word whole bits below fits h =
+  some_word : (kind : Kind) (from word : ℕ) (whole : Bool) (bits : ℕ) → 64 * word < count_of limits kind → FitsWord (count_of limits kind) word (suc bits)
+      → WasHead r (slot_of plan) (head_of plan)
+      → SpendsSo (state.Taking (Bits kind from word whole)) (answer.Number (suc bits))
+      (moved_by limits plan spares (state.Taking (Bits kind from word whole)) (found_after limits (Bits kind from word whole) (answer.Number (suc bits))))
+  some_word kind from word whole bits below fits h =
       let few = few_words limits kind word below in
       let lowest = in_word (count_of limits kind) word bits fits in (
-        record
-            { at = (word_head kind word whole (suc bits) h, free_then kind word whole (suc bits) (64 * word + trailing_zeros w64 (suc bits)) lowest.0 lowest.1); apart = apart },
+        record {
+          at = (word_head kind from word whole (suc bits) h, free_then kind from word whole (suc bits) (64 * word + trailing_zeros w64 (suc bits)) lowest.0 lowest.1);
+          apart = apart;
+        },
         inl (more_left whole few),
       )
     where
       more_left : (all : Bool) → word < most_words limits
-          → steps_left_at limits after plan spares (state.Taking (Take kind (64 * word + trailing_zeros w64 (suc bits)) all)) < steps_left_at limits after plan
-          spares (state.Taking (Bits kind word all))
+          → steps_left_at limits after plan spares (state.Taking (Take kind from (64 * word + trailing_zeros w64 (suc bits)) all)) < steps_left_at limits after plan
+          spares (state.Taking (Bits kind from word all))
       more_left true few = omega (arith, few)
       more_left false few = let are = reads_are limits in omega (arith, few, are)
 
-  missed : (kind : Kind) (number : ℕ) (whole : Bool) → WasHead r (slot_of plan) (head_of plan) → WasFree (recalled_words r kind) number
-      → SpendsSo (state.Taking (Take kind number whole)) (answer.Whether false)
-      (moved_by limits plan spares (state.Taking (Take kind number whole)) (found_after limits (Take kind number whole) (answer.Whether false)))
-  missed Pid number true h free = (record { at = h; apart = apart }, inr (free, (let few = few_left limits (number / 64) true in omega (arith, few))))
-  missed Pid number false h free = (record { at = h; apart = apart }, inr (free, (let few = few_left limits (number / 64) false in omega (arith, few))))
-  missed Row number true h free = (record { at = h; apart = apart }, inr (free, (let few = few_left limits (number / 64) true in omega (arith, few))))
-  missed Row number false h free = (record { at = h; apart = apart }, inr (free, (let few = few_left limits (number / 64) false in omega (arith, few))))
+  missed : (kind : Kind) (from number : ℕ) (whole : Bool) → WasHead r (slot_of plan) (head_of plan) → WasFree (recalled_words r kind) number
+      → SpendsSo (state.Taking (Take kind from number whole)) (answer.Whether false)
+      (moved_by limits plan spares (state.Taking (Take kind from number whole)) (found_after limits (Take kind from number whole) (answer.Whether false)))
+  missed Pid from number true h free = (record { at = h; apart = apart }, inr (free, (let few = few_left limits (number / 64) true in omega (arith, few))))
+  missed Pid from number false h free = (record { at = h; apart = apart }, inr (free, (let few = few_left limits (number / 64) false in omega (arith, few))))
+  missed Row from number true h free = (record { at = h; apart = apart }, inr (free, (let few = few_left limits (number / 64) true in omega (arith, few))))
+  missed Row from number false h free = (record { at = h; apart = apart }, inr (free, (let few = few_left limits (number / 64) false in omega (arith, few))))
 
-  took : (kind : Kind) (number : ℕ) (whole : Bool) → IsNeededNext plan spares kind → WasHead r (slot_of plan) (head_of plan)
-      → IsApart plan (pid_taken (wanted_number (Take kind number whole)) (answer.Whether true))
-      → SpendsSo (state.Taking (Take kind number whole)) (answer.Whether true)
-      (moved_by limits plan spares (state.Taking (Take kind number whole)) (found_after limits (Take kind number whole) (answer.Whether true)))
-  took Pid number whole missing h far =
-      let less = fewer_missing plan spares Pid number missing in
+  took : (kind : Kind) (from number : ℕ) (whole : Bool) → IsNeededNext limits plan spares kind → 64 * needed_from limits plan spares kind ≤ number
+      → WasHead r (slot_of plan) (head_of plan) → IsApart plan (pid_taken (wanted_number (Take kind from number whole)) (answer.Whether true))
+      → SpendsSo (state.Taking (Take kind from number whole)) (answer.Whether true)
+      (moved_by limits plan spares (state.Taking (Take kind from number whole)) (found_after limits (Take kind from number whole) (answer.Whether true)))
+  took Pid from number whole missing least h far =
+      let less = fewer_missing limits plan spares Pid number missing least in
       let first = left_first limits after plan (with_number Pid number spares) in (
         record
-            { at = recalls_first limits (recall r (wanted_number (Take Pid number whole)) (answer.Whether true)) plan (with_number Pid number spares) h; apart = far },
+            { at = recalls_first limits (recall r (wanted_number (Take Pid from number whole)) (answer.Whether true)) plan (with_number Pid number spares) h; apart = far },
         inl (let same = reads_same limits _ _ less in omega (arith, less, first, same)),
       )
-  took Row number whole missing h far =
-      let less = fewer_missing plan spares Row number missing in
+  took Row from number whole missing least h far =
+      let less = fewer_missing limits plan spares Row number missing least in
       let first = left_first limits after plan (with_number Row number spares) in (
         record
-            { at = recalls_first limits (recall r (wanted_number (Take Row number whole)) (answer.Whether true)) plan (with_number Row number spares) h; apart = apart },
+            { at = recalls_first limits (recall r (wanted_number (Take Row from number whole)) (answer.Whether true)) plan (with_number Row number spares) h; apart = apart },
         inl (let same = reads_same limits _ _ less in omega (arith, less, first, same)),
       )
 
   takes : (taking : Taking) (told : Answer Record) → (k : Knowledge) → Fits limits k (wanted_number taking) told → IsSoundTaking limits taking
-      → IsNeededNext plan spares (kind_of taking) → RecallsAt r plan (state.Taking taking) → IsApart plan (pid_taken (wanted_number taking) told)
+      → IsNeededNext limits plan spares (kind_of taking) → from_of taking ≡ needed_from limits plan spares (kind_of taking)
+      → RecallsAt r plan (state.Taking taking) → IsApart plan (pid_taken (wanted_number taking) told)
       → SpendsSo (state.Taking taking) told (moved_by limits plan spares (state.Taking taking) (found_after limits taking told))
-  takes (Bits kind word whole) (answer.Number zero) k fits sound missing h far = empty_word kind word whole sound h
-  takes (Bits Pid word whole) (answer.Number (suc bits)) k fits sound missing h far = some_word Pid word whole bits sound fits h
-  takes (Bits Row word whole) (answer.Number (suc bits)) k fits sound missing h far = some_word Row word whole bits sound fits h
-  takes (Take kind number whole) (answer.Whether true) k fits sound missing h far = took kind number whole missing h.0 far
-  takes (Take kind number whole) (answer.Whether false) k fits sound missing h far = missed kind number whole h.0 h.1
-  takes (Bits Pid word whole) told k fits sound missing h far = absurd fits
-  takes (Bits Row word whole) told k fits sound missing h far = absurd fits
-  takes (Take Pid number whole) told k fits sound missing h far = absurd fits
-  takes (Take Row number whole) told k fits sound missing h far = absurd fits
+  takes (Bits kind from word whole) (answer.Number zero) k fits sound missing needed h far = empty_word kind from word whole sound h
+  takes (Bits Pid from word whole) (answer.Number (suc bits)) k fits sound missing needed h far = some_word Pid from word whole bits sound.1 fits h
+  takes (Bits Row from word whole) (answer.Number (suc bits)) k fits sound missing needed h far = some_word Row from word whole bits sound.1 fits h
+  takes (Take kind from number whole) (answer.Whether true) k fits sound missing needed h far = took kind from number whole missing (rw needed at sound.0) h.0 far
+  takes (Take kind from number whole) (answer.Whether false) k fits sound missing needed h far = missed kind from number whole h.0 h.1
+  takes (Bits Pid from word whole) told k fits sound missing needed h far = absurd fits
+  takes (Bits Row from word whole) told k fits sound missing needed h far = absurd fits
+  takes (Take Pid from number whole) told k fits sound missing needed h far = absurd fits
+  takes (Take Row from number whole) told k fits sound missing needed h far = absurd fits
 
   -- the new page isn't the slot that decides
   slot_apart : (plan : Plan) → needs_pid plan ≡ true → IsApart plan (Some (pid_of spares)) → 0 < pid_of spares → slot_of plan ≢ pid_of spares
@@ -235,17 +239,17 @@ module _ (limits : Limits) (plan : Plan) (spares : Spares) (after : ℕ) (r : Re
   slot_apart (Split pid plan) needs far some = λ e. far (sym e)
   slot_apart (Root left root) needs far some = λ e. let is : 0 ≡ pid_of spares = e in omega (arith, some, is)
 
-  set : AreEnough plan spares → needs_pid plan ≡ true → HaveRoom limits spares → (told : Answer Record) → WasHead r (slot_of plan) (head_of plan)
+  set : AreEnough limits plan spares → needs_pid plan ≡ true → HaveRoom limits spares → (told : Answer Record) → WasHead r (slot_of plan) (head_of plan)
       → SpendsSo state.Ready told (record { state = after_ready plan; spares = spares; end = None })
   set enough needs room told h =
       let is = some_pid spares.pid (enough.pid needs) in
       let some = (rw is at room.pid).0.0 in
       let other = slot_apart plan needs (rw is at apart) some in
-      let still : WasHead (recall r (wanted_at plan spares state.Ready) told) (slot_of plan) (head_of plan) = (h.0, replaced_other (pid_of spares) None r.heads (slot_of plan) other ∙ h.1) in
+      let still : WasHead (recall r (wanted_at limits plan spares state.Ready) told) (slot_of plan) (head_of plan) = (h.0, replaced_other (pid_of spares) None r.heads (slot_of plan) other ∙ h.1) in
       (record { at = at_next plan still; apart = apart }, inl (less plan))
     where
-      at_next : (other : Plan) → WasHead (recall r (wanted_at plan spares state.Ready) told) (slot_of plan) (head_of plan)
-          → RecallsAt (recall r (wanted_at plan spares state.Ready) told) plan (after_ready other)
+      at_next : (other : Plan) → WasHead (recall r (wanted_at limits plan spares state.Ready) told) (slot_of plan) (head_of plan)
+          → RecallsAt (recall r (wanted_at limits plan spares state.Ready) told) plan (after_ready other)
       at_next (Install pid head content) h = h
       at_next other h = h
 
@@ -265,13 +269,13 @@ module _ (limits : Limits) (plan : Plan) (spares : Spares) (after : ℕ) (r : Re
       lost true is = rw is (record { at = tt; apart = apart }, inr (h, omega arith))
       lost false is = rw is (inl h)
 
-  spends_at : (state : State) (told : Answer Record) (k : Knowledge) → Fits limits k (wanted_at plan spares state) told → IsSoundChange (change state) spares
-      → RecallsAt r plan state → IsApart plan (pid_taken (wanted_at plan spares state) told) → SpendsSo state told (next_move limits plan spares state told)
-  spends_at (state.Taking taking) told k fits sound h far = takes taking told k fits sound.state.0 sound.state.1 h far
+  spends_at : (state : State) (told : Answer Record) (k : Knowledge) → Fits limits k (wanted_at limits plan spares state) told → IsSoundChange (change state) spares
+      → RecallsAt r plan state → IsApart plan (pid_taken (wanted_at limits plan spares state) told) → SpendsSo state told (next_move limits plan spares state told)
+  spends_at (state.Taking taking) told k fits sound h far = takes taking told k fits sound.state.0 sound.state.1 sound.state.2 h far
   spends_at state.Base told k fits sound h far = (record { at = h; apart = apart }, inl (omega arith))
   spends_at state.Ready told k fits sound h far = set sound.state.0 sound.state.1 sound.room told h
   spends_at state.Place told k fits sound h far = (record { at = h; apart = apart }, inl (omega arith))
-  spends_at state.Link told k fits sound h far = let is = went k limits (slot_of plan) (head_of plan) (linked_number plan spares) told fits in rw is (decided (whether_in told) h)
+  spends_at state.Link told k fits sound h far = let is = went k limits (slot_of plan) (head_of plan) (linked_number limits plan spares) told fits in rw is (decided (whether_in told) h)
   spends_at state.Undo told k fits sound h far = inr (omega arith)
   spends_at state.Clear told k fits sound h far = inr (sound.state, omega arith)
 

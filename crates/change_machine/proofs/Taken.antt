@@ -1,5 +1,5 @@
 -- What the answers of a taking leave known.
-use Rattle.std.proofs.Common.{◌≡◌, ◌<◌, ◌≤◌, ◌∙◌, ◌*◌, ◌/◌, ◌%◌, ◌+◌, inl, inr, ℕ, zero, suc, length, subst, Bool, true, false, None, Some, refl, sym, ap, arith}
+use Rattle.std.proofs.Common.{◌≡◌, ◌<◌, ◌≤◌, ◌∙◌, ◌*◌, ◌/◌, ◌%◌, ◌+◌, inl, inr, ℕ, zero, suc, subst, Bool, true, false, None, Some, refl, sym, ap, arith}
 use Rattle.std.specs.Prelude.{ltb, ◌==◌, is_some, not, ◌&&◌, if◌then◌else◌}
 use Rattle.std.proofs.lemmas.Bool.{cases_eq, eqb-true, ltb-false}
 use Rattle.std.specs.Int.{bit_at, trailing_zeros, w64}
@@ -12,10 +12,10 @@ use Rattle.deltas.specs.declared.record.Record.{Record}
 use Rattle.traces.specs.discipline.Fitting.{Fits, FitsTaken, FitsTakenPid, FitsWord}
 use Rattle.traces.specs.discipline.Knowledge.{Knowledge, Empty, Ready, learn}
 use Rattle.change_machine.specs.Changes.{Change, Follows, IsLike, IsNeededNext, KeepsSpare, MayChange, Shows, ShowsState}
-use Rattle.structure_changes.specs.Plans.{head_of, needs_pid, rows_needed}
-use Rattle.change_machine.specs.Moves.{Moved, after_taking, first_state, moved_by, with_number}
+use Rattle.structure_changes.specs.Plans.{head_of, needs_pid}
+use Rattle.change_machine.specs.Moves.{Moved, after_taking, first_state, has_rows, moved_by, wanted_from, with_number}
 use Rattle.change_machine.specs.Spares.{AreTheSpares, AreUnset, Spares}
-use Rattle.change_machine.specs.Taking.{AreFull, begun_at, count_of, first_word, found_after, kind_of, wanted_number, word_read}
+use Rattle.change_machine.specs.Taking.{AreFull, begun_at, count_of, first_word, found_after, from_of, kind_of, least_word, wanted_number, word_read, words_end}
 use Rattle.change_machine.specs.declared.change.State.{State}
 use Rattle.change_machine.specs.declared.change.State.TheVariants as state
 use Rattle.structure_changes.specs.declared.plan.Plan.{Plan}
@@ -31,10 +31,10 @@ use Rattle.change_machine.proofs.Making.{bare_at}
 use Rattle.deltas.proofs.Replaced.{replaced_same, replaced_other}
 
 -- a word that was read as 0 adds to those below it
-none_free : (words : ℕ → Bool) (word below : ℕ) → below ≤ word → ((below : ℕ) → below < word → words below ≡ true) → replaced_at word true words below ≡ true
+none_free : (words : ℕ → Bool) (word below : ℕ) → below ≤ word → (below < word → words below ≡ true) → replaced_at word true words below ≡ true
 none_free words word below le full = elim (cases_eq below word) [
   | inl same ↦ ap (replaced_at word true words) same ∙ replaced_same word true words
-  | inr other ↦ replaced_other word true words below other ∙ full below (omega (arith, le, other))
+  | inr other ↦ replaced_other word true words below other ∙ full (omega (arith, le, other))
 ]
 
 -- the lowest free number of a word is of the word, at a bit that is set
@@ -47,30 +47,35 @@ in_word limit word bits fits =
     (omega (arith, within), rw place lowest.1)
 
 -- nothing was read before the first word
-none_below : (word : ℕ) → ◌≡◌ {A = ℕ} (if word == 0 then word else 0) 0
-none_below word = by_test (word == 0) refl
+none_below : (word from : ℕ) → ◌≡◌ {A = ℕ} (if word == from then word else from) from
+none_below word from = by_test (word == from) refl
   where
-    by_test : (none : Bool) → (word == 0) ≡ none → ◌≡◌ {A = ℕ} (if none then word else 0) 0
-    by_test true is = eqb-true word 0 is
+    by_test : (none : Bool) → (word == from) ≡ none → ◌≡◌ {A = ℕ} (if none then word else from) from
+    by_test true is = eqb-true word from is
     by_test false is = refl
+
+-- a taking that begins has read no word
+none_read : (limits : Limits) (k : Knowledge) (kind : Kind) (from head : ℕ) → AreFull k.asked kind from (word_read (begun_at limits kind from head))
+none_read limits k kind from head = λ below least lt. absurd (let none = none_below (first_word limits kind from head) from in omega (arith, least, lt, none))
 
 -- where all that is known stands, a change begins with the first number that is missing, or with its first place
 pub shows_first : (actor : ℕ) (limits : Limits) (k : Knowledge) (plan : Plan) (spares : Spares) → MayChange actor k plan → KeepsSpare plan spares.pid
     → AreTheSpares k.own spares → AreUnset k.own → Shows actor (bare_at limits plan (first_state limits plan spares)) spares k
 shows_first actor limits k plan spares may keeps are bare = record
-    { may = may; keeps = keeps; are = are; stands = at_first (needs_pid plan && not (is_some spares.pid)) (ltb (length spares.rows) (rows_needed plan)) }
+    { may = may; keeps = keeps; are = are; stands = at_first (needs_pid plan && not (is_some spares.pid)) (has_rows limits plan spares.rows) }
   where
-    at_place : (plan : Plan) → ShowsState plan spares k (after_taking plan)
+    at_place : (plan : Plan) → ShowsState limits plan spares k (after_taking plan)
     at_place (Install pid head content) = bare
     at_place (Split pid plan) = bare
     at_place (Root left root) = bare
     at_place (Unlink pid head unterm removal) = bare
 
     at_first : (pid row : Bool)
-        → ShowsState plan spares k (if pid then state.Taking (begun_at limits Pid (head_of plan)) else if row then state.Taking (begun_at limits Row (head_of plan)) else after_taking plan)
-    at_first true row = (bare, λ below lt. absurd (let none = none_below (first_word limits Pid (head_of plan)) in omega (arith, lt, none)))
-    at_first false true = (bare, λ below lt. absurd (let none = none_below (first_word limits Row (head_of plan)) in omega (arith, lt, none)))
-    at_first false false = at_place plan
+        → ShowsState limits plan spares k (if pid then state.Taking (begun_at limits Pid 0 (head_of plan)) else if row then after_taking plan else state.Taking
+        (begun_at limits Row (wanted_from limits plan spares.rows / 64) (head_of plan)))
+    at_first true row = (bare, none_read limits k Pid 0 (head_of plan))
+    at_first false true = at_place plan
+    at_first false false = (bare, none_read limits k Row (wanted_from limits plan spares.rows / 64) (head_of plan))
 
 module _ (actor : ℕ) (limits : Limits) (k : Knowledge) (plan : Plan) (spares : Spares) (may : MayChange actor k plan) (keeps : KeepsSpare plan spares.pid)
     (are : AreTheSpares k.own spares) (bare : AreUnset k.own) where
@@ -83,83 +88,94 @@ module _ (actor : ℕ) (limits : Limits) (k : Knowledge) (plan : Plan) (spares :
       let now = moved_by limits plan spares (state.Taking taking) (found_after limits taking told) in
       Follows actor k (learn k (wanted_number taking) told) (change (state.Taking taking)) told (change now.state) now.spares now.end
 
-  like_word : (kind : Kind) (word : ℕ) (whole : Bool) (bits : ℕ) → IsLike k.asked.linked k (learn k (wanted_number (Bits kind word whole)) (answer.Number bits))
-  like_word Pid word whole bits = record { inside = refl; read = refl; command = refl; linked_now = refl }
-  like_word Row word whole bits = record { inside = refl; read = refl; command = refl; linked_now = refl }
+  like_word : (kind : Kind) (from word : ℕ) (whole : Bool) (bits : ℕ) → IsLike k.asked.linked k (learn k (wanted_number (Bits kind from word whole)) (answer.Number bits))
+  like_word Pid from word whole bits = record { inside = refl; read = refl; command = refl; linked_now = refl }
+  like_word Row from word whole bits = record { inside = refl; read = refl; command = refl; linked_now = refl }
 
-  own_word : (kind : Kind) (word : ℕ) (whole : Bool) (bits : ℕ) → (learn k (wanted_number (Bits kind word whole)) (answer.Number bits)).own ≡ k.own
-  own_word Pid word whole bits = refl
-  own_word Row word whole bits = refl
+  own_word : (kind : Kind) (from word : ℕ) (whole : Bool) (bits : ℕ) → (learn k (wanted_number (Bits kind from word whole)) (answer.Number bits)).own ≡ k.own
+  own_word Pid from word whole bits = refl
+  own_word Row from word whole bits = refl
 
-  full_then : (kind : Kind) (word : ℕ) (whole : Bool) → AreFull k.asked kind (if whole then word else 0)
-      → AreFull (learn k (wanted_number (Bits kind word whole)) (answer.Number 0)).asked kind (if whole then suc word else 0)
-  full_then Pid word true full = λ below lt. none_free k.asked.no_pids word below (omega (arith, lt)) full
-  full_then Row word true full = λ below lt. none_free k.asked.no_rows word below (omega (arith, lt)) full
-  full_then kind word false full = λ below lt. absurd (omega (arith, lt))
+  full_then : (kind : Kind) (from word : ℕ) (whole : Bool) → AreFull k.asked kind from (if whole then word else from)
+      → AreFull (learn k (wanted_number (Bits kind from word whole)) (answer.Number 0)).asked kind from (if whole then suc word else from)
+  full_then Pid from word true full = λ below least lt. none_free k.asked.no_pids word below (omega (arith, lt)) (full below least)
+  full_then Row from word true full = λ below least lt. none_free k.asked.no_rows word below (omega (arith, lt)) (full below least)
+  full_then kind from word false full = λ below least lt. absurd (omega (arith, least, lt))
 
-  full_still : (kind : Kind) (word : ℕ) (whole : Bool) (bits up : ℕ) → AreFull k.asked kind up → AreFull (learn k (wanted_number (Bits kind word whole)) (answer.Number (suc bits))).asked kind up
-  full_still Pid word whole bits up full = full
-  full_still Row word whole bits up full = full
+  full_still : (kind : Kind) (from word : ℕ) (whole : Bool) (bits up : ℕ) → AreFull k.asked kind from up
+      → AreFull (learn k (wanted_number (Bits kind from word whole)) (answer.Number (suc bits))).asked kind from up
+  full_still Pid from word whole bits up full = full
+  full_still Row from word whole bits up full = full
 
   -- a word was read as 0, and there is a next one, or none
-  pub empty_word : (kind : Kind) (word : ℕ) (whole : Bool) → IsNeededNext plan spares kind → AreFull k.asked kind (if whole then word else 0) → Finds (Bits kind word whole) (answer.Number 0)
-  empty_word kind word whole missing full = go (ltb (suc word) (count_of limits kind / 64)) refl whole refl
+  pub empty_word : (kind : Kind) (from word : ℕ) (whole : Bool) → IsNeededNext limits plan spares kind → from ≤ least_word limits kind
+      → AreFull k.asked kind from (if whole then word else from) → Finds (Bits kind from word whole) (answer.Number 0)
+  empty_word kind from word whole missing low full = go (ltb (suc word) (words_end limits kind from whole)) refl whole refl
     where
       now : Knowledge
-      now = learn k (wanted_number (Bits kind word whole)) (answer.Number 0)
+      now = learn k (wanted_number (Bits kind from word whole)) (answer.Number 0)
 
       after : Bool → Bool → Moved
-      after more all = moved_by limits plan spares (state.Taking (Bits kind word whole)) (if more then Not (Bits kind (suc word) whole) else if all then Full kind else Not (Bits kind 0 true))
+      after more all =
+          moved_by limits plan spares (state.Taking (Bits kind from word whole)) (if more then Not (Bits kind from (suc word) whole) else if all then Full kind else Not (Bits kind from from true))
 
-      goes_on : (next : ℕ) (all : Bool) → AreFull now.asked kind (if all then next else 0)
-          → Follows actor k now (change (state.Taking (Bits kind word whole))) (answer.Number 0) (change (state.Taking (Bits kind next all))) spares None
+      goes_on : (next : ℕ) (all : Bool) → AreFull now.asked kind from (if all then next else from)
+          → Follows actor k now (change (state.Taking (Bits kind from word whole))) (answer.Number 0) (change (state.Taking (Bits kind from next all))) spares None
       goes_on next all so_far = record {
-        shows = record
-            { may = still_may actor k now plan (like_word kind word whole 0) may; keeps = keeps; are = rw (own_word kind word whole 0) are; stands = (rw (own_word kind word whole 0) bare, so_far) };
-        like = like_word kind word whole 0;
+        shows = record {
+          may = still_may actor k now plan (like_word kind from word whole 0) may;
+          keeps = keeps;
+          are = rw (own_word kind from word whole 0) are;
+          stands = (rw (own_word kind from word whole 0) bare, so_far);
+        };
+        like = like_word kind from word whole 0;
       }
 
-      go : (more : Bool) → ltb (suc word) (count_of limits kind / 64) ≡ more → (all : Bool) → all ≡ whole
-          → Follows actor k now (change (state.Taking (Bits kind word whole))) (answer.Number 0) (change (after more all).state) (after more all).spares (after more all).end
-      go true is all same = goes_on (suc word) whole (full_then kind word whole full)
-      go false is false same = goes_on 0 true (λ below lt. absurd (omega (arith, lt)))
+      go : (more : Bool) → ltb (suc word) (words_end limits kind from whole) ≡ more → (all : Bool) → all ≡ whole
+          → Follows actor k now (change (state.Taking (Bits kind from word whole))) (answer.Number 0) (change (after more all).state) (after more all).spares (after more all).end
+      go true is all same = goes_on (suc word) whole (full_then kind from word whole full)
+      go false is false same = goes_on from true (λ below least lt. absurd (omega (arith, least, lt)))
       go false is true same = record {
-        like = rw ((unlinked plan k.asked.linked).1 kind) (like_word kind word whole 0);
-        rest = rw (own_word kind word whole 0) (record { are = are; unset = bare });
-        decided = (
-          missing,
-          λ below lt. subst (λ (b : Bool). AreFull now.asked kind (if b then suc word else 0)) (sym same) (full_then kind word whole full) below
-              (let last = ltb-false (suc word) (count_of limits kind / 64) is in omega (arith, lt, last)),
-        );
+        like = rw ((unlinked plan k.asked.linked).1 kind) (like_word kind from word whole 0);
+        rest = rw (own_word kind from word whole 0) (record { are = are; unset = bare });
+        decided = (missing, λ below least lt. all_read below (omega (arith, low, least)) lt);
       }
+        where
+          last : count_of limits kind / 64 ≤ suc word
+          last = ltb-false (suc word) (count_of limits kind / 64) (subst (λ (b : Bool). ltb (suc word) (words_end limits kind from b) ≡ false) (sym same) is)
+
+          all_read : AreFull now.asked kind from (count_of limits kind / 64)
+          all_read below least lt =
+              subst (λ (b : Bool). AreFull now.asked kind from (if b then suc word else from)) (sym same) (full_then kind from word whole full) below least
+              (let end = last in omega (arith, lt, end))
 
   -- a word with a free number
-  pub some_word : (kind : Kind) (word : ℕ) (whole : Bool) (bits : ℕ) → (64 * word + trailing_zeros w64 (suc bits)) / 64 ≡ word
-      → AreFull k.asked kind (if whole then word else 0) → Finds (Bits kind word whole) (answer.Number (suc bits))
-  some_word kind word whole bits place full = record {
+  pub some_word : (kind : Kind) (from word : ℕ) (whole : Bool) (bits : ℕ) → (64 * word + trailing_zeros w64 (suc bits)) / 64 ≡ word
+      → AreFull k.asked kind from (if whole then word else from) → Finds (Bits kind from word whole) (answer.Number (suc bits))
+  some_word kind from word whole bits place full = record {
     shows = record {
-      may = still_may actor k (learn k (wanted_number (Bits kind word whole)) (answer.Number (suc bits))) plan (like_word kind word whole (suc bits)) may;
+      may = still_may actor k (learn k (wanted_number (Bits kind from word whole)) (answer.Number (suc bits))) plan (like_word kind from word whole (suc bits)) may;
       keeps = keeps;
-      are = rw (own_word kind word whole (suc bits)) are;
-      stands = (rw (own_word kind word whole (suc bits)) bare, rw place (full_still kind word whole bits (if whole then word else 0) full));
+      are = rw (own_word kind from word whole (suc bits)) are;
+      stands = (rw (own_word kind from word whole (suc bits)) bare, rw place (full_still kind from word whole bits (if whole then word else from) full));
     };
-    like = like_word kind word whole (suc bits);
+    like = like_word kind from word whole (suc bits);
   }
 
   -- another actor came before
-  pub missed : (kind : Kind) (number : ℕ) (whole : Bool) → AreFull k.asked kind (if whole then number / 64 else 0) → Finds (Take kind number whole) (answer.Whether false)
-  missed Pid number whole full = record { shows = record { may = may; keeps = keeps; are = are; stands = (bare, full) }; like = like_self k }
-  missed Row number whole full = record { shows = record { may = may; keeps = keeps; are = are; stands = (bare, full) }; like = like_self k }
+  pub missed : (kind : Kind) (from number : ℕ) (whole : Bool) → AreFull k.asked kind from (if whole then number / 64 else from) → Finds (Take kind from number whole) (answer.Whether false)
+  missed Pid from number whole full = record { shows = record { may = may; keeps = keeps; are = are; stands = (bare, full) }; like = like_self k }
+  missed Row from number whole full = record { shows = record { may = may; keeps = keeps; are = are; stands = (bare, full) }; like = like_self k }
 
   -- a free number was taken
-  pub taken_pid : (pid : ℕ) (whole : Bool) → IsNeededNext plan spares Pid → FitsTakenPid limits k pid → Finds (Take Pid pid whole) (answer.Whether true)
-  taken_pid pid whole missing fits = record {
+  pub taken_pid : (from pid : ℕ) (whole : Bool) → IsNeededNext limits plan spares Pid → FitsTakenPid limits k pid → Finds (Take Pid from pid whole) (answer.Whether true)
+  taken_pid from pid whole missing fits = record {
     shows = shows_first actor limits now plan (with_number Pid pid spares) (still_may actor k now plan like may) (keeps_none plan missing.0) (pid_taken k.own spares are pid fits.some missing.1) unset;
     like = like;
   }
     where
       now : Knowledge
-      now = learn k (wanted_number (Take Pid pid whole)) (answer.Whether true)
+      now = learn k (wanted_number (Take Pid from pid whole)) (answer.Whether true)
 
       like : IsLike k.asked.linked k now
       like = record { inside = refl; read = refl; command = refl; linked_now = refl }
@@ -176,28 +192,28 @@ module _ (actor : ℕ) (limits : Limits) (k : Knowledge) (plan : Plan) (spares :
         | inr other ↦ bare page row (sym (replaced_other pid Empty k.own.pages page other) ∙ e)
       ]
 
-  pub taken_row : (row : ℕ) (whole : Bool) → FitsTaken limits k row → Finds (Take Row row whole) (answer.Whether true)
-  taken_row row whole fits = record {
+  pub taken_row : (from row : ℕ) (whole : Bool) → FitsTaken limits k row → Finds (Take Row from row whole) (answer.Whether true)
+  taken_row from row whole fits = record {
     shows = shows_first actor limits now plan (with_number Row row spares) (still_may actor k now plan like may) keeps (row_taken k.own spares are row fits.some fits.foreign) bare;
     like = like;
   }
     where
       now : Knowledge
-      now = learn k (wanted_number (Take Row row whole)) (answer.Whether true)
+      now = learn k (wanted_number (Take Row from row whole)) (answer.Whether true)
 
       like : IsLike k.asked.linked k now
       like = record { inside = refl; read = refl; command = refl; linked_now = refl }
 
   -- whatever the answer, the taking goes on as it says
-  pub finds : (taking : Taking) (told : Answer Record) → IsNeededNext plan spares (kind_of taking) → AreFull k.asked (kind_of taking) (word_read taking)
-      → Fits limits k (wanted_number taking) told → Finds taking told
-  finds (Bits kind word whole) (answer.Number zero) missing full fits = empty_word kind word whole missing full
-  finds (Bits Pid word whole) (answer.Number (suc bits)) missing full fits = some_word Pid word whole bits (in_word limits.pids word bits fits).0 full
-  finds (Bits Row word whole) (answer.Number (suc bits)) missing full fits = some_word Row word whole bits (in_word limits.rows word bits fits).0 full
-  finds (Take Pid pid whole) (answer.Whether true) missing full fits = taken_pid pid whole missing fits
-  finds (Take Row row whole) (answer.Whether true) missing full fits = taken_row row whole fits
-  finds (Take kind number whole) (answer.Whether false) missing full fits = missed kind number whole full
-  finds (Bits Pid word whole) told missing full fits = absurd fits
-  finds (Bits Row word whole) told missing full fits = absurd fits
-  finds (Take Pid number whole) told missing full fits = absurd fits
-  finds (Take Row number whole) told missing full fits = absurd fits
+  pub finds : (taking : Taking) (told : Answer Record) → IsNeededNext limits plan spares (kind_of taking) → from_of taking ≤ least_word limits (kind_of taking)
+      → AreFull k.asked (kind_of taking) (from_of taking) (word_read taking) → Fits limits k (wanted_number taking) told → Finds taking told
+  finds (Bits kind from word whole) (answer.Number zero) missing low full fits = empty_word kind from word whole missing low full
+  finds (Bits Pid from word whole) (answer.Number (suc bits)) missing low full fits = some_word Pid from word whole bits (in_word limits.pids word bits fits).0 full
+  finds (Bits Row from word whole) (answer.Number (suc bits)) missing low full fits = some_word Row from word whole bits (in_word limits.rows word bits fits).0 full
+  finds (Take Pid from pid whole) (answer.Whether true) missing low full fits = taken_pid from pid whole missing fits
+  finds (Take Row from row whole) (answer.Whether true) missing low full fits = taken_row from row whole fits
+  finds (Take kind from number whole) (answer.Whether false) missing low full fits = missed kind from number whole full
+  finds (Bits Pid from word whole) told missing low full fits = absurd fits
+  finds (Bits Row from word whole) told missing low full fits = absurd fits
+  finds (Take Pid from number whole) told missing low full fits = absurd fits
+  finds (Take Row from number whole) told missing low full fits = absurd fits

@@ -1,5 +1,7 @@
 -- What an exchange that won leaves known.
-use Rattle.std.proofs.Common.{◌≡◌, ◌≤◌, ◌∙◌, ◌-◌, inl, inr, ℕ, List, [], ◌∷◌, ◌++◌, length, get_or, take, true, Option, Some, None, refl, sym, ap, arith}
+use Rattle.std.proofs.Common.{◌≡◌, ◌≤◌, ◌<◌, ◌∙◌, ◌-◌, inl, inr, ℕ, suc, List, [], ◌∷◌, ◌++◌, length, take, Bool, true, false, Option, Some, None, refl, sym, ap, arith}
+use Rattle.std.specs.Prelude.{ltb}
+use Rattle.std.proofs.lemmas.Bool.{ltb-false, ltb-true}
 use Rattle.std.proofs.lemmas.Bool.{cases_eq}
 use Rattle.tree_limits.specs.declared.limits.Limits.{Limits}
 use Rattle.bw_model.specs.declared.step.Answer.TheVariants as answer
@@ -11,32 +13,20 @@ use Rattle.traces.specs.discipline.Discipline.{MayExchange}
 use Rattle.traces.specs.discipline.Fitting.{Fits}
 use Rattle.traces.specs.discipline.Knowledge.{Belongings, Knowledge, OwnPage, Foreign, Written, Other, Ready, Gone, handed_page, learn, linked_over}
 use Rattle.structure_changes.specs.Splits.{split_to}
-use Rattle.change_machine.specs.Changes.{AreEnough, Follows, ChangesOn, KeepsSparePage, ChangeIsOver, IsPlaced, StandsReady, IsTarget, KeepsSpare, MayChange, linked_number, wanted_at}
+use Rattle.change_machine.specs.Changes.{AreEnough, Follows, ChangesOn, KeepsSparePage, ChangeIsOver, IsPlaced, StandsReady, IsTarget, KeepsSpare, MayChange, linked_number, split_base_row, split_row, wanted_at}
 use Rattle.structure_changes.specs.Plans.{head_of, slot_of}
 use Rattle.change_machine.specs.Moves.{Moved, decided_by, spares_left}
-use Rattle.change_machine.specs.Spares.{AreTheSpares, AreUnset, HaveRoom, Spares, first_row, last_row, pid_of}
+use Rattle.change_machine.specs.Spares.{AreTheSpares, AreUnset, HaveRoom, Spares, last_row, pid_of, second_row}
 use Rattle.change_machine.specs.declared.change.End.TheVariants as end
 use Rattle.change_machine.specs.declared.change.State.TheVariants as state
 use Rattle.structure_changes.specs.declared.plan.Plan.{Plan}
 use Rattle.structure_changes.specs.declared.plan.Plan.TheVariants.{Install, Split, Root, Unlink}
-use Rattle.change_machine.proofs.Following.{own_last, some_pid, still_may, unset_then}
+use Rattle.change_machine.proofs.Following.{own_last, some_pid, split_own, still_may, unset_then}
+use Rattle.change_machine.proofs.RowNeeds.{rows_last, rows_two}
 use Rattle.change_machine.proofs.Learning.{no_split, over_learnt, over_other, rooted_learnt}
 use Rattle.change_machine.proofs.SpareLaws.{first_linked, last_linked, page_gone, page_linked}
 use Rattle.change_machine.proofs.Making.{bare_at}
 use Rattle.deltas.proofs.Replaced.{replaced_same, replaced_other}
-
--- the rows but for the last one, and two rows
-rows_last : (rows : List ℕ) → 1 ≤ length rows → length rows ≤ 2 → rows ≡ take (length rows - 1) rows ++ get_or rows (length rows - 1) 0 ∷ []
-rows_last [] some few = absurd (omega (arith, some))
-rows_last (a ∷ []) some few = refl
-rows_last (a ∷ b ∷ []) some few = refl
-rows_last (a ∷ b ∷ c ∷ rows) some few = absurd (omega (arith, few))
-
-rows_two : (rows : List ℕ) → 2 ≤ length rows → length rows ≤ 2 → (rows ≡ get_or rows 0 0 ∷ get_or rows (length rows - 1) 0 ∷ []) × (take (length rows - 2) rows ≡ [])
-rows_two [] some few = absurd (omega (arith, some))
-rows_two (a ∷ []) some few = absurd (omega (arith, some))
-rows_two (a ∷ b ∷ []) some few = (refl, refl)
-rows_two (a ∷ b ∷ c ∷ rows) some few = absurd (omega (arith, few))
 
 -- the spare PID isn't that of the term
 pub kept_apart : (child : ℕ) (unterm : _) (pid : Option ℕ) → KeepsSparePage (kind.Unterm unterm) pid → pid ≡ Some unterm.child → ⊥
@@ -62,7 +52,7 @@ module _ (actor : ℕ) (limits : Limits) (k : Knowledge) (spares : Spares) (room
       front = take (length spares.rows - 1) spares.rows
 
       linked : AreTheSpares (record k.own { rows = replaced_at (last_row spares) Foreign k.own.rows }) (record spares { rows = front })
-      linked = last_linked k.own spares are (last_row spares) front (rows_last spares.rows some room.few)
+      linked = last_linked k.own spares are (last_row spares) front (rows_last spares.rows some)
 
       by_content : (content : Record) → KeepsSparePage content spares.pid → k.own.rows (last_row spares) ≡ Written content
           → ChangeIsOver k (linked_over (Written content) head (last_row spares) k) (bare_at limits (Install pid head content) state.Link) (answer.Whether true)
@@ -74,7 +64,7 @@ module _ (actor : ℕ) (limits : Limits) (k : Knowledge) (spares : Spares) (room
       by_content (kind.Delete delete) kept placed = record
           { like = record { inside = refl; read = refl; command = refl; linked_now = refl }; rest = record { are = linked; unset = bare }; decided = (refl, refl) }
       by_content (kind.Split split) kept placed =
-          absurd (no_split actor k pid head (last_row spares) split target.page target.linked (own_last k.own.rows spares.rows some room.few are.rows).1 may placed bare)
+          absurd (no_split actor k pid head (last_row spares) split target.page target.linked (own_last k.own.rows spares.rows some are.rows).1 may placed bare)
       by_content (kind.Term term) kept placed = record
           { like = record { inside = refl; read = refl; command = refl; linked_now = refl }; rest = record { are = linked; unset = bare }; decided = (refl, refl) }
       by_content (kind.Hold hold) kept placed = record
@@ -100,7 +90,7 @@ module _ (actor : ℕ) (limits : Limits) (k : Knowledge) (spares : Spares) (room
       → ChangesOn actor k (handed_page unterm.child Gone (last_row spares) k) (bare_at limits (Unlink pid head unterm removal) state.Clear) (spares_left (Unlink pid head unterm removal) spares)
   term_out pid head unterm removal some may kept bare =
       let front = take (length spares.rows - 1) spares.rows in
-      let linked = last_linked k.own spares are (last_row spares) front (rows_last spares.rows some room.few) in
+      let linked = last_linked k.own spares are (last_row spares) front (rows_last spares.rows some) in
       record {
         shows = record {
           may = still_may actor k (handed_page unterm.child Gone (last_row spares) k) (Unlink pid head unterm removal) (record { inside = refl; read = refl; command = refl; linked_now = refl }) may;
@@ -113,41 +103,69 @@ module _ (actor : ℕ) (limits : Limits) (k : Knowledge) (spares : Spares) (room
         like = record { inside = refl; read = refl; command = refl; linked_now = refl };
       }
 
+  -- a split's base and its record are linked: in a large tree the base has the last row; where all rows have one width, there are two
+  split_linked : 2 ≤ length spares.rows → (large : Bool) → limits.is_large ≡ large
+      → AreTheSpares (record k.own { rows = replaced_at (split_row large spares) Foreign (replaced_at (split_base_row large spares) Foreign k.own.rows) })
+      (record spares { rows = take (length spares.rows - 2) spares.rows })
+  split_linked two true e =
+      let front = take (length spares.rows - 2) spares.rows in
+      let first = last_linked k.own spares are (last_row spares) (front ++ second_row spares ∷ []) (rows_two spares.rows two) in
+      last_linked (record k.own { rows = replaced_at (last_row spares) Foreign k.own.rows }) (record spares { rows = front ++ second_row spares ∷ [] }) first (second_row spares) front refl
+  split_linked two false e = by_rows spares.rows refl
+    where
+      few : length spares.rows ≤ 2
+      few = le_two
+        where
+          le_two : length spares.rows ≤ 2
+          le_two = go (ltb 2 (length spares.rows)) refl
+            where
+              go : (b : Bool) → ltb 2 (length spares.rows) ≡ b → length spares.rows ≤ 2
+              go true more = absurd (let wide = room.alike (ltb-true 2 (length spares.rows) more) in let none = (limits.alike e).pages in omega (arith, wide, none))
+              go false more = ltb-false 2 (length spares.rows) more
+
+      by_rows : (rows : List ℕ) → spares.rows ≡ rows
+          → AreTheSpares (record k.own { rows = replaced_at (last_row spares) Foreign (replaced_at (second_row spares) Foreign k.own.rows) })
+          (record spares { rows = take (length spares.rows - 2) spares.rows })
+      by_rows [] is = absurd (let none : length spares.rows ≡ 0 = ap length is in omega (arith, two, none))
+      by_rows (a ∷ []) is = absurd (let one : length spares.rows ≡ 1 = ap length is in omega (arith, two, one))
+      by_rows (a ∷ b ∷ []) is =
+          let first = first_linked k.own spares are a (b ∷ []) is in
+          let rest = last_linked (record k.own { rows = replaced_at a Foreign k.own.rows }) (record spares { rows = b ∷ [] }) first b [] refl in
+          rw is rest
+      by_rows (a ∷ b ∷ c ∷ rows) is = absurd (let long : length spares.rows ≡ suc (suc (suc (length rows))) = ap length is in let two' = few in omega (arith, long, two'))
+
   -- what follows where the exchange that decides has won
   abbrev WonTo : Plan → Moved → Type 0
   WonTo plan now =
-      Follows actor k (learn k (wanted_at plan spares state.Link) (answer.Whether true)) (bare_at limits plan state.Link) (answer.Whether true) (bare_at limits plan now.state) now.spares now.end
+      Follows actor k (learn k (wanted_at limits plan spares state.Link) (answer.Whether true)) (bare_at limits plan state.Link) (answer.Whether true) (bare_at limits plan now.state) now.spares now.end
 
-  pub won_at : (plan : Plan) → AreEnough plan spares → IsTarget limits plan → MayChange actor k plan → KeepsSpare plan spares.pid
-      → MayExchange actor k (slot_of plan) (head_of plan) (linked_number plan spares) → StandsReady plan spares k.own → IsPlaced plan spares k.own
-      → Fits limits k (wanted_at plan spares state.Link) (answer.Whether true)
+  pub won_at : (plan : Plan) → AreEnough limits plan spares → IsTarget limits plan → MayChange actor k plan → KeepsSpare plan spares.pid
+      → MayExchange actor k (slot_of plan) (head_of plan) (linked_number limits plan spares) → StandsReady limits plan spares k.own → IsPlaced limits plan spares k.own
+      → Fits limits k (wanted_at limits plan spares state.Link) (answer.Whether true)
       → WonTo plan (decided_by plan spares true)
   won_at (Install pid head content) enough target change keeps may ready placed fits =
-      let row = (own_last k.own.rows spares.rows enough.rows room.few are.rows).1 in
+      let row = (own_last k.own.rows spares.rows enough.rows are.rows).1 in
       let other = over_other k limits pid head (last_row spares) target.page target.linked row fits in
       rw (over_learnt k pid head (last_row spares) content target.page row other placed) (over_row pid head content enough.rows target keeps may ready placed)
   won_at (Split pid plan) enough target change keeps may ready placed fits =
-      let row = (own_last k.own.rows spares.rows (let two = enough.rows in omega (arith, two)) room.few are.rows).1 in
-      let other = over_other k limits pid plan.next (last_row spares) target.page target.linked row fits in
+      let row = (split_own limits.is_large k.own.rows spares (let two = enough.rows in omega (arith, two)) are.rows).1 in
+      let other = over_other k limits pid plan.next (split_row limits.is_large spares) target.page target.linked row fits in
       let is = some_pid spares.pid (enough.pid refl) in
-      let rows = rows_two spares.rows enough.rows room.few in
-      let first = first_linked k.own spares are (first_row spares) (last_row spares ∷ []) rows.0 in
-      let rest = last_linked (record k.own { rows = replaced_at (first_row spares) Foreign k.own.rows }) (record spares { rows = last_row spares ∷ [] }) first (last_row spares) [] refl in
-      let bare = page_linked (record k.own { rows = replaced_at (last_row spares) Foreign (replaced_at (first_row spares) Foreign k.own.rows) })
-      (record spares { rows = [] }) rest (pid_of spares) is in
-      rw (over_learnt k pid plan.next (last_row spares) (kind.Split (split_to plan (pid_of spares))) target.page row other placed, ready.0, rows.1) (record {
+      let bare = page_linked (record k.own { rows = replaced_at (split_row limits.is_large spares) Foreign (replaced_at (split_base_row limits.is_large spares) Foreign k.own.rows) })
+      (record spares { rows = take (length spares.rows - 2) spares.rows }) (split_linked enough.rows limits.is_large refl) (pid_of spares) is in
+      rw (over_learnt k pid plan.next (split_row limits.is_large spares) (kind.Split (split_to plan (pid_of spares))) target.page row other placed, ready.0) (record {
         like = record { inside = refl; read = refl; command = refl; linked_now = refl };
         rest = record { are = bare; unset = unset_then k.own spares (pid_of spares) Other are is (λ row e. cc) };
         decided = (refl, refl);
       })
   won_at (Unlink pid head unterm removal) enough target change keeps may ready placed fits =
-      let row = (own_last k.own.rows spares.rows enough.rows room.few are.rows).1 in
+      let row = (own_last k.own.rows spares.rows enough.rows are.rows).1 in
       let other = over_other k limits pid head (last_row spares) target.0.page target.0.linked row fits in
       rw (over_learnt k pid head (last_row spares) (kind.Unterm unterm) target.0.page row other placed) (term_out pid head unterm removal enough.rows change keeps ready)
   won_at (Root left root) enough target change keeps may ready placed fits =
       let is = some_pid spares.pid (enough.pid refl) in
       let front = take (length spares.rows - 1) spares.rows in
-      let linked = last_linked k.own spares are (last_row spares) front (rows_last spares.rows enough.rows room.few) in
+      let linked = last_linked k.own spares are (last_row spares) front (rows_last spares.rows enough.rows) in
       rw (rooted_learnt k left (pid_of spares) (last_row spares) ready.0) (record {
         like = record { inside = refl; read = refl; command = refl; linked_now = refl };
         rest = record {

@@ -1,5 +1,5 @@
 -- How many steps a change takes at most, but for those that a cause pays for.
-use Rattle.std.specs.Prelude.{◌≡◌, ◌<◌, ◌-◌, ◌+◌, ◌*◌, ◌⊎◌, ℕ, suc, length, Option, Some, None, Bool, true, false, ⊤}
+use Rattle.std.specs.Prelude.{◌≡◌, ◌<◌, ◌-◌, ◌+◌, ◌*◌, ◌⊎◌, ℕ, suc, List, if◌then◌else◌, Option, Some, None, Bool, true, false, ⊤}
 use Rattle.tree_limits.specs.declared.limits.Limits.{Limits}
 use Rattle.bw_model.specs.declared.step.Answer.{Answer}
 use Rattle.bw_model.specs.declared.step.Answer.TheVariants.{Whether}
@@ -15,7 +15,8 @@ use Rattle.structure_changes.specs.declared.plan.Plan.{Plan}
 use Rattle.structure_changes.specs.declared.plan.Plan.TheVariants.{Split}
 use Rattle.change_machine.specs.declared.taking.Taking.TheVariants.{Take}
 use Rattle.change_machine.specs.Changes.{Change, wanted_step}
-use Rattle.structure_changes.specs.Plans.{clears, head_of, needs_pid, rows_needed, slot_of}
+use Rattle.structure_changes.specs.Plans.{clears, head_of, needs_pid, slot_of}
+use Rattle.change_machine.specs.Moves.{has_rows, lacks_lower}
 use Rattle.change_machine.specs.Spares.{Spares}
 use Rattle.change_machine.specs.Taking.{most_reads, number_left, recalled_words}
 
@@ -25,13 +26,16 @@ pids_missing false pid = 0
 pids_missing true None = 1
 pids_missing true (Some pid) = 0
 
-abbrev pub numbers_missing : Plan → Spares → ℕ
-numbers_missing plan spares = pids_missing (needs_pid plan) spares.pid + (rows_needed plan - length spares.rows)
+abbrev pub rows_missing : Limits → Plan → List ℕ → ℕ
+rows_missing limits plan rows = if has_rows limits plan rows then 0 else if lacks_lower limits plan rows then 2 else 1
+
+abbrev pub numbers_missing : Limits → Plan → Spares → ℕ
+numbers_missing limits plan spares = pids_missing (needs_pid plan) spares.pid + rows_missing limits plan spares.rows
 
 -- How many steps a change takes at most from a state on, with the one that it has asked for: after a lost change that is undone,
 -- and after a page is cleared, so many are to be left.
 abbrev pub steps_left_at : Limits → ℕ → Plan → Spares → State → ℕ
-steps_left_at limits after plan spares (Taking taking) = number_left limits taking + (most_reads limits * (numbers_missing plan spares - 1) + 5)
+steps_left_at limits after plan spares (Taking taking) = number_left limits taking + (most_reads limits * (numbers_missing limits plan spares - 1) + 5)
 steps_left_at limits after plan spares Base = 4
 steps_left_at limits after plan spares Ready = 3
 steps_left_at limits after plan spares Place = 2
@@ -52,7 +56,7 @@ worth limits after = few_steps limits + after
 
 -- The slot of the exchange that decides was read as what it is to hold; a number to take was read as free.
 abbrev pub RecallsAt : Recalled → Plan → State → Type 0
-RecallsAt r plan (Taking (Take kind number whole)) = WasHead r (slot_of plan) (head_of plan) × WasFree (recalled_words r kind) number
+RecallsAt r plan (Taking (Take kind from number whole)) = WasHead r (slot_of plan) (head_of plan) × WasFree (recalled_words r kind) number
 RecallsAt r plan Undo = ⊤
 RecallsAt r plan Clear = ⊤
 RecallsAt r plan state = WasHead r (slot_of plan) (head_of plan)

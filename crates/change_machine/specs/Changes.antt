@@ -1,5 +1,5 @@
 -- A change of the tree: the step that it wants, what its actor knows meanwhile, and how it ends.
-use Rattle.std.specs.Prelude.{◌≡◌, ◌<◌, ◌≤◌, ◌⊎◌, ℕ, length, Bool, Option, Some, None, true, false, is_some, ⊤}
+use Rattle.std.specs.Prelude.{◌≡◌, ◌<◌, ◌≤◌, ◌⊎◌, ◌/◌, ℕ, length, if◌then◌else◌, Bool, Option, Some, None, true, false, is_some, ⊤}
 use Rattle.std.specs.Option.{ForSome}
 use Rattle.tree_limits.specs.declared.limits.Limits.{Limits}
 use Rattle.bw_model.specs.declared.step.Step.{Step as StepOf}
@@ -24,8 +24,9 @@ use Rattle.structure_changes.specs.declared.plan.Plan.{Plan}
 use Rattle.structure_changes.specs.declared.plan.Plan.TheVariants.{Install, Split, Root, Unlink}
 use Rattle.change_machine.specs.declared.taking.Kind.{Kind}
 use Rattle.change_machine.specs.declared.taking.Kind.TheVariants.{Pid, Row}
-use Rattle.change_machine.specs.Spares.{AreTheSpares, AreUnset, HaveRoom, Rest, Spares, first_row, last_row, pid_of}
-use Rattle.change_machine.specs.Taking.{AllFull, AreFull, IsSoundTaking, kind_of, wanted_number, word_read}
+use Rattle.change_machine.specs.Moves.{has_rows, lower_from, upper_from, wanted_from}
+use Rattle.change_machine.specs.Spares.{AreTheSpares, AreUnset, HaveRoom, Rest, Spares, last_row, pid_of, second_row}
+use Rattle.change_machine.specs.Taking.{AllFull, AreFull, IsSoundTaking, from_of, kind_of, wanted_number, word_read}
 
 -- what is to be linked, how far it has come, and a record that was made to be placed
 pub record Change : Type 0 where
@@ -35,21 +36,41 @@ pub record Change : Type 0 where
   pub made : Record
 
 -- A number of the kind is needed next: first a PID, then rows.
-abbrev pub IsNeededNext : Plan → Spares → Kind → Type 0
-IsNeededNext plan spares Pid = (needs_pid plan ≡ true) × (spares.pid ≡ None)
-IsNeededNext plan spares Row = (length spares.rows < rows_needed plan) × (needs_pid plan ≡ true → is_some spares.pid ≡ true)
+abbrev pub IsNeededNext : Limits → Plan → Spares → Kind → Type 0
+IsNeededNext limits plan spares Pid = (needs_pid plan ≡ true) × (spares.pid ≡ None)
+IsNeededNext limits plan spares Row = (has_rows limits plan spares.rows ≡ false) × (needs_pid plan ≡ true → is_some spares.pid ≡ true)
+
+-- the word from which on a number of the kind is looked for
+abbrev pub needed_from : Limits → Plan → Spares → Kind → ℕ
+needed_from limits plan spares Pid = 0
+needed_from limits plan spares Row = wanted_from limits plan spares.rows / 64
 
 -- Nothing is needed still.
-pub record AreEnough (plan : Plan) (spares : Spares) : Type 0 where
+pub record AreEnough (limits : Limits) (plan : Plan) (spares : Spares) : Type 0 where
   pub pid : needs_pid plan ≡ true → is_some spares.pid ≡ true
   pub rows : rows_needed plan ≤ length spares.rows
+  pub upper : upper_from limits plan ≤ last_row spares
+  pub lower : lower_from limits plan ≤ second_row spares
 
--- the row of the new page's base
-abbrev pub base_row : Plan → Spares → ℕ
-base_row (Install pid head content) spares = last_row spares
-base_row (Split pid plan) spares = first_row spares
-base_row (Root left root) spares = last_row spares
-base_row (Unlink pid head unterm removal) spares = last_row spares
+-- The row of a split's base and that of its record: in a large tree the base, which takes more words, has the last one, and else the record.
+abbrev pub split_base_row : Bool → Spares → ℕ
+split_base_row large spares = if large then last_row spares else second_row spares
+
+abbrev pub split_row : Bool → Spares → ℕ
+split_row large spares = if large then second_row spares else last_row spares
+
+-- the row of the new page's base, and that of the record that comes over a page's newest row
+abbrev pub base_row : Limits → Plan → Spares → ℕ
+base_row limits (Split pid plan) spares = split_base_row limits.is_large spares
+base_row limits (Install pid head content) spares = last_row spares
+base_row limits (Root left root) spares = last_row spares
+base_row limits (Unlink pid head unterm removal) spares = last_row spares
+
+abbrev pub record_row : Limits → Plan → Spares → ℕ
+record_row limits (Split pid plan) spares = split_row limits.is_large spares
+record_row limits (Install pid head content) spares = last_row spares
+record_row limits (Root left root) spares = last_row spares
+record_row limits (Unlink pid head unterm removal) spares = last_row spares
 
 -- the record that is to be placed, where a plan has it as such, or where one was made
 abbrev pub placed_in : Plan → Record → Record
@@ -59,24 +80,24 @@ placed_in (Root left root) made = made
 placed_in (Unlink pid head unterm removal) made = made
 
 -- the number that comes into the slot whose exchange decides
-abbrev pub linked_number : Plan → Spares → ℕ
-linked_number (Install pid head content) spares = last_row spares
-linked_number (Split pid plan) spares = last_row spares
-linked_number (Root left root) spares = pid_of spares
-linked_number (Unlink pid head unterm removal) spares = last_row spares
+abbrev pub linked_number : Limits → Plan → Spares → ℕ
+linked_number limits (Install pid head content) spares = last_row spares
+linked_number limits (Split pid plan) spares = split_row limits.is_large spares
+linked_number limits (Root left root) spares = pid_of spares
+linked_number limits (Unlink pid head unterm removal) spares = last_row spares
 
 -- the step that a state has asked for
-abbrev pub wanted_at : Plan → Spares → State → StepOf Record
-wanted_at plan spares (Taking taking) = wanted_number taking
-wanted_at plan spares Base = step.Place (base_row plan spares) (new_base plan)
-wanted_at plan spares ToReady = step.Exchange (pid_of spares) 0 (base_row plan spares)
-wanted_at plan spares Place = step.Place (last_row spares) (new_record plan (pid_of spares))
-wanted_at plan spares Link = step.Exchange (slot_of plan) (head_of plan) (linked_number plan spares)
-wanted_at plan spares Undo = step.Exchange (pid_of spares) (base_row plan spares) 0
-wanted_at plan spares Clear = step.Exchange (cleared_page plan) (cleared_row plan) 0
+abbrev pub wanted_at : Limits → Plan → Spares → State → StepOf Record
+wanted_at limits plan spares (Taking taking) = wanted_number taking
+wanted_at limits plan spares Base = step.Place (base_row limits plan spares) (new_base plan)
+wanted_at limits plan spares ToReady = step.Exchange (pid_of spares) 0 (base_row limits plan spares)
+wanted_at limits plan spares Place = step.Place (record_row limits plan spares) (new_record plan (pid_of spares))
+wanted_at limits plan spares Link = step.Exchange (slot_of plan) (head_of plan) (linked_number limits plan spares)
+wanted_at limits plan spares Undo = step.Exchange (pid_of spares) (base_row limits plan spares) 0
+wanted_at limits plan spares Clear = step.Exchange (cleared_page plan) (cleared_row plan) 0
 
 abbrev pub wanted_step : Change → Spares → StepOf Record
-wanted_step change spares = wanted_at change.plan spares change.state
+wanted_step change spares = wanted_at change.limits change.plan spares change.state
 
 -- A change reads words of free bits, takes numbers, places records and exchanges slots, and does nothing else.
 abbrev pub IsOfChange : StepOf Record → Type 0
@@ -134,12 +155,13 @@ IsSpellablePlan (Unlink pid head unterm removal) = IsSpellable (kind.Unterm unte
 -- Such a plan has such a state: only a new page has a base, only what comes over a page's newest row is placed for it, and only
 -- what takes a page's term out clears that page.
 abbrev pub IsSoundState : Limits → Plan → Spares → State → Type 0
-IsSoundState limits plan spares (Taking taking) = IsSoundTaking limits taking × IsNeededNext plan spares (kind_of taking)
-IsSoundState limits plan spares Base = AreEnough plan spares × (needs_pid plan ≡ true)
-IsSoundState limits plan spares ToReady = AreEnough plan spares × (needs_pid plan ≡ true)
-IsSoundState limits plan spares Place = AreEnough plan spares × (0 < slot_of plan)
-IsSoundState limits plan spares Link = AreEnough plan spares
-IsSoundState limits plan spares Undo = AreEnough plan spares × (needs_pid plan ≡ true)
+IsSoundState limits plan spares (Taking taking) =
+    IsSoundTaking limits taking × IsNeededNext limits plan spares (kind_of taking) × (from_of taking ≡ needed_from limits plan spares (kind_of taking))
+IsSoundState limits plan spares Base = AreEnough limits plan spares × (needs_pid plan ≡ true)
+IsSoundState limits plan spares ToReady = AreEnough limits plan spares × (needs_pid plan ≡ true)
+IsSoundState limits plan spares Place = AreEnough limits plan spares × (0 < slot_of plan)
+IsSoundState limits plan spares Link = AreEnough limits plan spares
+IsSoundState limits plan spares Undo = AreEnough limits plan spares × (needs_pid plan ≡ true)
 IsSoundState limits plan spares Clear = clears plan ≡ true
 
 -- A change and the spares of its actor.
@@ -200,31 +222,31 @@ KeepsSpare (Unlink page head unterm removal) pid = KeepsSparePage (kind.Unterm u
 KeepsSpare plan pid = ⊤
 
 -- The new page has its base in its slot; where the plan brings none, no own page has a row in its slot.
-abbrev pub StandsReady : Plan → Spares → Belongings → Type 0
-StandsReady (Install pid head content) spares own = AreUnset own
-StandsReady (Unlink pid head unterm removal) spares own = AreUnset own
-StandsReady plan spares own = (own.pages (pid_of spares) ≡ Ready (base_row plan spares)) × (own.rows (base_row plan spares) ≡ Written (new_base plan))
+abbrev pub StandsReady : Limits → Plan → Spares → Belongings → Type 0
+StandsReady limits (Install pid head content) spares own = AreUnset own
+StandsReady limits (Unlink pid head unterm removal) spares own = AreUnset own
+StandsReady limits plan spares own = (own.pages (pid_of spares) ≡ Ready (base_row limits plan spares)) × (own.rows (base_row limits plan spares) ≡ Written (new_base plan))
 
 -- The record is placed that comes over a page's newest row.
-abbrev pub IsPlaced : Plan → Spares → Belongings → Type 0
-IsPlaced (Root left root) spares own = ⊤
-IsPlaced plan spares own = own.rows (last_row spares) ≡ Written (new_record plan (pid_of spares))
+abbrev pub IsPlaced : Limits → Plan → Spares → Belongings → Type 0
+IsPlaced limits (Root left root) spares own = ⊤
+IsPlaced limits plan spares own = own.rows (record_row limits plan spares) ≡ Written (new_record plan (pid_of spares))
 
 -- by the state of a change: what its actor knows
-abbrev pub ShowsState : Plan → Spares → Knowledge → State → Type 0
-ShowsState plan spares k (Taking taking) = AreUnset k.own × AreFull k.asked (kind_of taking) (word_read taking)
-ShowsState plan spares k Base = AreUnset k.own
-ShowsState plan spares k ToReady = AreUnset k.own × (k.own.rows (base_row plan spares) ≡ Written (new_base plan))
-ShowsState plan spares k Place = StandsReady plan spares k.own
-ShowsState plan spares k Link = StandsReady plan spares k.own × IsPlaced plan spares k.own
-ShowsState plan spares k Undo = StandsReady plan spares k.own
-ShowsState plan spares k Clear = AreUnset k.own × (k.own.pages (cleared_page plan) ≡ Gone)
+abbrev pub ShowsState : Limits → Plan → Spares → Knowledge → State → Type 0
+ShowsState limits plan spares k (Taking taking) = AreUnset k.own × AreFull k.asked (kind_of taking) (from_of taking) (word_read taking)
+ShowsState limits plan spares k Base = AreUnset k.own
+ShowsState limits plan spares k ToReady = AreUnset k.own × (k.own.rows (base_row limits plan spares) ≡ Written (new_base plan))
+ShowsState limits plan spares k Place = StandsReady limits plan spares k.own
+ShowsState limits plan spares k Link = StandsReady limits plan spares k.own × IsPlaced limits plan spares k.own
+ShowsState limits plan spares k Undo = StandsReady limits plan spares k.own
+ShowsState limits plan spares k Clear = AreUnset k.own × (k.own.pages (cleared_page plan) ≡ Gone)
 
 pub record Shows (actor : ℕ) (change : Change) (spares : Spares) (k : Knowledge) : Type 0 where
   pub may : MayChange actor k change.plan
   pub keeps : KeepsSpare change.plan spares.pid
   pub are : AreTheSpares k.own spares
-  pub stands : ShowsState change.plan spares k change.state
+  pub stands : ShowsState change.limits change.plan spares k change.state
 
 -- Something is known that the answer to the step wanted last fits.
 pub record FitsChange (change : Change) (spares : Spares) (told : Answer Record) : Type 0 where
@@ -248,7 +270,7 @@ linked_after plan end linked = linked
 
 -- A number of the kind is needed next, and each word of it was read as 0.
 abbrev pub LacksNumber : Limits → Plan → Spares → Knowledge → Kind → Type 0
-LacksNumber limits plan spares k which = IsNeededNext plan spares which × AllFull limits k.asked which
+LacksNumber limits plan spares k which = IsNeededNext limits plan spares which × AllFull limits k.asked which
 
 -- the state from which a change wins
 abbrev pub last_state : Plan → State

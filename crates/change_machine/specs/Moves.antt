@@ -1,9 +1,11 @@
 -- Where an answer leads a change.
-use Rattle.std.specs.Prelude.{◌++◌, ◌-◌, ℕ, [], ◌∷◌, length, take, ltb, Bool, true, false, not, ◌&&◌, is_some, if◌then◌else◌, Option, Some, None}
+use Rattle.std.specs.Prelude.{◌++◌, ◌-◌, ◌/◌, ℕ, suc, List, [], ◌∷◌, length, take, ltb, Bool, true, false, not, ◌&&◌, ◌||◌, is_some, if◌then◌else◌, Option, Some, None}
 use Rattle.tree_limits.specs.declared.limits.Limits.{Limits}
 use Rattle.bw_model.specs.declared.step.Answer.{Answer}
 use Rattle.bw_model.specs.declared.step.Answer.TheVariants.{Whether}
+use Rattle.deltas.specs.Sizes.{row_from}
 use Rattle.deltas.specs.declared.record.Record.{Record}
+use Rattle.deltas.specs.declared.record.Record.TheVariants as kind
 use Rattle.change_machine.specs.declared.change.End.{End}
 use Rattle.change_machine.specs.declared.change.End.TheVariants as end
 use Rattle.change_machine.specs.declared.change.State.{State}
@@ -14,8 +16,9 @@ use Rattle.change_machine.specs.declared.taking.Found.{Found}
 use Rattle.change_machine.specs.declared.taking.Found.TheVariants.{Not, Taken, Full}
 use Rattle.change_machine.specs.declared.taking.Kind.{Kind}
 use Rattle.change_machine.specs.declared.taking.Kind.TheVariants.{Pid, Row}
-use Rattle.structure_changes.specs.Plans.{clears, head_of, needs_pid, rows_needed}
-use Rattle.change_machine.specs.Spares.{Spares}
+use Rattle.structure_changes.specs.Plans.{clears, head_of, needs_pid, new_base, rows_needed}
+use Rattle.structure_changes.specs.Splits.{split_to}
+use Rattle.change_machine.specs.Spares.{Spares, last_of, second_of}
 use Rattle.change_machine.specs.Taking.{begun_at, found_after}
 
 -- where a change stands, with these spares, and how it ended, if it has
@@ -37,11 +40,32 @@ after_ready (Split pid plan) = Place
 after_ready (Root left root) = Link
 after_ready (Unlink pid head unterm removal) = Place
 
+-- the first row that has room for the plan's base, or for its record where it brings no new page; and for a split's record beside its base
+abbrev pub upper_from : Limits → Plan → ℕ
+upper_from limits plan = row_from limits (new_base plan)
+
+abbrev pub lower_from : Limits → Plan → ℕ
+lower_from limits (Split pid plan) = row_from limits (kind.Split (split_to plan 0))
+lower_from limits plan = 0
+
+-- Two rows are needed, and there is none, or the last one has no room for a split's record.
+abbrev pub lacks_lower : Limits → Plan → List ℕ → Bool
+lacks_lower limits plan rows = ltb (suc (length rows)) (rows_needed plan) || ltb (last_of rows) (lower_from limits plan)
+
+-- There are rows enough, and the last one, and the one before it, have room.
+abbrev pub has_rows : Limits → Plan → List ℕ → Bool
+has_rows limits plan rows =
+    not (ltb (length rows) (rows_needed plan)) && (not (ltb (last_of rows) (upper_from limits plan)) && not (ltb (second_of rows) (lower_from limits plan)))
+
+-- the first row that will do as the next one to be taken
+abbrev pub wanted_from : Limits → Plan → List ℕ → ℕ
+wanted_from limits plan rows = if lacks_lower limits plan rows then lower_from limits plan else upper_from limits plan
+
 -- First a PID is taken, if one is missing, then rows.
 abbrev pub first_state : Limits → Plan → Spares → State
 first_state limits plan spares =
-    if needs_pid plan && not (is_some spares.pid) then Taking (begun_at limits Pid (head_of plan)) else if ltb (length spares.rows) (rows_needed plan) then
-    Taking (begun_at limits Row (head_of plan)) else after_taking plan
+    if needs_pid plan && not (is_some spares.pid) then Taking (begun_at limits Pid 0 (head_of plan)) else if has_rows limits plan spares.rows then after_taking plan else
+    Taking (begun_at limits Row (wanted_from limits plan spares.rows / 64) (head_of plan))
 
 -- A number that was taken is the last spare of its kind.
 abbrev pub with_number : Kind → ℕ → Spares → Spares

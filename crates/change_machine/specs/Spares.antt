@@ -1,5 +1,5 @@
 -- What an actor has taken and not linked.
-use Rattle.std.specs.Prelude.{◌≡◌, ◌==◌, ◌<◌, ◌≤◌, ◌-◌, ℕ, List, [], ◌∷◌, Option, Some, false, length, get_or, unwrap_or, All, IfSome, ⊤}
+use Rattle.std.specs.Prelude.{◌≡◌, ◌==◌, ◌<◌, ◌≤◌, ◌-◌, ℕ, zero, suc, List, [], ◌∷◌, Option, Some, false, length, get_or, unwrap_or, All, IfSome, ⊤}
 use Rattle.std.specs.List.{Contains}
 use Rattle.tree_limits.specs.declared.limits.Limits.{Limits}
 use Rattle.deltas.specs.Spellable.{IsPid}
@@ -11,21 +11,42 @@ pub record Spares : Type 0 where
   pub pid : Option ℕ
   pub rows : List ℕ
 
--- the spare PID, the first row and the last one; 0 where there is none
+-- the spare PID, the last row and the one before it; 0 where there is none
 abbrev pub pid_of : Spares → ℕ
 pid_of spares = unwrap_or spares.pid 0
 
-abbrev pub first_row : Spares → ℕ
-first_row spares = get_or spares.rows 0 0
+abbrev pub last_of : List ℕ → ℕ
+last_of rows = get_or rows (length rows - 1) 0
+
+abbrev pub second_of : List ℕ → ℕ
+second_of rows = get_or rows (length rows - 2) 0
 
 abbrev pub last_row : Spares → ℕ
-last_row spares = get_or spares.rows (length spares.rows - 1) 0
+last_row spares = last_of spares.rows
 
--- The spares are numbers that there are; there are two rows at most.
+abbrev pub second_row : Spares → ℕ
+second_row spares = second_of spares.rows
+
+-- the least row at a place among the spares: only the first one may be narrow, and the fourth is wide
+abbrev pub least_at : Limits → ℕ → ℕ
+least_at limits zero = 0
+least_at limits (suc zero) = limits.narrow_rows
+least_at limits (suc (suc zero)) = limits.narrow_rows
+least_at limits (suc (suc (suc place))) = limits.wide_from
+
+-- From this place on each row is at least as wide as its place asks.
+abbrev pub AreStacked : Limits → ℕ → List ℕ → Type 0
+AreStacked limits place [] = ⊤
+AreStacked limits place (row ∷ rows) = (least_at limits place ≤ row) × AreStacked limits (suc place) rows
+
+-- The spares are numbers that there are. Where all rows have one width there are two rows at most, and else four: a row that is taken where the
+-- last one is too narrow is wider than that one.
 pub record HaveRoom (limits : Limits) (spares : Spares) : Type 0 where
   pub pid : IfSome spares.pid (λ pid. IsPid pid × (pid < limits.pids))
   pub rows : All (λ row. row < limits.rows) spares.rows
-  pub few : length spares.rows ≤ 2
+  pub few : length spares.rows ≤ 4
+  pub alike : 2 < length spares.rows → 0 < limits.wide_from
+  pub stacked : AreStacked limits 0 spares.rows
 
 -- The row is none of these.
 abbrev pub IsNoneOf : ℕ → List ℕ → Type 0

@@ -10,7 +10,7 @@ ghost use Rattle.traces.specs.discipline.Knowledge.{Knowledge, learn};
 ghost use Rattle.traces.specs.discipline.Recalled.{Recalled, WasHead};
 ghost use Rattle.change_machine.specs.Bounded.{IsApart, IsPidFrom, Recalls, Spends, few_steps, pid_taken, steps_left};
 ghost use Rattle.change_machine.specs.Changes.{Follows, IsMade, IsMadeAt, IsOfChange, IsSameChange, IsSoundChange, IsSpellablePlan, IsTarget, FitsChange};
-ghost use Rattle.change_machine.specs.Changes.{EndsByDeciding, KeepsSpare, MayChange, Shows, has_decided, at, base_row, linked_number, placed_in, wanted_step};
+ghost use Rattle.change_machine.specs.Changes.{EndsByDeciding, KeepsSpare, MayChange, Shows, has_decided, at, base_row, linked_number, placed_in, record_row, split_base_row, split_row, wanted_step};
 ghost use Rattle.structure_changes.specs.Plans.{head_of, slot_of};
 ghost use Rattle.change_machine.specs.Moves.{after_ready, decided_by, first_state, next_move, moved_by};
 ghost use Rattle.change_machine.specs.Outs.{TakesFresh, limbo_after};
@@ -19,6 +19,7 @@ ghost use Rattle.change_machine.specs.Taking.{found_after};
 ghost use Rattle.traces.specs.trace.Within.{IsWithin};
 
 use crate::Spares;
+use crate::needs::{has_rows, wanted_from};
 use crate::taking::{Found, Kind, Taking, went};
 use bw_model::{Limits, Step, Told};
 use deltas::{Record, Remove};
@@ -127,7 +128,7 @@ impl Change {
             State::Taking(taking) => taking.wanted(),
             State::Base => Step::Place(self.base_row(spares), self.placed()),
             State::Ready => Step::Exchange(spares.pid_or_0(), 0, self.base_row(spares)),
-            State::Place => Step::Place(spares.last_row(), self.placed()),
+            State::Place => Step::Place(self.record_row(spares), self.placed()),
             State::Link => Step::Exchange(
                 self.plan.slot(),
                 self.plan.head(),
@@ -165,10 +166,10 @@ impl Change {
         ensures pid { IsPidFrom spares.old.pid (pid_taken (wanted_step self.old spares.old) (answer_of told)) spares.new.pid }
         ensures spends { Spends self.old spares.old (answer_of told) self.new spares.new result }
         ensures decides { EndsByDeciding self.old.state self.new.state result }
-        ensures lowest { (kind : Kind) (word bits : ℕ) (whole : Bool) → self.old.state ≡ State.Taking (Taking.Bits kind word whole) → told ≡ Told.Number bits
-            → 0 < bits → self.new.state ≡ State.Taking (Taking.Take kind (64 * word + trailing_zeros w64 bits) whole) }
-        ensures again { (kind : Kind) (number : ℕ) (whole : Bool) → self.old.state ≡ State.Taking (Taking.Take kind number whole) → told ≡ Told.Whether false
-            → self.new.state ≡ State.Taking (Taking.Bits kind (number / 64) whole) }
+        ensures lowest { (kind : Kind) (from word bits : ℕ) (whole : Bool) → self.old.state ≡ State.Taking (Taking.Bits kind from word whole) → told ≡ Told.Number bits
+            → 0 < bits → self.new.state ≡ State.Taking (Taking.Take kind from (64 * word + trailing_zeros w64 bits) whole) }
+        ensures again { (kind : Kind) (from number : ℕ) (whole : Bool) → self.old.state ≡ State.Taking (Taking.Take kind from number whole) → told ≡ Told.Whether false
+            → self.new.state ≡ State.Taking (Taking.Bits kind from (number / 64) whole) }
     {
         let _ = &self.limits;
         self.move_on(spares, told)
@@ -282,22 +283,55 @@ impl Change {
 
     /// The row of the new page's base.
     fn base_row(&self, spares: &Spares) -> u32
-        ensures { result ≡ base_row self.now.plan spares.now }
+        ensures { result ≡ base_row self.now.limits self.now.plan spares.now }
     {
         match &self.plan {
-            Plan::Split { .. } => spares.first_row(),
+            Plan::Split { .. } => split_base_row(self.limits.is_large, spares),
+            Plan::Install { .. } | Plan::Root { .. } | Plan::Unlink { .. } => spares.last_row(),
+        }
+    }
+
+    /// The row of the record that comes over a page's newest row.
+    fn record_row(&self, spares: &Spares) -> u32
+        ensures { result ≡ record_row self.now.limits self.now.plan spares.now }
+    {
+        match &self.plan {
+            Plan::Split { .. } => split_row(self.limits.is_large, spares),
             Plan::Install { .. } | Plan::Root { .. } | Plan::Unlink { .. } => spares.last_row(),
         }
     }
 
     /// What comes into the slot whose exchange decides.
     fn linked_number(&self, spares: &Spares) -> u32
-        ensures { result ≡ linked_number self.now.plan spares.now }
+        ensures { result ≡ linked_number self.now.limits self.now.plan spares.now }
     {
         match &self.plan {
-            Plan::Install { .. } | Plan::Split { .. } | Plan::Unlink { .. } => spares.last_row(),
+            Plan::Install { .. } | Plan::Unlink { .. } => spares.last_row(),
+            Plan::Split { .. } => split_row(self.limits.is_large, spares),
             Plan::Root { .. } => spares.pid_or_0(),
         }
+    }
+}
+
+/// The row of a split's base: in a large tree the wider one of two.
+fn split_base_row(is_large: bool, spares: &Spares) -> u32
+    ensures { result ≡ split_base_row is_large spares.now }
+{
+    if is_large {
+        spares.last_row()
+    } else {
+        spares.second_row()
+    }
+}
+
+/// The row of a split's record.
+fn split_row(is_large: bool, spares: &Spares) -> u32
+    ensures { result ≡ split_row is_large spares.now }
+{
+    if is_large {
+        spares.second_row()
+    } else {
+        spares.last_row()
     }
 }
 
@@ -335,10 +369,11 @@ fn first_state(limits: &Limits, plan: &Plan, spares: &Spares) -> State
     ensures { result ≡ first_state limits.now plan.now spares.now }
 {
     if plan.needs_pid() && spares.pid().is_none() {
-        return State::Taking(Taking::begin(limits, Kind::Pid, plan.head()));
+        return State::Taking(Taking::begin(limits, Kind::Pid, 0, plan.head()));
     }
-    if spares.rows().len() < plan.rows_needed() {
-        return State::Taking(Taking::begin(limits, Kind::Row, plan.head()));
+    if !has_rows(limits, plan, spares) {
+        let from = wanted_from(limits, plan, spares) / 64;
+        return State::Taking(Taking::begin(limits, Kind::Row, from as u32, plan.head()));
     }
     match plan {
         Plan::Install { .. } | Plan::Unlink { .. } => State::Place,

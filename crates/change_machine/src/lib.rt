@@ -10,6 +10,7 @@
 
 mod change;
 mod change_laws;
+mod needs;
 mod spares;
 mod taking;
 

@@ -2,15 +2,15 @@
 ghost use Rattle.std.specs.Prelude.{◌≡◌, ◌<◌, [], None, length, get_or};
 ghost use Rattle.change_machine.specs.declared.spares.TheConstants.{MAX_SPARES};
 ghost use Rattle.change_machine.specs.Moves.{spares_left, with_number};
-ghost use Rattle.change_machine.specs.Spares.{first_row, last_row, pid_of};
+ghost use Rattle.change_machine.specs.Spares.{last_row, pid_of, second_row};
 
 use crate::taking::Kind;
 use arrayvec::ArrayVec;
 use std::marker::Model;
 use structure_changes::Plan;
 
-/// How many spare rows an actor has at most: as many as a split needs.
-pub const MAX_SPARES: usize = 2;
+/// How many spare rows an actor has at most: where all rows have one width as many as a split needs, 2.
+pub const MAX_SPARES: usize = 4;
 
 /// A PID at most and the rows that an actor took and has not linked: its change uses the last rows.
 #[derive(Drop)]
@@ -59,11 +59,11 @@ impl Spares {
         self.pid.unwrap_or(0)
     }
 
-    /// The first spare row, or 0.
-    pub(crate) fn first_row(&self) -> u32
-        ensures { result ≡ first_row self.now }
+    /// The spare row before the last one; the last one if it is alone, or 0.
+    pub(crate) fn second_row(&self) -> u32
+        ensures { result ≡ second_row self.now }
     {
-        self.row_at(0)
+        self.row_at(self.rows.len().saturating_sub(2))
     }
 
     /// The last spare row, or 0.

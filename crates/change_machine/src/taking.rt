@@ -1,10 +1,11 @@
-//! The taking of one free number: it reads words of free bits, and takes the lowest free number of the first word that has one.
-ghost use Rattle.std.specs.Prelude.{◌≡◌, ◌<◌, ◌*◌};
+//! The taking of one free number: it reads words of free bits, and takes the lowest free number of the first word that has one. A row may have to be
+//! wide enough: then the taking reads the words of rows as wide as that, and goes on among those of wider ones.
+ghost use Rattle.std.specs.Prelude.{◌≡◌, ◌<◌, ◌≤◌, ◌*◌};
 ghost use Rattle.bw_model.specs.Answers.{answer_of};
 ghost use Rattle.bw_model.specs.Lent.{step_of_loan};
 ghost use Rattle.bw_model.specs.declared.step.Answer.TheVariants.{Number};
 ghost use Rattle.traces.specs.discipline.Fitting.{FitsWord};
-ghost use Rattle.change_machine.specs.Taking.{FitsTaking, IsSoundFound, IsSoundTaking, TellsWhether, begun_at, count_of, first_word, found_after, wanted_number};
+ghost use Rattle.change_machine.specs.Taking.{FitsTaking, IsSoundFound, IsSoundTaking, TellsWhether, begun_at, count_of, first_word, found_after, from_of, wanted_number, words_end, words_until};
 
 use bw_model::{Limits, Step, Told};
 use deltas::Record;
@@ -21,16 +22,19 @@ pub enum Kind {
     Row,
 }
 
-/// Where a taking stands: each state is named by the step that it has asked for. It is whole where it began at word 0.
+/// Where a taking stands: each state is named by the step that it has asked for. It looks at words from word `from` on, and is whole where it
+/// began at that word.
 #[derive(Clone, Copy)]
 pub(crate) enum Taking {
     Bits {
         kind: Kind,
+        from: u32,
         word: u32,
         whole: bool,
     },
     Take {
         kind: Kind,
+        from: u32,
         number: u32,
         whole: bool,
     },
@@ -60,15 +64,17 @@ impl Kind {
 }
 
 impl Taking {
-    /// Where the taking of a number begins, for a change whose exchange expects `head` in its slot.
-    pub(crate) fn begin(limits: &Limits, kind: Kind, head: u32) -> Taking
-        ensures { result ≡ begun_at limits.now kind head }
+    /// Where the taking of a number from word `from` on begins, for a change whose exchange expects `head` in its slot.
+    pub(crate) fn begin(limits: &Limits, kind: Kind, from: u32, head: u32) -> Taking
+        requires there { 64 * from < count_of limits.now kind }
+        ensures { result ≡ begun_at limits.now kind from head }
     {
-        let word = first_word(limits, kind, head);
+        let word = first_word(limits, kind, from, head);
         Taking::Bits {
             kind,
+            from,
             word,
-            whole: word == 0,
+            whole: word == from,
         }
     }
 
@@ -93,12 +99,18 @@ impl Taking {
         requires told { FitsTaking limits.now self (answer_of told) }
         requires sound { IsSoundTaking limits.now self }
         ensures found { result ≡ found_after limits.now self (answer_of told) }
-        ensures sound { IsSoundFound limits.now result }
+        ensures sound { IsSoundFound limits.now (from_of self) result }
     {
         match self {
-            Taking::Bits { kind, word, whole } => choose(limits, kind, word, whole, told.number()),
+            Taking::Bits {
+                kind,
+                from,
+                word,
+                whole,
+            } => choose(limits, kind, from, word, whole, told.number()),
             Taking::Take {
                 kind,
+                from,
                 number,
                 whole,
             } => {
@@ -107,6 +119,7 @@ impl Taking {
                 }
                 Found::Not(Taking::Bits {
                     kind,
+                    from,
                     word: number / 64,
                     whole,
                 })
@@ -115,34 +128,70 @@ impl Taking {
     }
 }
 
-/// The word at which the taking of a number begins.
-fn first_word(limits: &Limits, kind: Kind, head: u32) -> u32
-    ensures { result ≡ first_word limits.now kind head }
+/// The word at which the taking of a number from word `from` on begins.
+fn first_word(limits: &Limits, kind: Kind, from: u32, head: u32) -> u32
+    requires there { 64 * from < count_of limits.now kind }
+    ensures { result ≡ first_word limits.now kind from head }
 {
     if !limits.is_large {
-        return 0;
+        return from;
     }
-    (u64::from(head) * SCATTER % (kind.count(limits) / 64)) as u32
+    let words = words_until(limits, kind, from) - u64::from(from);
+    from + (u64::from(head) * SCATTER % words) as u32
+}
+
+/// Where the words end among which the taking of a number from word `from` on begins.
+fn words_until(limits: &Limits, kind: Kind, from: u32) -> u64
+    requires there { 64 * from < count_of limits.now kind }
+    ensures until { result ≡ words_until limits.now kind from }
+    ensures some { from < result }
+    ensures few { 64 * result ≤ count_of limits.now kind }
+{
+    let word = u64::from(from);
+    if let Kind::Row = kind {
+        if word < limits.narrow_rows / 64 {
+            return limits.narrow_rows / 64;
+        }
+        if word < limits.wide_from / 64 {
+            return limits.wide_from / 64;
+        }
+    }
+    kind.count(limits) / 64
+}
+
+/// Where the words end that a taking reads before it begins anew, or is full.
+fn words_end(limits: &Limits, kind: Kind, from: u32, whole: bool) -> u64
+    requires there { 64 * from < count_of limits.now kind }
+    ensures end { result ≡ words_end limits.now kind from whole }
+    ensures few { 64 * result ≤ count_of limits.now kind }
+{
+    if !whole {
+        return words_until(limits, kind, from);
+    }
+    kind.count(limits) / 64
 }
 
 /// The lowest free number of a word of free bits is taken next; where there is none, the next word is read.
-fn choose(limits: &Limits, kind: Kind, word: u32, whole: bool, bits: u64) -> Found
+fn choose(limits: &Limits, kind: Kind, from: u32, word: u32, whole: bool, bits: u64) -> Found
+    requires from { from ≤ word }
     requires word { 64 * word < count_of limits.now kind }
     requires fits { FitsWord (count_of limits.now kind) word bits }
-    ensures found { result ≡ found_after limits.now (Taking.Bits kind word whole) (Number bits) }
-    ensures sound { IsSoundFound limits.now result }
+    ensures found { result ≡ found_after limits.now (Taking.Bits kind from word whole) (Number bits) }
+    ensures sound { IsSoundFound limits.now from result }
 {
     if bits != 0 {
         let number = 64 * word + bits.trailing_zeros();
         return Found::Not(Taking::Take {
             kind,
+            from,
             number,
             whole,
         });
     }
-    if u64::from(word) + 1 < kind.count(limits) / 64 {
+    if u64::from(word) + 1 < words_end(limits, kind, from, whole) {
         return Found::Not(Taking::Bits {
             kind,
+            from,
             word: word + 1,
             whole,
         });
@@ -152,7 +201,8 @@ fn choose(limits: &Limits, kind: Kind, word: u32, whole: bool, bits: u64) -> Fou
     }
     Found::Not(Taking::Bits {
         kind,
-        word: 0,
+        from,
+        word: from,
         whole: true,
     })
 }

@@ -4,4 +4,5 @@ pub mod Links
 pub mod Memory
 pub mod NamedPages
 pub mod Records
+pub mod Sizes
 pub mod Spellable

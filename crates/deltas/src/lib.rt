@@ -11,7 +11,9 @@
 mod applies;
 mod record;
 mod record_rows;
+mod sizes;
 
 pub use applies::apply;
 pub use record::{Delete, Hold, Merge, Put, Record, Remove, Split, Term, Unterm};
 pub use record_rows::RecordRows;
+pub use sizes::{base_row_from, link_row_from};

@@ -8,9 +8,10 @@ use Rattle.shell_lines.specs.declared.request.Language.TheVariants.{Weave}
 use Rattle.tree_picture.specs.declared.shape.Shape.{Shape}
 use Rattle.tree_picture.specs.Document.{IsWellFormed}
 use Rattle.tree_picture.specs.Elements.{document_text}
+use Rattle.tree_picture.specs.Items.{all_items}
 use Rattle.tree_picture.specs.Layout.{AreLaidOut}
 use Rattle.tree_picture.specs.Marks.{AreMarked}
-use Rattle.tree_picture.specs.Pages.{boxes_of, marks_of, pids_of, ranges_of}
+use Rattle.tree_picture.specs.Pages.{boxes_of, items_of, marks_of, pids_of, ranges_of, slots_of}
 use Rattle.tree_picture.specs.Pids.{all_pids}
 use Rattle.tree_picture.specs.Ranges.{all_ranges}
 use Rattle.bw_shell.specs.declared.refusal.Refusal.TheVariants.{Memory, NotOpened}
@@ -20,24 +21,29 @@ use Rattle.bw_shell.specs.Text.{lone_refusal_text, refused_text}
 use Rattle.bw_shell.specs.Turns.{Trace, IsOneMap, opening_trace}
 use Rattle.bw_shell.specs.Weave.{IsTranscriptFrom}
 
--- The pages among the shapes are exactly those of the side chains of the memory after the trace, level by level from the root's level
--- down, each from left to right, and each has its range in words, and is marked by how it stands to the level above. Their boxes lie in a sheet of this
--- width and height, each later one to the right or below. The texts of each box end in it (`PageBox`).
+-- The slots among the shapes are exactly those of the memory after the trace that aren't 0, each with what it has, in their order. The pages among the shapes are
+-- exactly those of the side chains of that memory, level by level from the root's level down, each from left to right, and each has its range in words, and is
+-- marked by how it stands to the level above. All items of their bases and merges are told in words, in that order. Their boxes lie in a sheet of this width and
+-- height, each later one to the right or below. The texts of each box end in it (`PageBox`).
 pub record IsShown (trace : Trace) (width height : ℕ) (shapes : List Shape) : Type 0 where
   pub scene : Scene
   pub stands : IsSceneOf trace.limits (memory_of trace.limits trace.entries) scene
   pub pages : pids_of shapes ≡ all_pids scene.levels
   pub ranges : ranges_of shapes ≡ all_ranges scene.levels
+  pub items : items_of shapes ≡ all_items scene.levels
+  pub slots : slots_of shapes ≡ scene.slots
   pub marks : AreMarked scene.root [] scene.levels (marks_of shapes)
   pub laid : AreLaidOut width height (boxes_of shapes)
 
--- The text is a well-formed document of that width and height, and of such shapes.
+-- The text is a well-formed document of that width and height, of some name and description, and of such shapes.
 pub record IsPictureOf (trace : Trace) (text : List ℕ) : Type 0 where
   pub width : ℕ
   pub height : ℕ
+  pub title : List ℕ
+  pub description : List ℕ
   pub shapes : List Shape
   pub shown : IsShown trace width height shapes
-  pub spells : text ≡ document_text width height shapes
+  pub spells : text ≡ document_text width height title description shapes
   pub well_formed : IsWellFormed text
 
 -- the picture, where it is drawn; else that there was no memory for it

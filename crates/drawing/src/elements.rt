@@ -4,13 +4,14 @@ ghost use Rattle.std.specs.List.{flat_map};
 ghost use Rattle.byte_streams.specs.Output.{Prints};
 ghost use Rattle.tree_picture.specs.Colours.{colour_text};
 ghost use Rattle.tree_picture.specs.Document.{attribute_text, element_text, escape, escaped_byte};
-ghost use Rattle.tree_picture.specs.Elements.{attribute, dashes, document_attributes, document_text, elements_of, line_element, mark_in, name_in, number};
-ghost use Rattle.tree_picture.specs.Elements.{range_in, weight, rectangle_attributes, rectangle_element, text_element};
+ghost use Rattle.tree_picture.specs.Elements.{attribute, dark_style, dashes, document_attributes, document_text, elements_of, head_elements, line_element, mark_in, name_in, number};
+ghost use Rattle.tree_picture.specs.Elements.{range_in, weight, rectangle_attributes, rectangle_element, slot_element, text_element, view_attribute, words_element};
 
 use byte_streams::Output;
 use itoa::Buffer;
 use tree_picture::{
-    Colour, INSET, Line, MARK_INSET, NAME_DROP, PageBox, RANGE_DROP, Rectangle, Shape, Text, Words,
+    Colour, INSET, Line, MARK_INSET, NAME_DROP, PageBox, Picture, RANGE_DROP, Rectangle, SLOT_DROP,
+    SLOT_INSET, Shape, SlotBox, Text, Words,
 };
 
 /// How a text looks.
@@ -42,7 +43,7 @@ fn show_byte<O: Output>(out: &mut O, byte: &u8)
 }
 
 /// What stands for bytes.
-fn show_escaped<O: Output>(out: &mut O, bytes: &[u8])
+pub fn show_escaped<O: Output>(out: &mut O, bytes: &[u8])
     ensures { Prints (O.state out.old) (O.state out.new) (escape bytes.now) }
 {
     for byte in bytes {
@@ -62,7 +63,7 @@ fn show_attribute<O: Output>(out: &mut O, name: &[u8], value: &[u8])
 }
 
 /// An attribute with a number.
-fn show_number_attribute<O: Output>(out: &mut O, name: &[u8], n: u32)
+fn show_number_attribute<O: Output>(out: &mut O, name: &[u8], n: u64)
     ensures { Prints (O.state out.old) (O.state out.new) (attribute_text (number name.now n)) }
 {
     let mut buffer = Buffer::new();
@@ -158,7 +159,7 @@ fn show_style<O: Output>(out: &mut O, style: TextStyle)
     ensures { Prints (O.state out.old) (O.state out.new) (flat_map attribute_text (number (codes "font-size") style.size
         ∷ attribute (codes "font-weight") (weight style.bold) ∷ attribute (codes "fill") (colour_text style.colour) ∷ [])) }
 {
-    show_number_attribute(out, b"font-size", u32::from(style.size));
+    show_number_attribute(out, b"font-size", u64::from(style.size));
     show_attribute(out, b"font-weight", weight_of(style.bold));
     show_colour(out, b"fill", style.colour);
 }
@@ -194,11 +195,11 @@ fn show_text<O: Output>(out: &mut O, text: &Text)
 }
 
 /// An attribute with a place: so far from a corner.
-fn show_place<O: Output>(out: &mut O, name: &[u8], corner: u32, inset: u32)
+fn show_place<O: Output>(out: &mut O, name: &[u8], corner: u64, inset: u64)
     ensures { Prints (O.state out.old) (O.state out.new) (attribute_text (number name.now (corner + inset))) }
 {
     let mut buffer = Buffer::new();
-    let place = u64::from(corner) + u64::from(inset);
+    let place = u128::from(corner) + u128::from(inset);
     show_attribute(out, name, buffer.format(place).as_bytes());
 }
 
@@ -206,8 +207,8 @@ fn show_place<O: Output>(out: &mut O, name: &[u8], corner: u32, inset: u32)
 fn show_label<O: Output>(
     out: &mut O,
     corner: &Rectangle,
-    inset: u32,
-    drop: u32,
+    inset: u64,
+    drop: u64,
     style: TextStyle,
     words: &[u8],
 )
@@ -270,6 +271,35 @@ fn show_page<O: Output>(out: &mut O, page: &PageBox)
     show_page_texts(out, page);
 }
 
+/// The identifier of a slot's box.
+fn show_slot_name<O: Output>(out: &mut O, number: u32)
+    ensures { Prints (O.state out.old) (O.state out.new) (attribute_text (attribute (codes "id") (codes "slot-" ++ decimal number))) }
+{
+    out.show(b" id=\"slot-");
+    show_digits(out, number);
+    out.show(b"\"");
+}
+
+fn show_slot_box<O: Output>(out: &mut O, slot: &SlotBox)
+    ensures { Prints (O.state out.old) (O.state out.new) (element_text (slot_element slot.now)) }
+{
+    out.show(b"<rect");
+    show_slot_name(out, slot.slot.number);
+    show_rectangle(out, &slot.rectangle);
+    out.show(b">");
+    out.show(b"</rect>\n");
+}
+
+/// A slot's box, and the words in it.
+fn show_slot<O: Output>(out: &mut O, slot: &SlotBox)
+    ensures { Prints (O.state out.old) (O.state out.new) (flat_map element_text (elements_of (Shape.Slot slot.now))) }
+{
+    show_slot_box(out, slot);
+    let plain = style(11, false, Colour::Ink);
+    let words = slot.words.as_slice();
+    show_label(out, &slot.rectangle, SLOT_INSET, SLOT_DROP, plain, words);
+}
+
 fn show_shape<O: Output>(out: &mut O, shape: &Shape)
     ensures { Prints (O.state out.old) (O.state out.new) (flat_map element_text (elements_of shape.now)) }
 {
@@ -277,6 +307,8 @@ fn show_shape<O: Output>(out: &mut O, shape: &Shape)
         Shape::Page(page) => show_page(out, page),
         Shape::Box(rectangle) => show_box(out, rectangle),
         Shape::Line(line) => show_line(out, line),
+        Shape::Item(text) => show_text(out, text),
+        Shape::Slot(slot) => show_slot(out, slot),
         Shape::Text(text) => show_text(out, text),
     }
 }
@@ -289,28 +321,88 @@ fn show_shapes<O: Output>(out: &mut O, shapes: &[Shape])
     }
 }
 
+/// A number in digits.
+fn show_decimal<O: Output>(out: &mut O, n: u64)
+    ensures { Prints (O.state out.old) (O.state out.new) (escape (decimal n)) }
+{
+    let mut buffer = Buffer::new();
+    show_escaped(out, buffer.format(n).as_bytes());
+}
+
+/// The attribute by which all of a document is seen, however large it is shown.
+fn show_view<O: Output>(out: &mut O, width: u64, height: u64)
+    ensures { Prints (O.state out.old) (O.state out.new) (attribute_text (view_attribute width height)) }
+{
+    out.show(b" viewBox=\"0 0 ");
+    show_decimal(out, width);
+    out.show(b" ");
+    show_decimal(out, height);
+    out.show(b"\"");
+}
+
 /// The attributes of a document.
-fn show_document_attributes<O: Output>(out: &mut O, width: u32, height: u32)
+fn show_document_attributes<O: Output>(out: &mut O, width: u64, height: u64)
     ensures { Prints (O.state out.old) (O.state out.new) (flat_map attribute_text (document_attributes width height)) }
 {
     show_attribute(out, b"xmlns", b"http://www.w3.org/2000/svg");
     show_number_attribute(out, b"width", width);
     show_number_attribute(out, b"height", height);
+    show_view(out, width, height);
     show_attribute(
         out,
         b"font-family",
         b"DejaVu Sans, Verdana, Helvetica, Arial, sans-serif",
     );
+    show_attribute(out, b"role", b"img");
 }
 
-/// A document of these shapes.
-pub fn show_document<O: Output>(out: &mut O, width: u32, height: u32, shapes: &[Shape])
-    ensures { Prints (O.state out.old) (O.state out.new) (document_text width height shapes.now) }
+/// The style of a document: its colours on a dark ground. Nothing in it is escaped.
+fn show_dark_style<O: Output>(out: &mut O)
+    ensures { Prints (O.state out.old) (O.state out.new) (element_text (words_element (codes "style") dark_style)) }
+{
+    out.show(b"<style>");
+    out.show(
+        b"@media (prefers-color-scheme: dark) {[fill='#ffffff']{fill:#0d1117}[fill='#1b1f24']{fill:#e6edf3}[stroke='#1b1f24']{stroke:#e6edf3}",
+    );
+    out.show(
+        b"[fill='#57606a']{fill:#9ba4ae}[stroke='#57606a']{stroke:#9ba4ae}[fill='#ddf4e4']{fill:#12361f}[fill='#dbe9ff']{fill:#16304f}",
+    );
+    out.show(
+        b"[fill='#ffe08a']{fill:#5a4500}[fill='#ffc9c4']{fill:#5e1f1b}[fill='#e4d4fa']{fill:#3d2a5c}",
+    );
+    out.show(
+        b"[stroke='#0a5ec2']{stroke:#58a6ff}[stroke='#1a7f37']{stroke:#3fb950}[stroke='#bc4c00']{stroke:#f0883e}[fill='#bc4c00']{fill:#f0883e}}",
+    );
+    out.show(b"</style>\n");
+}
+
+/// What stands in a document before its shapes.
+fn show_head<O: Output>(out: &mut O, title: &[u8], description: &[u8])
+    ensures { Prints (O.state out.old) (O.state out.new) (flat_map element_text (head_elements title.now description.now)) }
+{
+    out.show(b"<title>");
+    show_escaped(out, title);
+    out.show(b"</title>\n");
+    out.show(b"<desc>");
+    show_escaped(out, description);
+    out.show(b"</desc>\n");
+    show_dark_style(out);
+    out.show(b"<rect width=\"100%\" height=\"100%\" fill=\"#ffffff\"></rect>\n");
+}
+
+/// A document of this picture.
+pub fn show_document<O: Output>(out: &mut O, picture: &Picture)
+    ensures { Prints (O.state out.old) (O.state out.new) (document_text picture.now.width picture.now.height picture.now.title picture.now.description picture.now.shapes.items) }
 {
     out.show(b"<svg");
-    show_document_attributes(out, width, height);
+    show_document_attributes(out, picture.width, picture.height);
     out.show(b">");
     out.show(b"\n");
-    show_shapes(out, shapes);
+    show_head(
+        out,
+        picture.title.as_slice(),
+        picture.description.as_slice(),
+    );
+    show_shapes(out, picture.shapes.as_slice());
     out.show(b"</svg>\n");
 }

@@ -15,7 +15,7 @@ use step_core::Core;
 use tree_picture::{Picture, Scene, documents_are_well_formed, picture};
 
 /// What stands in a core, as a picture; refused for want of memory alone.
-fn picture_of(alloc: Global, core: &Core) -> Result<Picture, AllocError>
+pub fn picture_of(alloc: Global, core: &Core) -> Result<Picture, AllocError>
     ensures { IfOk result (λ picture. IsShown (trace_of core.now) picture.width picture.height picture.shapes.items) }
 {
     let scene = Scene::of(alloc, core.limits(), core.memory())?;
@@ -29,12 +29,7 @@ fn show_core<O: Output>(alloc: Global, core: &Core, out: &mut O) -> bool
     documents_are_well_formed();
     match picture_of(alloc, core) {
         Ok(picture) => {
-            show_document(
-                out,
-                picture.width,
-                picture.height,
-                picture.shapes.as_slice(),
-            );
+            show_document(out, &picture);
             true
         }
         Err(_) => {

@@ -1,4 +1,5 @@
 //! Jobs of commands, which the workers of a tree share.
+ghost use Rattle.std.specs.Prelude.{IfSome};
 ghost use Rattle.running_tree.specs.Trees.{AreSeatsOf};
 
 use bw_model::{Command, Key, Limits, Reply, Value};
@@ -47,14 +48,21 @@ fn ran<R: Threads + Wait + Sync>(
     }
 }
 
+/// A new tree, and its two seats.
+fn new_tree(alloc: Global) -> Option<(Tree, Vec<BwSeat>)>
+    ensures { IfSome result (λ made. AreSeatsOf made.0 made.1.items) }
+{
+    let limits = Limits::for_keys(2, 1000).ok()?;
+    opened(alloc, limits).ok()
+}
+
 /// The results of the jobs on a new tree, which two threads run, and its pairs at the end.
 fn done<R: Threads + Wait + Sync>(
     rt: &R,
     alloc: Global,
 ) -> Option<(Vec<JobResult>, Vec<(Key, Value)>)> {
-    let limits = Limits::for_keys(2, 1000).ok()?;
     let jobs = jobs(alloc).ok()?;
-    let (tree, seats) = opened(alloc, limits).ok()?;
+    let (tree, seats) = new_tree(alloc)?;
     let (results, seats) = ran(rt, alloc, &tree, seats, jobs);
     match tree.close(alloc, seats) {
         Ok(pairs) => Some((results?, pairs)),

@@ -18,7 +18,7 @@ use structure_changes::{Plan, SplitPlan};
 
 /// What is planned.
 #[derive(Clone, Copy)]
-enum Planned {
+pub(crate) enum Planned {
     Install,
     Split,
     Root,
@@ -27,7 +27,7 @@ enum Planned {
 
 /// A change: what is planned, how many PIDs and rows are free, whether the exchange that decides wins, the steps, how it ends, and
 /// the PID and the rows that it leaves to the next one.
-type Case = (
+pub(crate) type Case = (
     Planned,
     (u8, u8, bool),
     &'static str,
@@ -40,7 +40,7 @@ type Log = ArrayString<256>;
 
 /// Which two numbers may be free: 3 and 5, or the last two.
 #[derive(Clone, Copy)]
-enum Free {
+pub(crate) enum Free {
     First,
     Last,
 }
@@ -218,7 +218,7 @@ fn plan_of(limits: &Limits, plan: Planned, head: u32) -> Plan
 }
 
 /// Whether the change goes as the case says, over this row, where these numbers may be free.
-fn goes(limits: &Limits, spares: &mut Spares, head: u32, free: Free, case: &Case) -> bool
+pub(crate) fn goes(limits: &Limits, spares: &mut Spares, head: u32, free: Free, case: &Case) -> bool
     requires some { 0 < head }
     requires there { head < limits.now.rows }
     requires room { HaveRoom limits.now spares.old }
@@ -349,76 +349,4 @@ fn are_kept() -> bool {
 #[test]
 fn goes_step_by_step(rt: HostRuntime) {
     assert!(rt; are_kept());
-}
-
-/// Whether a change of a large tree goes as the case says, over this row, where these numbers may be free.
-fn goes_in_large((pids, rows): (u64, u64), head: u32, free: Free, case: &Case) -> bool {
-    let Ok(limits) = Limits::large(1, pids, rows, 1) else {
-        return false;
-    };
-    if head == 0 || u64::from(head) >= limits.rows {
-        return false;
-    }
-    goes(&limits, &mut Spares::new(), head, free, case)
-}
-
-/// PIDs and rows of a large tree, the newest row of page 1, which numbers may be free, and the change.
-///
-/// Of row 7 the product with 2,654,435,761 is 3 beyond a multiple of 4, and so is that of row 315,567 the last one before a multiple of 2^20.
-const IN_LARGE: [((u64, u64), u32, Free, Case); 4] = [
-    // Takes a row of word 0, once the words from the third on have none.
-    (
-        (64, 256),
-        7,
-        Free::First,
-        (
-            Planned::Install,
-            (0, 2, true),
-            "rows 3 rows 0 row 3 3=7 1:7>3",
-            (End::Won, None, &[]),
-        ),
-    ),
-    // Is full once each word from word 0 on has none.
-    (
-        (64, 256),
-        7,
-        Free::First,
-        (
-            Planned::Install,
-            (0, 0, true),
-            "rows 3 rows 0 rows 1 rows 2 rows 3",
-            (End::Full(Kind::Row), None, &[]),
-        ),
-    ),
-    // Takes a row of the word at which it begins.
-    (
-        (64, 256),
-        7,
-        Free::Last,
-        (
-            Planned::Install,
-            (0, 2, true),
-            "rows 3 row 254 254=7 1:7>254",
-            (End::Won, None, &[]),
-        ),
-    ),
-    // Takes the last PID and the last row of the greatest limits.
-    (
-        (4_194_304, 67_108_864),
-        315_567,
-        Free::Last,
-        (
-            Planned::Split,
-            (1, 2, true),
-            "pids 65535 pid 4194303 rows 1048575 row 67108862 rows 1048575 row 67108863 67108862=0 4194303:0>67108862 67108863=315567 1:315567>67108863",
-            (End::Won, None, &[]),
-        ),
-    ),
-];
-
-#[test]
-fn takes_scattered_numbers_in_a_large_tree(rt: HostRuntime) {
-    for (size, head, free, case) in &IN_LARGE {
-        assert!(rt; goes_in_large(*size, *head, *free, case), "{head}");
-    }
 }

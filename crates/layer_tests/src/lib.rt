@@ -17,6 +17,8 @@ mod compact_drawn;
 #[cfg(test)]
 mod first_rows;
 #[cfg(test)]
+mod large_changes;
+#[cfg(test)]
 mod limbo;
 #[cfg(test)]
 mod limbo_memory;

@@ -1,5 +1,5 @@
 -- The leave is wanted in one state alone.
-use Rattle.op_machine.proofs.Words.{◌≡◌, ◌≢◌, ℕ, Bool, Option, Some, None, true, false, refl, same_Some, Answer, StepOf, Record, Knowledge, VisitState, Reuse, Spares, wanted_number}
+use Rattle.op_machine.proofs.Words.{◌≡◌, ◌≢◌, ℕ, Bool, Option, Some, None, true, false, refl, same_Some, Limits, Answer, StepOf, Record, Knowledge, VisitState, Reuse, Spares, wanted_number}
 use Rattle.op_machine.proofs.Words.{ChangeState, Plan, Hand, is_leaving, Task, Sweep, SweepState}
 use Rattle.bw_model.specs.declared.step.Step.TheVariants as step
 use Rattle.round_model.specs.Descents as descent
@@ -29,14 +29,14 @@ in_round descent.Root e = cc
 in_round (descent.Page visit) e = in_visit visit.pid visit.state e
 
 in_taking : (taken : Taking) → wanted_number taken ≢ step.Leave
-in_taking (taking.Bits kind.Pid word whole) e = cc
-in_taking (taking.Bits kind.Row word whole) e = cc
-in_taking (taking.Take kind.Pid number whole) e = cc
-in_taking (taking.Take kind.Row number whole) e = cc
+in_taking (taking.Bits kind.Pid from word whole) e = cc
+in_taking (taking.Bits kind.Row from word whole) e = cc
+in_taking (taking.Take kind.Pid from number whole) e = cc
+in_taking (taking.Take kind.Row from number whole) e = cc
 
-in_change : (plan : Plan) (spares : Spares) (state : ChangeState) → change.wanted_at plan spares state ≢ step.Leave
-in_change plan spares (change_state.Taking taken) e = in_taking taken e
-in_change plan spares other e = cc
+in_change : (limits : Limits) (plan : Plan) (spares : Spares) (state : ChangeState) → change.wanted_at limits plan spares state ≢ step.Leave
+in_change limits plan spares (change_state.Taking taken) e = in_taking taken e
+in_change limits plan spares other e = cc
 
 in_reuse : (given : Reuse) → sweep.step_of given ≢ step.Leave
 in_reuse (reuse.Rows word bits) e = cc
@@ -51,7 +51,7 @@ elsewhere : (spares : Spares) (swept : Option Sweep) (state : State) → is_leav
 elsewhere spares (Some swept) state on e = in_sweep swept.actor swept.state (same_Some (sweep.wanted_step swept) step.Leave e)
 elsewhere spares None (Read round) on e = in_round round.state (same_Some (descent.wanted_at round.state) step.Leave e)
 elsewhere spares None (Write round) on e = in_round round.state (same_Some (descent.wanted_at round.state) step.Leave e)
-elsewhere spares None (Change now then) on e = in_change now.plan spares now.state (same_Some (change.wanted_at now.plan spares now.state) step.Leave e)
+elsewhere spares None (Change now then) on e = in_change now.limits now.plan spares now.state (same_Some (change.wanted_at now.limits now.plan spares now.state) step.Leave e)
 elsewhere spares other others on e = cc
 
 pub leaves_at : (spares : Spares) (swept : Option Sweep) (state : State) → asked_by swept (wanted_at spares state) ≡ Some step.Leave → is_leaving state ≡ true

@@ -16,17 +16,17 @@ use Rattle.sweep.specs.declared.sweep.State.TheVariants as sweep_state
 module _ (limits : Limits) (k : Knowledge) (row : Record) where
   -- no change asks for one,
   in_taking : (taken : Taking) → Fits limits k (wanted_number taken) (Content row) → ⊥
-  in_taking (taking.Bits kind.Pid word whole) fits = fits
-  in_taking (taking.Bits kind.Row word whole) fits = fits
-  in_taking (taking.Take kind.Pid number whole) fits = fits
-  in_taking (taking.Take kind.Row number whole) fits = fits
+  in_taking (taking.Bits kind.Pid from word whole) fits = fits
+  in_taking (taking.Bits kind.Row from word whole) fits = fits
+  in_taking (taking.Take kind.Pid from number whole) fits = fits
+  in_taking (taking.Take kind.Row from number whole) fits = fits
 
-  in_change : (plan : Plan) (spares : Spares) (state : ChangeState) → Fits limits k (change.wanted_at plan spares state) (Content row) → ⊥
-  in_change plan spares (change_state.Taking taken) fits = in_taking taken fits
-  in_change plan spares other fits = fits
+  in_change : (own : Limits) (plan : Plan) (spares : Spares) (state : ChangeState) → Fits limits k (change.wanted_at own plan spares state) (Content row) → ⊥
+  in_change own plan spares (change_state.Taking taken) fits = in_taking taken fits
+  in_change own plan spares other fits = fits
 
   pub still : (spares : Spares) (state : State) → FitsLast limits k (wanted_at spares state) (Content row) → is_changing state ≡ false
-  still spares (Change now then) fits = absurd (in_change now.plan spares now.state fits)
+  still spares (Change now then) fits = absurd (in_change now.limits now.plan spares now.state fits)
   still spares other fits = refl
 
   -- and no sweep

@@ -22,15 +22,15 @@ use Rattle.rounds.specs.declared.asked.Asked.TheVariants.{Slot as SlotOf, Row as
 use Rattle.op_machine.specs.machine.Shows.{MayStep}
 
 -- a change frees nothing
-pub freely : (limits : Limits) (actor : ℕ) (k : Knowledge) (plan : Plan) (spares : Spares) (state : State) → MayFree limits actor k (change.wanted_at plan spares state)
-freely limits actor k plan spares (Taking taking) = of_taking taking
+pub freely : (limits own : Limits) (actor : ℕ) (k : Knowledge) (plan : Plan) (spares : Spares) (state : State) → MayFree limits actor k (change.wanted_at own plan spares state)
+freely limits own actor k plan spares (Taking taking) = of_taking taking
   where
     of_taking : (t : taken.Taking) → MayFree limits actor k (wanted_number t)
-    of_taking (Bits Pid word whole) = tt
-    of_taking (Bits Row word whole) = tt
-    of_taking (Take Pid number whole) = tt
-    of_taking (Take Row number whole) = tt
-freely limits actor k plan spares other = tt
+    of_taking (Bits Pid from word whole) = tt
+    of_taking (Bits Row from word whole) = tt
+    of_taking (Take Pid from number whole) = tt
+    of_taking (Take Row from number whole) = tt
+freely limits own actor k plan spares other = tt
 
 -- an exchange that puts a base over a row only where its chain has deltas
 exchanges : (k : Knowledge) (slot old new : ℕ) → ((basis : HasRead k slot old) (page : Page) → k.own.rows new ≡ Written (kind.Base page) → 1 < length basis.chain) → IsUseful k (Exchange slot old new)
@@ -52,23 +52,23 @@ over : (k : Knowledge) (pid head row : ℕ) (content : Record) → IsUsefulOver 
 over k pid head row (kind.Base other) useful placed basis page is = useful basis.chain basis.read
 over k pid head row content useful placed basis page is = let e = sym placed ∙ is in cc
 
-pub usefully : (k : Knowledge) (plan : Plan) (spares : Spares) (state : State) → IsUsefulPlan k plan → change.ShowsState plan spares k state → IsUseful k (change.wanted_at plan spares state)
-usefully k plan spares (Taking taking) useful shows = of_taking taking
+pub usefully : (limits : Limits) (k : Knowledge) (plan : Plan) (spares : Spares) (state : State) → IsUsefulPlan k plan → change.ShowsState limits plan spares k state → IsUseful k (change.wanted_at limits plan spares state)
+usefully limits k plan spares (Taking taking) useful shows = of_taking taking
   where
     of_taking : (t : taken.Taking) → IsUseful k (wanted_number t)
-    of_taking (Bits Pid word whole) = tt
-    of_taking (Bits Row word whole) = tt
-    of_taking (Take Pid number whole) = tt
-    of_taking (Take Row number whole) = tt
-usefully k plan spares Base useful shows = tt
-usefully k plan spares Ready useful shows = readies k (pid_of spares) (change.base_row plan spares)
-usefully k plan spares Place useful shows = tt
-usefully k (Install pid head content) spares Link useful shows = exchanges k pid head (last_row spares) (over k pid head (last_row spares) content useful shows.1)
-usefully k (Split pid plan) spares Link useful shows = exchanges k pid plan.next (last_row spares) (λ basis page is. let e = sym shows.1 ∙ is in cc)
-usefully k (Root left root) spares Link useful shows = tt
-usefully k (Unlink pid head unterm removal) spares Link useful shows = exchanges k pid head (last_row spares) (λ basis page is. let e = sym shows.1 ∙ is in cc)
-usefully k plan spares Undo useful shows = empties k (pid_of spares) (change.base_row plan spares)
-usefully k plan spares Clear useful shows = empties k (cleared_page plan) (cleared_row plan)
+    of_taking (Bits Pid from word whole) = tt
+    of_taking (Bits Row from word whole) = tt
+    of_taking (Take Pid from number whole) = tt
+    of_taking (Take Row from number whole) = tt
+usefully limits k plan spares Base useful shows = tt
+usefully limits k plan spares Ready useful shows = readies k (pid_of spares) (change.base_row limits plan spares)
+usefully limits k plan spares Place useful shows = tt
+usefully limits k (Install pid head content) spares Link useful shows = exchanges k pid head (last_row spares) (over k pid head (last_row spares) content useful shows.1)
+usefully limits k (Split pid plan) spares Link useful shows = exchanges k pid plan.next (change.record_row limits (Split pid plan) spares) (λ basis page is. let e = sym shows.1 ∙ is in cc)
+usefully limits k (Root left root) spares Link useful shows = tt
+usefully limits k (Unlink pid head unterm removal) spares Link useful shows = exchanges k pid head (last_row spares) (λ basis page is. let e = sym shows.1 ∙ is in cc)
+usefully limits k plan spares Undo useful shows = empties k (pid_of spares) (change.base_row limits plan spares)
+usefully limits k plan spares Clear useful shows = empties k (cleared_page plan) (cleared_row plan)
 
 -- a split is linked where it leaves items enough on both sides
 no_split : (k : Knowledge) (slot old new : ℕ) → ((split : SplitOf) → k.own.rows new ≡ Written (kind.Split split) → ⊥) → IsHalved k (Exchange slot old new)
@@ -100,21 +100,21 @@ halved_empty k zero old = tt
 halved_empty k (suc slot) zero = tt
 halved_empty k (suc slot) (suc old) = tt
 
-pub halved : (k : Knowledge) (plan : Plan) (spares : Spares) (state : State) → IsUsefulPlan k plan → change.ShowsState plan spares k state → IsHalved k (change.wanted_at plan spares state)
-halved k plan spares (Taking taking) useful shows = of_taking taking
+pub halved : (limits : Limits) (k : Knowledge) (plan : Plan) (spares : Spares) (state : State) → IsUsefulPlan k plan → change.ShowsState limits plan spares k state → IsHalved k (change.wanted_at limits plan spares state)
+halved limits k plan spares (Taking taking) useful shows = of_taking taking
   where
     of_taking : (t : taken.Taking) → IsHalved k (wanted_number t)
-    of_taking (Bits Pid word whole) = tt
-    of_taking (Bits Row word whole) = tt
-    of_taking (Take Pid number whole) = tt
-    of_taking (Take Row number whole) = tt
-halved k plan spares Ready useful shows = halved_ready k (pid_of spares) (change.base_row plan spares)
-halved k (Install pid head content) spares Link useful shows = no_split k pid head (last_row spares) (never_over k head (last_row spares) content useful shows.1)
-halved k (Split pid plan) spares Link useful shows = halves k pid plan.next (pid_of spares) (last_row spares) (change.base_row (Split pid plan) spares) plan refl useful shows.1 shows.0.0 shows.0.1
-halved k (Unlink pid head unterm removal) spares Link useful shows = no_split k pid head (last_row spares) (λ split is. let e = sym shows.1 ∙ is in cc)
-halved k plan spares Undo useful shows = halved_empty k (pid_of spares) (change.base_row plan spares)
-halved k plan spares Clear useful shows = halved_empty k (cleared_page plan) (cleared_row plan)
-halved k other spares others useful shows = tt
+    of_taking (Bits Pid from word whole) = tt
+    of_taking (Bits Row from word whole) = tt
+    of_taking (Take Pid from number whole) = tt
+    of_taking (Take Row from number whole) = tt
+halved limits k plan spares Ready useful shows = halved_ready k (pid_of spares) (change.base_row limits plan spares)
+halved limits k (Install pid head content) spares Link useful shows = no_split k pid head (last_row spares) (never_over k head (last_row spares) content useful shows.1)
+halved limits k (Split pid plan) spares Link useful shows = halves k pid plan.next (pid_of spares) (change.record_row limits (Split pid plan) spares) (change.base_row limits (Split pid plan) spares) plan refl useful shows.1 shows.0.0 shows.0.1
+halved limits k (Unlink pid head unterm removal) spares Link useful shows = no_split k pid head (last_row spares) (λ split is. let e = sym shows.1 ∙ is in cc)
+halved limits k plan spares Undo useful shows = halved_empty k (pid_of spares) (change.base_row limits plan spares)
+halved limits k plan spares Clear useful shows = halved_empty k (cleared_page plan) (cleared_row plan)
+halved limits k other spares others useful shows = tt
 
 -- a read frees nothing
 pub steps_reading : (task : Task) (k : Knowledge) (asked : Asked) → ReadsWithin task.limits (asked_step asked) → May task.actor k (asked_step asked) → MayStep task k (asked_step asked)

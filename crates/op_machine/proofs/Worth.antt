@@ -11,8 +11,9 @@ use Rattle.round_model.specs.Courses as write
 use Rattle.round_model.specs.Walks.{reads_left_at, with_walk}
 use Rattle.round_model.specs.WriteRounds.{write_round_kept}
 use Rattle.change_machine.specs.Bounded as change
-use Rattle.change_machine.specs.Bounded.{few_steps, numbers_missing, pids_missing}
-use Rattle.structure_changes.specs.Plans.{needs_pid, rows_needed}
+use Rattle.change_machine.specs.Bounded.{few_steps, numbers_missing, pids_missing, rows_missing}
+use Rattle.change_machine.specs.Moves.{has_rows, lacks_lower}
+use Rattle.structure_changes.specs.Plans.{needs_pid}
 use Rattle.change_machine.specs.Taking.{most_reads, number_left}
 use Rattle.change_machine.specs.declared.change.State.TheVariants as changing
 use Rattle.structure_changes.specs.declared.plan.Plan.TheVariants.{Install, Split, Root as NewRoot, Unlink}
@@ -58,7 +59,7 @@ sweeps_few limits None (Leave reply lacks) = omega arith
 -- a change
 number_few : (limits : Limits) (taking : Taking) → number_left limits taking ≤ most_reads limits
 unfolding most_reads
-number_few limits (Bits kind word true) = omega arith
+number_few limits (Bits kind from word true) = omega arith
 number_few limits other = omega arith
 
 pids_few : (needs : Bool) (pid : Option ℕ) → pids_missing needs pid ≤ 1
@@ -66,17 +67,21 @@ pids_few false pid = omega arith
 pids_few true None = omega arith
 pids_few true (Some pid) = omega arith
 
-rows_few : (plan : Plan) → rows_needed plan ≤ 2
-rows_few (Install pid head content) = omega arith
-rows_few other = omega arith
+rows_few : (limits : Limits) (plan : Plan) (rows : List ℕ) → rows_missing limits plan rows ≤ 2
+rows_few limits plan rows = go (has_rows limits plan rows) (lacks_lower limits plan rows)
+  where
+    go : (all lower : Bool) → (if all then 0 else if lower then 2 else 1) ≤ 2
+    go true lower = omega arith
+    go false true = omega arith
+    go false false = omega arith
 
-missing_few : (plan : Plan) (spares : Spares) → numbers_missing plan spares - 1 ≤ 2
-missing_few plan spares = let pids = pids_few (needs_pid plan) spares.pid in let rows = rows_few plan in omega (arith, pids, rows)
+missing_few : (limits : Limits) (plan : Plan) (spares : Spares) → numbers_missing limits plan spares - 1 ≤ 2
+missing_few limits plan spares = let pids = pids_few (needs_pid plan) spares.pid in let rows = rows_few limits plan spares.rows in omega (arith, pids, rows)
 
 change_few : (limits : Limits) (after : ℕ) (plan : Plan) (spares : Spares) (state : ChangeState) → change.steps_left_at limits after plan spares state ≤ few_steps limits + after
 change_few limits after plan spares (changing.Taking taking) =
     let number = number_few limits taking in
-    let most : most_reads limits * (numbers_missing plan spares - 1) ≤ most_reads limits * 2 = mul-le-mul_left (most_reads limits) (missing_few plan spares) in
+    let most : most_reads limits * (numbers_missing limits plan spares - 1) ≤ most_reads limits * 2 = mul-le-mul_left (most_reads limits) (missing_few limits plan spares) in
     omega (arith, number, most)
 change_few limits after plan spares other = omega arith
 

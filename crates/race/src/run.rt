@@ -17,7 +17,7 @@ use running_tree::{BwSeat, Tree};
 use std::alloc::Global;
 use std::sync::Wait;
 use std::thread::Threads;
-use workers::{Job, JobResult, JobsRefusal, Ungated, run_jobs};
+use workers::{Job, JobResult, JobsRefusal, Ungated, opened, run_jobs};
 
 /// Prints results, closes the tree and prints its pairs. Answers whether it could not be closed.
 fn close<O: Output>(
@@ -65,7 +65,7 @@ fn run<R: Threads + Wait + Sync, O: Output>(
     requires { AreAscending jobs.items }
     ensures { (text : List ℕ) × RunsJobs limits jobs.items text result × Prints (O.state out.old) (O.state out.new) text }
 {
-    let Ok((tree, seats)) = Tree::<Global>::open(alloc, limits) else {
+    let Ok((tree, seats)) = opened(alloc, limits) else {
         show_lone_refusal(out, Refusal::NotOpened);
         return true;
     };

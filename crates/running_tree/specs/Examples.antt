@@ -1,7 +1,7 @@
 -- Entries of two actors, of which calls and counts are told. They are no run: nobody enters, reads or links anything.
 use Rattle.std.specs.Prelude.{codes, ℕ, zero, suc, List, [], ◌∷◌, true, false, None, Some}
 use Rattle.std.proofs.Common.{lit≤, refl}
-use Rattle.tree_limits.specs.Limits.{AreLargeLimits, AreLimits}
+use Rattle.tree_limits.specs.Limits.{AreLargeLimits, AreLimits, AreWidths}
 use Rattle.tree_limits.specs.declared.limits.Limits.{Limits}
 use Rattle.bw_model.specs.declared.command.Command.TheVariants.{Get, Upsert, Delete}
 use Rattle.bw_model.specs.declared.command.Reply.TheVariants as reply
@@ -50,9 +50,35 @@ two_words_allowed = record {
   small_epoch = are_two_words.small_epoch;
 }
 
+pub two_words_widths : AreWidths 64 0 0 512 512
+two_words_widths = record {
+  whole_narrow = refl;
+  whole_pages = refl;
+  ordered = lit≤ tt;
+  some_wide = lit≤ tt;
+  narrow_room = lit≤ tt;
+  page_room = lit≤ tt;
+  widening = lit≤ tt;
+  fitting = lit≤ tt;
+}
+
 -- limits of a tree with two words of PIDs
 abbrev pub two_words : Limits
-two_words = record { actors = 2; pids = 128; rows = 64; epoch = 1; is_large = false; allowed = two_words_allowed; small = λ _. are_two_words }
+two_words = record {
+  actors = 2;
+  pids = 128;
+  rows = 64;
+  epoch = 1;
+  is_large = false;
+  narrow_rows = 0;
+  wide_from = 0;
+  narrow_words = 512;
+  page_words = 512;
+  allowed = two_words_allowed;
+  small = λ _. are_two_words;
+  widths = two_words_widths;
+  alike = λ _. record { narrow = refl; pages = refl };
+}
 
 -- One reads the first word of free PIDs; then another takes a PID of each word; then the one reads the second word.
 abbrev pub read_between : ℕ → List Entry

@@ -51,7 +51,7 @@ fn spelt_record<A: Allocator>(rows: &ClosedRows<A>, row: u32) -> Record
 {
     rows_have_words();
     spelling_is_one();
-    match read_words(&row_of(rows.closed, row)) {
+    match read_words(&row_of(rows.limits, rows.closed, row)) {
         Ok(record) => record,
         Err(_) => unreachable!(),
     }
@@ -66,7 +66,7 @@ fn compact_record<A: Allocator>(rows: &ClosedRows<A>, row: u32) -> Record
 {
     rows_have_words();
     spelling_is_one();
-    match read_words(&spread(&row_of(rows.closed, row))) {
+    match read_words(&spread(&row_of(rows.limits, rows.closed, row))) {
         Ok(record) => record,
         Err(_) => unreachable!(),
     }
@@ -84,15 +84,16 @@ fn spread(words: &[u64; ROW_WORDS]) -> [u64; ROW_WORDS]
     row
 }
 
-/// The words of a row.
-fn row_of<A: Allocator>(closed: &Closed<(), A>, row: u32) -> [u64; ROW_WORDS]
+/// The words of a row, and of those behind it as many as a wide row has more.
+fn row_of<A: Allocator>(limits: &Limits, closed: &Closed<(), A>, row: u32) -> [u64; ROW_WORDS]
     requires full { AreFilled closed.now.words.filled closed.now.words.len }
-    requires there { row_at row last_at < closed.now.words.len }
+    requires range { row < limits.now.rows }
+    requires there { row_at limits.now row last_at < closed.now.words.len }
     ensures long { length result ≡ row_size }
-    ensures words { (j : ℕ) → j < row_size → slice_index result j ≡ slice_index closed.now.words.items (row_at row j) }
+    ensures words { (j : ℕ) → j < row_size → slice_index result j ≡ slice_index closed.now.words.items (row_at limits.now row j) }
 {
     let mut words = [0; ROW_WORDS];
-    let base = row_place(row);
+    let base = row_place(limits, row);
     for j in 0..ROW_WORDS {
         words[j] = closed.word(base + j);
     }

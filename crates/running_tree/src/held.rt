@@ -12,7 +12,7 @@ use std::alloc::Allocator;
 pub struct Held {
     /// PIDs that it has taken and not linked, 1 at most: its next change that needs one uses it.
     pub spare_pids: usize,
-    /// Rows that it has taken and not linked, 2 at most.
+    /// Rows that it has taken and not linked: 2 at most, or 4 where rows have several widths.
     pub spare_rows: usize,
     /// PIDs that it has taken out of the tree and not freed yet.
     pub limbo_pids: usize,

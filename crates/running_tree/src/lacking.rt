@@ -7,7 +7,8 @@ use std::alloc::Allocator;
 
 impl<A: Allocator> BwSeat<A> {
     /// The kind that ran out, if the operation that the seat began last has replied `Full`: that operation read each word of free PIDs, or
-    /// of free rows, as 0, each at a moment of its own. None if it has another reply, or none yet. It takes no step and reads no word.
+    /// of the free rows that have room for any record, as 0, each at a moment of its own. None if it has another reply, or none yet. It takes
+    /// no step and reads no word.
     pub fn lacking(&self) -> Option<Kind>
         ensures { IsLacking self.now result }
     {

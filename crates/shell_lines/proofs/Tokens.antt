@@ -1,6 +1,6 @@
 -- Laws of tokens.
-use Rattle.std.proofs.Common.{◌≡◌, ℕ, ◌+◌, ◌*◌, ◌%◌, ◌<◌, ◌≤◌, List, [], ◌∷◌, length, drop, slice_index, refl, sym, ap, ◌∙◌, arith, ◌⊎◌, inl, inr, Option, Some}
-use Rattle.std.proofs.Common.{None, Result, Ok, Err, Bool, true, false, ◌&&◌, not, nat_lt, ◌==◌, IfOk, cond}
+use Rattle.std.proofs.Common.{◌≡◌, ℕ, ◌+◌, ◌*◌, ◌%◌, ◌<◌, List, [], ◌∷◌, length, drop, slice_index, refl, sym, ap, ◌∙◌, arith, ◌⊎◌, inl, inr, Option, Some}
+use Rattle.std.proofs.Common.{None, Result, Ok, Err, Bool, true, false, ◌&&◌, not, nat_lt, ◌==◌, cond}
 use Rattle.std.specs.Result.{result_ok}
 use Rattle.std.proofs.lemmas.Bool.Decides.{nat_tests}
 use Rattle.std.proofs.lemmas.List.Sums.{AllPass-from_list_all, list_all-from_AllPass}
@@ -10,9 +10,6 @@ use Rattle.hex.specs.Hex.{decode_of, decode_pairs, value_at, pair_value, digit_o
 use Rattle.hex.specs.declared.error.FromHexError.{FromHexError}
 use Rattle.hex.proofs.HexLemmas.{decode_of-encode_lower, decode_of-ok, decode_of-digits, decode_of-even}
 use Rattle.shell_lines.specs.Token.{IsDigitOf, SpellsBytes, Means, token_value, is_word, as_token}
-use Rattle.shell_lines.specs.Gives.{Gives}
-use Rattle.shell_lines.specs.declared.token.LineError.{LineError}
-use Rattle.shell_lines.specs.declared.token.LineError.TheVariants.{Malformed, TooLong}
 
 -- a digit's value is what the grammar says
 digit_is : (c v : ℕ) → hex_digit_value c ≡ Some v → IsDigitOf c v
@@ -126,22 +123,6 @@ means_value t v (inl w) =
 means_value t v (inr d) =
     let some : nat_lt 0 (length (61 ∷ d.0)) ≡ true = has_first 61 d.0 in
     rw (d.1, some, is_decode d.0 v d.2) refl
-
--- ---- what reading a token answers
-
-pub read_ok : (t : List ℕ) (r : Result (List ℕ) LineError) → Gives r (token_value t) → IfOk r (λ key. Means t key × (length key ≤ longest))
-read_ok t (Ok key) h = (value_means t key h.0, h.1)
-read_ok t (Err e) h = tt
-
-pub read_malformed : (t : List ℕ) (r : Result (List ℕ) LineError) → Gives r (token_value t) → r ≡ Err Malformed → (v : List ℕ) → Means t v → ⊥
-read_malformed t (Ok key) h e v m = cc e
-read_malformed t (Err Malformed) h e v m = cc (sym h ∙ means_value t v m)
-read_malformed t (Err TooLong) h e v m = cc e
-
-pub read_too_long : (t : List ℕ) (r : Result (List ℕ) LineError) → Gives r (token_value t) → r ≡ Err TooLong → (v : List ℕ) × Means t v × (longest < length v)
-read_too_long t (Ok key) h e = cc e
-read_too_long t (Err Malformed) h e = cc e
-read_too_long t (Err TooLong) h e = (h.0, value_means t h.0 h.1, h.2)
 
 pub some_is : {A : Type 0} (x y : A) → Some x ≡ Some y → x ≡ y
 some_is x y h = cc h

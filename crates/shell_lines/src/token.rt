@@ -1,10 +1,9 @@
 //! Tokens, which stand for keys and values.
 
-ghost use Rattle.std.specs.Prelude.{◌≡◌, ◌<◌, ◌≤◌, ℕ, List, IfOk, IsErrOf, length};
+ghost use Rattle.std.specs.Prelude.{◌≡◌, ◌↔◌, ℕ, List, Some};
 ghost use Rattle.std.specs.List.{list_all};
 ghost use Rattle.std.specs.Option.{ok_or};
 ghost use Rattle.std.specs.Result.{result_ok};
-ghost use Rattle.bw_model.specs.Bytes.{longest};
 ghost use Rattle.hex.specs.Hex.{decode_of, IsBytes, is_hex_digit as is_hex_digit_lem};
 ghost use Rattle.shell_lines.specs.Token.{Means, token_value, as_token, is_word as is_word_lem, is_word_byte as is_word_byte_lem};
 ghost use Rattle.shell_lines.specs.Gives.{Gives};
@@ -104,17 +103,9 @@ pub fn value_of(token: &[u8]) -> Result<Value, LineError>
     }
 }
 
-/// The bytes that a token stands for, by the grammar.
-pub fn read_token(token: &[u8]) -> Result<Key, LineError>
-    ensures ok { IfOk result (λ key. Means token.now key × (length key ≤ longest)) }
-    ensures malformed { IsErrOf result LineError.Malformed → (bytes : List ℕ) → Means token.now bytes → ⊥ }
-    ensures too_long { IsErrOf result LineError.TooLong → (bytes : List ℕ) × Means token.now bytes × (longest < length bytes) }
-{
-    key_of(token)
-}
-
-/// Each list of bytes has a token, and each token stands for one list of bytes.
+/// Each list of bytes has a token, each token stands for one list of bytes, and lines are read by the same (`token_value`).
 pub fn tokens_are_exact()
     ensures printed { (bytes : List ℕ) → IsBytes bytes → Means (as_token bytes) bytes }
     ensures one { (token a b : List ℕ) → Means token a → Means token b → a ≡ b }
+    ensures read { (token bytes : List ℕ) → (token_value token ≡ Some bytes) ↔ Means token bytes }
 {}

@@ -12,7 +12,7 @@ use Rattle.clap.specs.declared.builder.action.ArgAction.TheVariants as action
 use Rattle.clap.specs.declared.builder.value_parser.ValueParser.TheVariants as vp
 use Rattle.tree_limits.specs.Limits.{AreLargeLimits, AreLimits}
 use Rattle.shell_options.specs.declared.words.Program.{Program}
-use Rattle.shell_options.specs.declared.words.Program.TheVariants.{Script, Weave, Draw, Race}
+use Rattle.shell_options.specs.declared.words.Program.TheVariants.{Script, Weave, Draw, Film, Race}
 use Rattle.shell_options.specs.declared.words.Settings.{Settings}
 use Rattle.shell_options.specs.declared.words.OptionsError.{OptionsError}
 use Rattle.shell_options.specs.declared.words.OptionsError.TheVariants.{Clap, Memory}
@@ -44,15 +44,17 @@ weave_app = actors_app (codes "weave")
 abbrev pub draw_app : App
 draw_app = actors_app (codes "draw")
 
+abbrev pub film_app : App
+film_app = actors_app (codes "film")
+
 abbrev pub race_app : App
 race_app = limits_rules (with_rule (new_app (codes "race")) (number_rule (codes "seats")))
 
 -- all programs
 abbrev pub bwtree_app : App
 bwtree_app =
-    with_subcommand
-    (with_subcommand (with_subcommand (with_subcommand (on_top (λ s. record s { has_version = true; subcommand_required = true }) (new_app (codes "bwtree"))) script_app.top) weave_app.top) draw_app.top)
-    race_app.top
+    let top = on_top (λ s. record s { has_version = true; subcommand_required = true }) (new_app (codes "bwtree")) in
+    with_subcommand (with_subcommand (with_subcommand (with_subcommand (with_subcommand top script_app.top) weave_app.top) draw_app.top) film_app.top) race_app.top
 
 -- n is the number that the word of the option spells, or the default where there is no such word
 abbrev pub SpellsOr : List Row → Text → ℕ → ℕ → Type 0
@@ -69,6 +71,7 @@ abbrev pub HasActors : Program → List Row → ℕ → Type 0
 HasActors Script rows n = n ≡ 1
 HasActors Weave rows n = SpellsOr rows (codes "actors") 2 n
 HasActors Draw rows n = SpellsOr rows (codes "actors") 2 n
+HasActors Film rows n = SpellsOr rows (codes "actors") 2 n
 HasActors Race rows n = SpellsOr rows (codes "seats") 2 n
 
 -- how many page identifiers and rows there are where the words don't say
@@ -76,12 +79,14 @@ abbrev pub default_pids_of : Program → ℕ
 default_pids_of Script = 64
 default_pids_of Weave = 64
 default_pids_of Draw = 64
+default_pids_of Film = 64
 default_pids_of Race = 4096
 
 abbrev pub default_rows_of : Program → ℕ
 default_rows_of Script = 256
 default_rows_of Weave = 256
 default_rows_of Draw = 256
+default_rows_of Film = 256
 default_rows_of Race = 16384
 
 -- the numbers are those of the options
@@ -102,6 +107,7 @@ abbrev pub name_of : Program → Text
 name_of Script = codes "script"
 name_of Weave = codes "weave"
 name_of Draw = codes "draw"
+name_of Film = codes "film"
 name_of Race = codes "race"
 
 -- A program's name and the rows of its options name the program, and its numbers are those of the options.

@@ -5,7 +5,7 @@ pub(crate) const VERSION: &str = "0.2.0";
 
 /// What every program shares: why it refuses, its status, and how large its tree has to be.
 pub(crate) const PROGRAM: &str =
-    "'bwtree help script', help weave, help draw and help race list the lines that each program reads, and what they print.
+    "'bwtree help script', help weave, help draw, help film and help race list the lines that each program reads, and what they print.
 
 A program that refuses a line prints 'refused line N: C' and ends; a refusal of no line is 'refused: C'. C is one of these numbers:
   1   a key or a value has more than 64 bytes
@@ -28,7 +28,7 @@ with divisions that round down, and each result rounded up to a multiple of 64:
   --pids = pages + 1 + 11 A        --rows = 9 pids + 120 A
 or, with --large:
   --pids = pages + pages / 16 + 1 + 22 A        --rows = 3 pids + 240 A
-So 1,000 keys of a race with 4 seats need --pids 256 --rows 2816, and 100,000 need --large --pids 15616 --rows 47808.";
+So 1,000 keys of a race with 4 seats need --pids 256 --rows 2816, and 100,000 need --large --pids 15616 --rows 48320.";
 
 /// The lines of a script.
 pub(crate) const SCRIPT: &str =
@@ -63,6 +63,13 @@ Example: the lines 'begin 0 insert a 1' and 'finish 0' print '0 inserted'";
 /// The lines of a picture.
 pub(crate) const DRAW: &str = "'bwtree help weave' lists the lines. Their replies are not printed.
 Example: the lines 'begin 0 insert a 1' and 'finish 0' print a picture of one page with one item";
+
+/// The lines of a film.
+pub(crate) const FILM: &str =
+    "'bwtree help weave' lists the lines. Their replies are not printed. A film has a frame for each step, 2000 at most.
+In a browser, the left and right arrow keys show the frame before and the next one, home and end the first and the last, and space plays; #12 behind the
+page's address is frame 12.
+Example: the lines 'begin 0 insert a 1' and 'finish 0' print a page with a frame for each step of the insert";
 
 /// The lines of a race.
 pub(crate) const RACE: &str =

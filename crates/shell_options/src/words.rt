@@ -3,7 +3,7 @@
 ghost use Rattle.std.specs.Prelude.{◌≡◌, ◌↔◌, IfErr, IfOk, IfSome, IsOk, map, false};
 ghost use Rattle.std.specs.String.{string_bytes};
 ghost use Rattle.clap.specs.Words.{App, found_of, new_app, rows_of, rule_of, with_rule, with_subcommand};
-ghost use Rattle.shell_options.specs.Words.{flag_rule, number_rule, limits_rules, actors_app, draw_app, script_app, weave_app, race_app, bwtree_app};
+ghost use Rattle.shell_options.specs.Words.{flag_rule, number_rule, limits_rules, actors_app, draw_app, film_app, script_app, weave_app, race_app, bwtree_app};
 ghost use Rattle.shell_options.specs.Words.{SpellsFlag, SpellsOr, HasActors, HasNumbers, IsApp, MakesApp, default_pids_of, default_rows_of, told_by};
 ghost use Rattle.shell_options.specs.Words.{HasNoFault, IsSpelled, IsNamedBy, MayRefuse, MayOpen};
 
@@ -22,6 +22,8 @@ pub enum Program {
     Weave,
     /// Runs the lines of `Weave`, and draws the tree at the end of the input.
     Draw,
+    /// Runs the lines of `Weave`, and draws the tree after each step.
+    Film,
     /// Runs jobs on threads.
     Race,
 }
@@ -187,7 +189,7 @@ fn weave_command<'a>(alloc: Global) -> Result<Command<'a>, AllocError>
     actors_command(
         alloc,
         "weave",
-        "Runs the lines of standard input, turn by turn, and prints what they answer",
+        "Runs the lines of standard input, turn by turn, and prints the replies",
         help::WEAVE,
     )
 }
@@ -203,13 +205,24 @@ fn draw_command<'a>(alloc: Global) -> Result<Command<'a>, AllocError>
     )
 }
 
+fn film_command<'a>(alloc: Global) -> Result<Command<'a>, AllocError>
+    ensures { MakesApp film_app result }
+{
+    actors_command(
+        alloc,
+        "film",
+        "Runs the lines of standard input as weave does, and prints a page with a picture of the tree after each step, as HTML",
+        help::FILM,
+    )
+}
+
 fn script_command<'a>(alloc: Global) -> Result<Command<'a>, AllocError>
     ensures { MakesApp script_app result }
 {
     let script = described(
         alloc,
         "script",
-        "Runs the commands of standard input, one a line, and prints what they answer",
+        "Runs the commands of standard input, one a line, and prints the replies",
         help::SCRIPT,
     );
     with_few(alloc, script)
@@ -221,7 +234,7 @@ fn race_command<'a>(alloc: Global) -> Result<Command<'a>, AllocError>
     let race = described(
         alloc,
         "race",
-        "Runs the jobs of standard input on threads, and prints what they answer and all pairs",
+        "Runs the jobs of standard input on threads, and prints the replies and all pairs",
         help::RACE,
     );
     let seats_help = "Seats, one thread each, 1 to 16, with --large to 63 [default: 2]";
@@ -256,6 +269,7 @@ fn command<'a>(alloc: Global) -> Result<Command<'a>, AllocError>
     let command = with_program(Ok(command), script_command(alloc));
     let command = with_program(command, weave_command(alloc));
     let command = with_program(command, draw_command(alloc));
+    let command = with_program(command, film_command(alloc));
     with_program(command, race_command(alloc))
 }
 
@@ -287,7 +301,7 @@ fn actors(program: Program, matches: &ArgMatches<'_>) -> Option<u64>
 {
     match program {
         Program::Script => Some(1),
-        Program::Weave | Program::Draw => chosen(matches, "actors", 2),
+        Program::Weave | Program::Draw | Program::Film => chosen(matches, "actors", 2),
         Program::Race => chosen(matches, "seats", 2),
     }
 }
@@ -297,7 +311,7 @@ fn default_pids(program: Program) -> u64
     ensures { result ≡ default_pids_of program }
 {
     match program {
-        Program::Script | Program::Weave | Program::Draw => 64,
+        Program::Script | Program::Weave | Program::Draw | Program::Film => 64,
         Program::Race => 4096,
     }
 }
@@ -307,7 +321,7 @@ fn default_rows(program: Program) -> u64
     ensures { result ≡ default_rows_of program }
 {
     match program {
-        Program::Script | Program::Weave | Program::Draw => 256,
+        Program::Script | Program::Weave | Program::Draw | Program::Film => 256,
         Program::Race => 16384,
     }
 }
@@ -356,6 +370,9 @@ fn named_program(matches: &ArgMatches<'_>) -> Result<Settings, OptionsError>
     }
     if let Some(draw) = matches.subcommand_matches("draw") {
         return numbers(Program::Draw, draw);
+    }
+    if let Some(film) = matches.subcommand_matches("film") {
+        return numbers(Program::Film, film);
     }
     if let Some(race) = matches.subcommand_matches("race") {
         return numbers(Program::Race, race);

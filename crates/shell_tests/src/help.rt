@@ -71,7 +71,7 @@ fn help_sizes_a_tree(rt: HostRuntime) -> Result<(), Fail> {
 }
 
 /// Words of help, and what each program's help has.
-const LISTED: [(&str, &[&str]); 4] = [
+const LISTED: [(&str, &[&str]); 5] = [
     (
         "help script",
         &[
@@ -101,6 +101,7 @@ const LISTED: [(&str, &[&str]); 4] = [
         ],
     ),
     ("help draw", &["help weave"]),
+    ("help film", &["help weave", "2000 at most", "#12"]),
     ("help race", &["J CMD"]),
 ];
 

@@ -1,5 +1,5 @@
 //! What the programs are to print, draw and race, and what they do where a stream fails: tests alone, over the public calls of the shell,
-//! of `drawing` and of `race`.
+//! of `drawing`, of `filming` and of `race`.
 //!
 //! Look first at `runs`, which runs text and compares what is printed. Expected text is written in the tests, not taken from what a program
 //! printed.
@@ -24,6 +24,8 @@ mod cursor_pages;
 mod drawn;
 #[cfg(test)]
 mod faults;
+#[cfg(test)]
+mod films;
 #[cfg(test)]
 mod grown;
 #[cfg(test)]

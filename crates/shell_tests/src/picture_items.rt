@@ -16,7 +16,7 @@ const SHOWN: [(&[u8], usize); 7] = [
     (b">k10 = new<", 1),
     (b">k11 = v<", 2),
     (b">k12 = v<", 2),
-    (b">delete k12<", 1),
+    (b": delete k12<", 1),
 ];
 
 #[test]

@@ -6,12 +6,13 @@ use bw_model::Limits;
 use std::alloc::{AllocError, Global};
 use std::test::Fail;
 
-/// Whether the picture of a tree of so many keys has so many pages, and says how many PIDs are free.
+/// Whether the picture of a tree of so many keys has so many pages and this width, and says how many PIDs are free, in its description too.
 fn has_pages(
     alloc: Global,
     limits: Limits,
     keys: u32,
     pages: usize,
+    width: &[u8],
     free: &[u8],
 ) -> Result<bool, AllocError> {
     let mut lines = Vec::new(alloc);
@@ -23,23 +24,42 @@ fn has_pages(
     Ok(
         count(text, b" id=\"page-") == pages
             && count(text, b">PID ") == pages
-            && count(text, free) == 1,
+            && count(text, width) == 1
+            && count(text, free) == 2,
     )
 }
 
 // Keys in ascending order leave 8 in each leaf but the last one, and 8 terms in each page above but the last one of its level: 78 keys
-// are 9 leaves and a root.
+// are 9 leaves and a root. A page takes 276 pixels, and 210 are left free.
 #[test]
 fn ten_pages(rt: HostRuntime) -> Result<(), Fail> {
     let limits = Limits::new(2, 64, 256, 1)?;
-    assert!(rt; has_pages(rt.alloc(), limits, 78, 10, b"; free PIDs: 53; ")?);
+    assert!(rt;
+        has_pages(
+            rt.alloc(),
+            limits,
+            78,
+            10,
+            b" width=\"2694\" height=",
+            b"; free PIDs: 53; "
+        )?
+    );
     Ok(())
 }
 
-// 7,040 keys are 879 leaves, and 109, 13 and 1 pages above them.
+// 7,040 keys are 879 leaves, and 109, 13 and 1 pages above them. No more than 12 stand beside each other.
 #[test]
 fn a_thousand_pages(rt: HostRuntime) -> Result<(), Fail> {
     let limits = Limits::new(2, 4096, 16384, 1)?;
-    assert!(rt; has_pages(rt.alloc(), limits, 7040, 1002, b"; free PIDs: 3093; ")?);
+    assert!(rt;
+        has_pages(
+            rt.alloc(),
+            limits,
+            7040,
+            1002,
+            b" width=\"3522\" height=",
+            b"; free PIDs: 3093; "
+        )?
+    );
     Ok(())
 }

@@ -81,7 +81,7 @@ fn all_say(rt: &impl Abort, alloc: Global, lines: &[&str], wanted: Said) {
 }
 
 /// Lines, and the numbers of their programs.
-const NUMBERS: [(&str, Program, [u64; 4]); 11] = [
+const NUMBERS: [(&str, Program, [u64; 4]); 12] = [
     ("weave", Program::Weave, [2, 64, 256, 1]),
     (
         "weave --rows 64 --epoch=7 --actors 3 --pids 0128",
@@ -96,6 +96,7 @@ const NUMBERS: [(&str, Program, [u64; 4]); 11] = [
     ),
     ("draw", Program::Draw, [2, 64, 256, 1]),
     ("draw --actors 3 --rows 128", Program::Draw, [3, 64, 128, 1]),
+    ("film", Program::Film, [2, 64, 256, 1]),
     ("script", Program::Script, [1, 64, 256, 1]),
     (
         "script --pids 4096 --rows=16384 --epoch 4611686018427387904",

@@ -22,8 +22,7 @@ use Rattle.tree_words.specs.Changes.{HasWord, SetsBits, TellsNothing, changed_wo
 use Rattle.tree_words.specs.Changes.{ChangesOneWord, OperationsLeaveWords, StepsChangeOneWord, StoresTellNothing, WordsStandApart, HasOwnWord}
 use Rattle.tree_words.specs.declared.operations.Operation.{Operation}
 use Rattle.tree_words.specs.declared.operations.Operation.TheVariants as operation
-use Rattle.record_slots.specs.Layout.{row_size}
-use Rattle.tree_words.specs.Layout.{row_at}
+use Rattle.tree_words.specs.Layout.{row_at, width_of}
 use Rattle.tree_words.specs.Words.{used_in, words_in, SpellsWhere}
 use Rattle.table_rule.specs.declared.view.Reach.TheVariants.{Idle}
 use Rattle.table_rule.specs.Running.{IsSettled}
@@ -34,7 +33,7 @@ use Rattle.table_rule.proofs.Turns.{TableState, Rule, Ready, event}
 
 -- the other parts are the memory's, and the rows are as they were
 with_rows : (limits : Limits) (words words' : List ℕ) (m m' : Memory) (settled : ℕ → Type 0)
-    → ((row j : ℕ) → row < limits.rows → j < row_size → get_or words' (row_at row j) 0 ≡ get_or words (row_at row j) 0) → m'.rows ≡ m.rows
+    → ((row j : ℕ) → row < limits.rows → j < width_of limits row → get_or words' (row_at limits row j) 0 ≡ get_or words (row_at limits row j) 0) → m'.rows ≡ m.rows
     → SpellsWhere limits words m settled → SpellsParts limits words' m' → SpellsWhere limits words' m' settled
 with_rows limits words words' m m' settled stay records sp parts = record {
   slots = parts.slots;
@@ -58,8 +57,8 @@ module _ (change : StepsChangeOneWord) (first : WordsStandApart) (limits : Limit
       let own : HasOwnWord limits actor step = first limits actor step few has in
       let parts : SpellsParts limits s.words m = spells_views limits s.words m (IsSettled s.views) (λ row. ⊥) (λ row none. absurd none) h.spells in
       let c : ChangesOneWord limits s.words m actor step = change limits s.words m actor step h.wide parts few has bits in
-      let stay : (row j : ℕ) → row < limits.rows → j < row_size → get_or (words_after limits actor step s.words) (row_at row j) 0 ≡ get_or s.words (row_at row j) 0 = λ row
-      j below small. get_or-set_other s.words (changed_word limits actor step) (row_at row j) _ 0 (λ e. own.apart row j below small (sym e)) in
+      let stay : (row j : ℕ) → row < limits.rows → j < width_of limits row → get_or (words_after limits actor step s.words) (row_at limits row j) 0 ≡ get_or s.words (row_at limits row j) 0 = λ row
+      j below small. get_or-set_other s.words (changed_word limits actor step) (row_at limits row j) _ 0 (λ e. own.apart row j below small (sym e)) in
       let spells : SpellsWhere limits (words_after limits actor step s.words) (memory_after actor step m) (IsSettled s.views)
       = with_rows limits s.words (words_after limits actor step s.words) m (memory_after actor step m) (IsSettled s.views) stay c.records h.spells c.spells in
       record {

@@ -3,18 +3,18 @@ use Rattle.std.proofs.Common.{◌≡◌, ℕ, ◌<◌, List, get_or, set, sym, �
 use Rattle.tree_limits.specs.declared.limits.Limits.{Limits}
 use Rattle.deltas.specs.Memory.{Memory}
 use Rattle.traces.specs.trace.Steps.{IsWordOf}
-use Rattle.record_slots.specs.Layout.{row_size}
-use Rattle.tree_words.specs.Layout.{row_at, slot_at, epoch_at, announced_at, pid_bits_at, row_bits_at}
+use Rattle.tree_words.proofs.RowWidths.{few_words, row_within}
+use Rattle.tree_words.specs.Layout.{width_of, row_at, slot_at, epoch_at, announced_at, pid_bits_at, row_bits_at}
 use Rattle.tree_words.specs.Words.{used_in, words_in, SpellsWhere}
 
 module _ (limits : Limits) where
   -- A word of a row changes, and so no word but this row's.
   pub spells_row : (words : List ℕ) (memory memory' : Memory) (P Q : ℕ → Type 0) → SpellsWhere limits words memory P → (row k x : ℕ) → row < limits.rows
-      → k < row_size → memory' ≡ record memory { rows = memory'.rows }
-      → ((other j : ℕ) → other < limits.rows → j < row_size → j < used_in limits (memory'.rows other) → Q other
-      → get_or (set words (row_at row k) x) (row_at other j) 0 ≡ get_or (words_in limits (memory'.rows other)) j 0)
-      → SpellsWhere limits (set words (row_at row k) x) memory' Q
-  spells_row words memory memory' P Q sp row k x within small same rows = let at : ℕ = row_at row k in subst (λ z. SpellsWhere limits (set words at x) z Q) (sym same) (record {
+      → k < width_of limits row → memory' ≡ record memory { rows = memory'.rows }
+      → ((other j : ℕ) → other < limits.rows → j < width_of limits other → j < used_in limits (memory'.rows other) → Q other
+      → get_or (set words (row_at limits row k) x) (row_at limits other j) 0 ≡ get_or (words_in limits (memory'.rows other)) j 0)
+      → SpellsWhere limits (set words (row_at limits row k) x) memory' Q
+  spells_row words memory memory' P Q sp row k x within small same rows = let at : ℕ = row_at limits row k in let inside = row_within limits row within in let few = few_words limits row in subst (λ z. SpellsWhere limits (set words at x) z Q) (sym same) (record {
     slots = λ pid below. get_or-set_other words at (slot_at limits pid) x 0 (λ e. absurd (omega arith)) ∙ sp.slots pid below;
     pid_bits = λ word below. subst (IsWordOf memory.free_pids word) (sym (get_or-set_other words at (pid_bits_at limits word) x 0 (λ e. absurd (omega arith)))) (sp.pid_bits word below);
     row_bits = λ word below. subst (IsWordOf memory.free_rows word) (sym (get_or-set_other words at (row_bits_at limits word) x 0 (λ e. absurd (omega arith)))) (sp.row_bits word below);

@@ -1,5 +1,5 @@
 -- The opening words with a view of all actors keep the rule.
-use Rattle.std.proofs.Common.{◌≡◌, ◌≢◌, ℕ, zero, suc, ◌+◌, ◌<◌, ◌≤◌, Bool, true, false, eqb, List, [], ◌∷◌, sym, refl, ap, subst, arith, eq-eqb, ne_eqb}
+use Rattle.std.proofs.Common.{◌≡◌, ◌≢◌, ℕ, zero, suc, ◌+◌, ◌<◌, ◌≤◌, Bool, true, false, eqb, List, [], ◌∷◌, length, sym, refl, ap, subst, arith, eq-eqb, ne_eqb}
 use Rattle.std.specs.Prelude.{if◌then◌else◌, Some, None}
 use Rattle.std.specs.List.Sorted.{IsStrictlySortedBy}
 use Rattle.std.proofs.lemmas.Bool.{eqb-true}
@@ -17,7 +17,12 @@ use Rattle.deltas.specs.declared.record.Record.TheVariants.{Base}
 use Rattle.deltas.specs.Memory.{opening as memory_opening}
 use Rattle.deltas.specs.Spellable.{IsSpellablePage}
 use Rattle.traces.specs.declared.trace.Entry.{Entry}
-use Rattle.tree_words.specs.Words.{AreWordsOf}
+use Rattle.record_slots.specs.Spelling.{words_of}
+use Rattle.record_slots.proofs.SpellingLaws.{spelling_length}
+use Rattle.compact_rows.specs.Spelling.{compact_words}
+use Rattle.tree_words.proofs.RowWidths.{one_width, some_words}
+use Rattle.tree_words.specs.Layout.{width_of}
+use Rattle.tree_words.specs.Words.{AreWordsOf, stored}
 use Rattle.table_rule.specs.declared.view.Part.{Part}
 use Rattle.record_slots.specs.Spells.{HasSpelling}
 use Rattle.table_rule.specs.Running.{Each, IsSpelledRow, IsSettled, times, PartFits, Running}
@@ -75,13 +80,24 @@ module _ (limits : Limits) where
   dealt_fits words first zero below = tt
   dealt_fits words first (suc n) below = (record { extends = extends_self first []; reach = tt; there = omega arith; own_limits = refl }, dealt_fits words (suc first) n (omega arith))
 
+  leaf_fills : length (stored limits (Base empty_leaf)) ≤ width_of limits 1
+  leaf_fills = by limits.is_large refl
+    where
+      by : (large : Bool) → limits.is_large ≡ large → length (if large then compact_words (Base empty_leaf) else words_of (Base empty_leaf)) ≤ width_of limits 1
+      by true e = let long : length (compact_words (Base empty_leaf)) ≡ 2 = refl in let some = some_words limits 1 in omega (arith, long, some)
+      by false e = let long = spelling_length (Base empty_leaf) (words_of (Base empty_leaf)) empty_is_spelt in let wide = (one_width limits e 1).1 in omega (arith, long, wide)
+
   opening_kept : (row : ℕ) (content : Record) → (memory_opening limits).rows row ≡ Some content → IsSpelledRow limits row content
   opening_kept row content e = go (eqb row 1) refl e
     where
       go : (b : Bool) → eqb row 1 ≡ b → (if b then Some (Base empty_leaf) else None) ≡ Some content → IsSpelledRow limits row content
       go true is e =
           let one : row ≡ 1 = eqb-true row 1 is in
-          record { there = omega (arith, limits.allowed.some_rows); spelling = subst HasSpelling (same_Some (Base empty_leaf) content e) empty_is_spelt }
+          record {
+            there = omega (arith, limits.allowed.some_rows);
+            spelling = subst HasSpelling (same_Some (Base empty_leaf) content e) empty_is_spelt;
+            fills = rw one (subst (λ (stays : Record). length (stored limits stays) ≤ width_of limits 1) (same_Some (Base empty_leaf) content e) leaf_fills);
+          }
       go false is e = cc
 
   pub opens : (law : List Entry → Type 0) (words : List ℕ) → AreWordsOf limits (memory_opening limits) words → law [] → Running limits law (opening words [] (dealt limits))

@@ -23,7 +23,9 @@ use Rattle.traces.specs.trace.Trace.{memory_of}
 use Rattle.record_slots.specs.Layout.{last_at, row_size}
 use Rattle.compact_rows.specs.Spelling.{compact_words}
 use Rattle.record_slots.specs.Spells.{HasSpelling}
-use Rattle.tree_words.specs.Layout.{row_at}
+use Rattle.tree_words.proofs.RowWidths.{few_words, one_width, row_within, some_words}
+use Rattle.tree_words.specs.Layout.{row_at, width_of}
+use Rattle.table_rule.proofs.RowPlaces.{same_place}
 use Rattle.tree_words.specs.Words.{stored, used_in, words_in}
 use Rattle.table_rule.specs.declared.view.Reach.{Reach}
 use Rattle.table_rule.specs.declared.view.Reach.TheVariants.{Idle, Writing, Noted}
@@ -63,33 +65,35 @@ module _ (limits : Limits) (law : Limits → List Entry → Type 0) (apart : Kee
       may_now = subst (λ k. KnowsPlaceable k row) (sym (knows_now limits law s h id actor (seen_of me) (Writing row first written) tt there)) owned
 
       -- a row of which the seat has written no word
-      other_row : (i k x other j : ℕ) (view : List Part) → i ≡ row_at row k → k < row_size → other < limits.rows → j < row_size → j < used_in limits ((memory_of limits h.run).rows other) → row ≢ other → IsSettled (set s.views id view) other
-          → get_or (set s.words i x) (row_at other j) 0 ≡ get_or (words_in limits ((memory_of limits h.run).rows other)) j 0
-      other_row i k x other j view at small below short used ne st = get_or-set_other s.words i (row_at other j) x 0 (λ e. ne (omega arith))
+      other_row : (i k x other j : ℕ) (view : List Part) → i ≡ row_at limits row k → k < width_of limits row → other < limits.rows → j < width_of limits other → j < used_in limits ((memory_of limits h.run).rows other) → row ≢ other → IsSettled (set s.views id view) other
+          → get_or (set s.words i x) (row_at limits other j) 0 ≡ get_or (words_in limits ((memory_of limits h.run).rows other)) j 0
+      other_row i k x other j view at small below short used ne st = get_or-set_other s.words i (row_at limits other j) x 0 (λ e. ne (same_place limits row other k j small short (omega (arith, e, at))))
           ∙ h.spells.rows other j below short used (settled_back s.views id limits actor (seen_of me) (Writing row first written) view other there ne st)
 
       -- a row into which another seat writes
-      others_row : (k x other row' j : ℕ) → k < row_size → other ≢ actor → KnowsPlaceable (knows h.run other) row' → j < row_size
-          → get_or (set s.words (row_at row k) x) (row_at row' j) 0 ≡ get_or s.words (row_at row' j) 0
+      others_row : (k x other row' j : ℕ) → k < width_of limits row → other ≢ actor → KnowsPlaceable (knows h.run other) row' → j < width_of limits row'
+          → get_or (set s.words (row_at limits row k) x) (row_at limits row' j) 0 ≡ get_or s.words (row_at limits row' j) 0
       others_row k x other row' j small ne may short =
-          let no : row' ≢ row = no_other limits law apart actor other row row' h.run h.legal may_now ne may in get_or-set_other s.words (row_at row k) (row_at row' j) x 0 (λ e. no (omega arith))
+          let no : row' ≢ row = no_other limits law apart actor other row row' h.run h.legal may_now ne may in get_or-set_other s.words (row_at limits row k) (row_at limits row' j) x 0 (λ e. no (same_place limits row' row j k short small (omega (arith, e))))
 
     -- the words that are written, with one more
-    stand_with : (words : List ℕ) (x : ℕ) → row_at row (length written + 1) < length words → ((j : ℕ) → j < length written → get_or words (row_at row (j + 1)) 0 ≡ get_or written j 0)
-        → (j : ℕ) → j < length (written ++ x ∷ []) → get_or (set words (row_at row (length written + 1)) x) (row_at row (j + 1)) 0 ≡ get_or (written ++ x ∷ []) j 0
-    stand_with words x small stand j below = let at : ℕ = row_at row (length written + 1) in let more = length-append written (x ∷ []) in dite (ℕ_discrete j (length written))
-        (λ e. ap (λ (k : ℕ). get_or (set words at x) (row_at row (k + 1)) 0) e ∙ get_or-set_same words at x 0 small ∙ sym (get_or-append_seam written x [] 0) ∙
+    stand_with : (words : List ℕ) (x : ℕ) → row_at limits row (length written + 1) < length words → ((j : ℕ) → j < length written → get_or words (row_at limits row (j + 1)) 0 ≡ get_or written j 0)
+        → (j : ℕ) → j < length (written ++ x ∷ []) → get_or (set words (row_at limits row (length written + 1)) x) (row_at limits row (j + 1)) 0 ≡ get_or (written ++ x ∷ []) j 0
+    stand_with words x small stand j below = let at : ℕ = row_at limits row (length written + 1) in let more = length-append written (x ∷ []) in dite (ℕ_discrete j (length written))
+        (λ e. ap (λ (k : ℕ). get_or (set words at x) (row_at limits row (k + 1)) 0) e ∙ get_or-set_same words at x 0 small ∙ sym (get_or-append_seam written x [] 0) ∙
         ap (λ (k : ℕ). get_or (written ++ x ∷ []) k 0) (sym e))
-        (λ ne. get_or-set_other words at (row_at row (j + 1)) x 0 (λ e. ne (omega arith)) ∙ stand j (omega arith) ∙ sym (get_or_append_left written (x ∷ []) 0 j (omega arith)))
+        (λ ne. get_or-set_other words at (row_at limits row (j + 1)) x 0 (λ e. ne (omega arith)) ∙ stand j (omega arith) ∙ sym (get_or_append_left written (x ∷ []) 0 j (omega arith)))
 
-    pub fills : (x : ℕ) → length written < last_at → Allows (Rule limits law) slots id me (row_at row (length written + 1)) (λ _. x) (λ _. Fills me x)
+    pub fills : (x : ℕ) → length written + 1 < width_of limits row → Allows (Rule limits law) slots id me (row_at limits row (length written + 1)) (λ _. x) (λ _. Fills me x)
     fills x short s h _ here _ =
         let there : get_elem? s.views id ≡ some (alone limits actor (seen_of me) (Writing row first written)) = here ∙ ap (λ (z : Mine). some z.0) is in
-        let at : ℕ = row_at row (length written + 1) in
+        let at : ℕ = row_at limits row (length written + 1) in
         let now = may_now s h there in
         let now_fits = (fits_now limits law s h id actor (seen_of me) (Writing row first written) tt there).reach in
         let more : length (written ++ x ∷ []) ≡ suc (length written) = omega (arith, length-append written (x ∷ [])) in
         let wide = h.wide in
+        let inside = row_within limits row within in
+        let few = few_words limits row in
         let view : List Part = alone limits actor (seen_of me) (Writing row first (written ++ x ∷ [])) in
         let stands : get_elem? (set s.views id view) id ≡ some view = set_at s.views id (alone limits actor (seen_of me) (Writing row first written)) view there in (
           view,
@@ -110,7 +114,7 @@ module _ (limits : Limits) (law : Limits → List Entry → Type 0) (apart : Kee
                 short = omega arith;
                 old = now_fits.old;
                 front = stand_with s.words x (omega arith) now_fits.front;
-                behind = λ kind j above small. get_or-set_other s.words at (row_at row j) x 0 (λ e. absurd (omega arith)) ∙ now_fits.behind kind j (omega arith) small;
+                behind = λ kind j above small. get_or-set_other s.words at (row_at limits row j) x 0 (λ e. absurd (omega arith)) ∙ now_fits.behind kind j (omega arith) small;
               }
               (spells_row limits s.words (memory_of limits h.run) (memory_of limits h.run) (IsSettled s.views) (IsSettled (set s.views id view)) h.spells row
               (length written + 1) x within (omega arith) refl
@@ -124,14 +128,14 @@ module _ (limits : Limits) (law : Limits → List Entry → Type 0) (apart : Kee
 
     -- Once the header is written, the row has the record's words.
     placed_word : (s : TableState) (h : Rule limits law s) (header : ℕ) (content : Record) (j : ℕ) → IsPartWritten limits s.words h.run actor row first written
-        → IsEnough limits content header first written → j < row_size → j < used_in limits (Some content)
-        → get_or (set s.words (row_at row 0) header) (row_at row j) 0 ≡ get_or (stored limits content) j 0
-    placed_word s h header content zero fits enough small used = let wide = h.wide in get_or-set_same s.words (row_at row 0) header 0 (omega arith) ∙ enough.head
+        → IsEnough limits content header first written → j < width_of limits row → j < used_in limits (Some content)
+        → get_or (set s.words (row_at limits row 0) header) (row_at limits row j) 0 ≡ get_or (stored limits content) j 0
+    placed_word s h header content zero fits enough small used = let wide = h.wide in let inside = row_within limits row within in get_or-set_same s.words (row_at limits row 0) header 0 (omega arith) ∙ enough.head
     placed_word s h header content (suc j) fits enough small used =
         let next : suc j ≡ j + 1 = omega arith in
-        get_or-set_other s.words (row_at row 0) (row_at row (suc j)) header 0 (omega arith)
+        get_or-set_other s.words (row_at limits row 0) (row_at limits row (suc j)) header 0 (omega arith)
         ∙ ⊎_elim
-        (λ below. ap (λ (k : ℕ). get_or s.words (row_at row k) 0) next ∙ fits.front j below ∙ enough.front j below ∙ ap (λ (k : ℕ). get_or (stored limits content) k 0) (sym next))
+        (λ below. ap (λ (k : ℕ). get_or s.words (row_at limits row k) 0) next ∙ fits.front j below ∙ enough.front j below ∙ ap (λ (k : ℕ). get_or (stored limits content) k 0) (sym next))
         (λ above. elim (cases_Bool limits.is_large) [
           | inl large ↦
               let all : length (compact_words content) ≤ length written + 1 = enough.all large in
@@ -144,29 +148,30 @@ module _ (limits : Limits) (law : Limits → List Entry → Type 0) (apart : Kee
         there : Option Record
         there = (memory_of limits h.run).rows row
 
-        behind : limits.is_large ≡ false → length written ≤ j → get_or s.words (row_at row (suc j)) 0 ≡ get_or (stored limits content) (suc j) 0
+        behind : limits.is_large ≡ false → length written ≤ j → get_or s.words (row_at limits row (suc j)) 0 ≡ get_or (stored limits content) (suc j) 0
         behind kind above =
             let old : used_by (get_or (words_in limits there) 0 0) ≤ length written + 1 = subst (λ (u : ℕ). used_by u ≤ length written + 1) fits.old (enough.both kind).1 in
             let new : used_by (get_or (stored limits content) 0 0) ≤ length written + 1 = subst (λ (u : ℕ). used_by u ≤ length written + 1) enough.head (enough.both kind).0 in
-            fits.behind kind (suc j) (omega (arith, above)) small ∙ zero_behind_in limits kind there (λ one e. (h.kept row one e).spelling) (suc j) (omega (arith, old, above))
+            fits.behind kind (suc j) (omega (arith, above)) (let is = (one_width limits kind row).1 in omega (arith, is, small)) ∙ zero_behind_in limits kind there (λ one e. (h.kept row one e).spelling) (suc j) (omega (arith, old, above))
             ∙ sym (zero_behind_in limits kind (Some content) (λ one e. subst HasSpelling (same_Some content one e) enough.spelled) (suc j) (omega (arith, new, above)))
 
-    pub places : (header : ℕ) (content : Record) → IsEnough limits content header first written → IsLawfulStep law limits actor (seen_of me) None (Place row content) None
-        → Allows (Rule limits law) slots id me (row_at row 0) (λ _. header) (λ _. Places law (Place row content) me header)
-    places header content enough may =
-        event_telling limits law slots id actor me (Writing row first written) (row_at row 0) (λ _. header) None (Place row content) None (λ _. Places law (Place row content) me header) tt is may
+    pub places : (header : ℕ) (content : Record) → IsEnough limits content header first written → length (stored limits content) ≤ width_of limits row → IsLawfulStep law limits actor (seen_of me) None (Place row content) None
+        → Allows (Rule limits law) slots id me (row_at limits row 0) (λ _. header) (λ _. Places law (Place row content) me header)
+    places header content enough fits may =
+        event_telling limits law slots id actor me (Writing row first written) (row_at limits row 0) (λ _. header) None (Place row content) None (λ _. Places law (Place row content) me header) tt is may
         (λ s h there.
-        let at : ℕ = row_at row 0 in
+        let at : ℕ = row_at limits row 0 in
         let memory : Memory = memory_of limits h.run in
         let now = may_now s h there in
+        let some = some_words limits row in
         let rows : ℕ → Option Record = replaced_at row (Some content) memory.rows in (
           Done,
           record {
             answered = refl;
             spells = λ view _. spells_row limits s.words memory (record memory { rows = rows }) (IsSettled s.views) (IsSettled (set s.views id view)) h.spells row 0 header within (omega arith) refl
                 (λ other j below small used st. dite (ℕ_discrete other row)
-                (λ e. subst (λ (z : ℕ). get_or (set s.words at header) (row_at z j) 0 ≡ get_or (words_in limits (rows z)) j 0) (sym e)
-                (placed_word s h header content j (fits_now limits law s h id actor (seen_of me) (Writing row first written) tt there).reach enough small
+                (λ e. subst (λ (z : ℕ). get_or (set s.words at header) (row_at limits z j) 0 ≡ get_or (words_in limits (rows z)) j 0) (sym e)
+                (placed_word s h header content j (fits_now limits law s h id actor (seen_of me) (Writing row first written) tt there).reach enough (subst (λ (z : ℕ). j < width_of limits z) e small)
                 (subst (λ (o : Option Record). j < used_in limits o) (ap rows e ∙ replaced_same row (Some content) memory.rows) used) ∙ ap
                 (λ o. get_or (words_in limits o) j 0) (sym (replaced_same row (Some content) memory.rows))))
                 (λ ne. other_row s h there at 0 header other j view refl (omega arith) below small
@@ -174,7 +179,11 @@ module _ (limits : Limits) (law : Limits → List Entry → Type 0) (apart : Kee
                 (sym (replaced_other row (Some content) memory.rows other ne))));
             kept = λ other stays e. dite (ℕ_discrete other row)
                 (λ same. let new : Some content ≡ Some stays = sym (ap rows same ∙ replaced_same row (Some content) memory.rows) ∙ e in
-                record { there = subst (λ z. z < limits.rows) (sym same) within; spelling = subst HasSpelling (same_Some content stays new) enough.spelled })
+                record {
+                  there = subst (λ z. z < limits.rows) (sym same) within;
+                  spelling = subst HasSpelling (same_Some content stays new) enough.spelled;
+                  fills = subst (λ (z : Record × ℕ). length (stored limits z.0) ≤ width_of limits z.1) (λ k. (same_Some content stays new k, sym same k)) fits;
+                })
                 (λ ne. h.kept other stays (sym (replaced_other row (Some content) memory.rows other ne) ∙ e));
             writes = λ other row' ne may' _ j small. others_row s h there 0 header other row' j (omega arith) ne may' small;
             records = λ other row' ne may'. replaced_other row (Some content) memory.rows row' (no_other limits law apart actor other row row' h.run h.legal now ne may');
@@ -191,15 +200,15 @@ module _ (law : Limits → List Entry → Type 0) (key limits : Limits) (own : k
   owned_of : KnowsPlaceable (knows (seen_of me) actor) row
   owned_of = subst (λ (z : List Entry). KnowsPlaceable (knows z actor) row) (sym is_seen) owned
 
-  pub fills_at : (x : ℕ) → word ≡ row_at row (length written + 1) → length written < last_at → Allows (Rule key law) slots id me word (λ _. x) (λ _. Fills me x)
+  pub fills_at : (x : ℕ) → word ≡ row_at limits row (length written + 1) → length written + 1 < width_of limits row → Allows (Rule key law) slots id me word (λ _. x) (λ _. Fills me x)
   fills_at x at short = subst (λ (z : Limits × ℕ). Allows (Rule z.0 law) slots id me z.1 (λ _. x) (λ _. Fills me x)) (λ k. (sym own k, sym at k))
       (fills limits law apart slots id actor me row first written within is owned_of x short)
 
-  pub places_at : (header : ℕ) (content : Record) (told : StepOf Record) → word ≡ row_at row 0 → Place row content ≡ told → IsEnough limits content header first written
-      → IsLawfulStep law limits actor seen None (Place row content) None → Allows (Rule key law) slots id me word (λ _. header) (λ _. Places law told me header)
-  places_at header content told at is_told enough may =
+  pub places_at : (header : ℕ) (content : Record) (told : StepOf Record) → word ≡ row_at limits row 0 → Place row content ≡ told → IsEnough limits content header first written
+      → length (stored limits content) ≤ width_of limits row → IsLawfulStep law limits actor seen None (Place row content) None → Allows (Rule key law) slots id me word (λ _. header) (λ _. Places law told me header)
+  places_at header content told at is_told enough fits may =
       subst (λ (z : Limits × ℕ × StepOf Record). Allows (Rule z.0 law) slots id me z.1 (λ _. header) (λ _. Places law z.2 me header)) (λ k. (sym own k, sym at k, is_told k))
-      (places limits law apart slots id actor me row first written within is owned_of header content enough
+      (places limits law apart slots id actor me row first written within is owned_of header content enough fits
       (subst (λ (z : List Entry). IsLawfulStep law limits actor z None (Place row content) None) (sym is_seen) may))
 
 pub next_in_tail : (xs : List ℕ) (i : ℕ) → get_or xs (i + 1) 0 ≡ get_or (tail_from xs) i 0
@@ -207,12 +216,12 @@ next_in_tail [] i = refl
 next_in_tail (x ∷ xs) i = ap (λ k. get_or (x ∷ xs) k 0) (add-one i)
 
 -- The words that are written over are enough.
-pub enough_written : (limits : Limits) (first : ℕ) (content : Record) (words : List ℕ) → used_by first ≤ row_size → IsStored limits content words
+pub enough_written : (limits : Limits) (first row : ℕ) (content : Record) (words : List ℕ) → length words ≤ width_of limits row → used_by first ≤ row_size → IsStored limits content words
     → IsEnough limits content (get_or words 0 0) first (written_over limits first words)
-enough_written limits first content words room is =
+enough_written limits first row content words fits room is =
     let tail : List ℕ = tail_from words in
     let over : ℕ = words_over limits first words in
-    let few = over_few limits first content words is room in
+    let few = over_few limits first content words is row fits room in
     let long : length (written_over limits first words) ≡ over = length-take-le over tail few.1 in
     record {
       spelled = is.spelling;

@@ -2,6 +2,7 @@ mod Parts
 mod Turns
 mod Acting
 mod ByWord
+mod RowPlaces
 mod RowReads
 mod UsedWords
 mod Measured

@@ -12,7 +12,9 @@ use Rattle.traces.specs.declared.trace.Entry.{Entry}
 use Rattle.traces.specs.discipline.Knowledge.{knows}
 use Rattle.traces.specs.trace.Trace.{memory_of}
 use Rattle.record_slots.specs.Layout.{row_size}
+use Rattle.tree_words.proofs.RowWidths.{one_width, some_words}
 use Rattle.tree_words.specs.Layout.{row_at}
+use Rattle.table_rule.proofs.RowPlaces.{same_row}
 use Rattle.tree_words.specs.Words.{words_in}
 use Rattle.table_rule.specs.declared.view.Reach.{Reach}
 use Rattle.table_rule.specs.declared.view.Reach.TheVariants.{Idle, Writing, Noted}
@@ -48,16 +50,17 @@ module _ (limits : Limits) (law : Limits → List Entry → Type 0) (apart : Kee
         (elsewhere s.views id j (alone limits actor seen Idle) view actor h.once there (omega arith) here ne) (h.each j view here))
 
   module _ (slots id actor : ℕ) (me : Mine) (row : ℕ) (within : row < limits.rows) (is : SitsAt limits actor Idle me) (owned : KnowsPlaceable (knows (seen_of me) actor) row) where
-    pub measures : Allows (Rule limits law) slots id me (row_at row 0) (λ n. n) (Measures (step slots (row_at row 0) 0 0 none) me)
+    pub measures : Allows (Rule limits law) slots id me (row_at limits row 0) (λ n. n) (Measures (step slots (row_at limits row 0) 0 0 none) me)
     measures s h _ here _ =
         let there : get_elem? s.views id ≡ some (alone limits actor (seen_of me) Idle) = here ∙ ap (λ (z : Mine). some z.0) is in
         let extends = extends_now limits law s h id actor (seen_of me) Idle tt there in
         let may : KnowsPlaceable (knows h.run actor) row = subst (λ k. KnowsPlaceable k row) (sym (knows_now limits law s h id actor (seen_of me) Idle tt there)) owned in
-        let at : ℕ = row_at row 0 in
+        let at : ℕ = row_at limits row 0 in
         let n : ℕ = get_or s.words at 0 in
         let memory : Memory = memory_of limits h.run in
         let view : List Part = alone limits actor (seen_of me) (Writing row n []) in
         let settled : IsSettled s.views row = own_settled s h id actor (seen_of me) there row may in
+        let some = some_words limits row in
         let first : n ≡ get_or (words_in limits (memory.rows row)) 0 0 = h.spells.rows row 0 within (omega arith) (some_used limits (memory.rows row)) settled in (
           view,
           keeps,
@@ -70,12 +73,13 @@ module _ (limits : Limits) (law : Limits → List Entry → Type 0) (apart : Kee
                 short = omega arith;
                 old = first;
                 front = λ j below. absurd (omega arith);
-                behind = λ kind j above small. ap (λ (words : List ℕ). get_or words (row_at row j) 0) (set-get_or s.words at 0)
-                    ∙ h.spells.rows row j within small (all_used limits kind (memory.rows row) j small) settled;
+                behind = λ kind j above small. ap (λ (words : List ℕ). get_or words (row_at limits row j) 0) (set-get_or s.words at 0)
+                    ∙ h.spells.rows row j within (let is = (one_width limits kind row).1 in omega (arith, is, small)) (all_used limits kind (memory.rows row) j small) settled;
               }
               (spells_quiet limits law s h id actor (seen_of me) there at view),
           λ limits' actor' row' is' word.
-              let row_same : row ≡ row' = omega arith in
+              let tree : limits ≡ limits' = same_limits limits limits' actor actor' Idle Idle me is is' in
+              let row_same : row ≡ row' = same_row limits limits' tree row row' word in
               let sits : SitsAt limits actor (Writing row n []) (view, me.1) = ap (λ (c : List (ℕ × Unit {0})). (view, c)) (ap (λ (z : Mine). z.1) is) in (
                 subst (λ (z : Limits × ℕ × ℕ). SitsAt z.0 z.1 (Writing z.2 n []) (view, me.1))
                     (λ k. (same_limits limits limits' actor actor' Idle Idle me is is' k, same_actor limits limits' actor actor' Idle Idle me is is' k, row_same k)) sits,
@@ -87,7 +91,7 @@ module _ (limits : Limits) (law : Limits → List Entry → Type 0) (apart : Kee
 -- the same as the function asks for it
 module _ (law : Limits → List Entry → Type 0) (key limits : Limits) (own : key ≡ limits) (apart : KeepsRowsApart limits (law limits)) (slots id actor : ℕ) (me : Mine) (row word : ℕ)
     (within : row < limits.rows) (is : SitsAt limits actor Idle me) (owned : KnowsPlaceable (knows (seen_of me) actor) row) where
-  pub measures_at : word ≡ row_at row 0 → Allows (Rule key law) slots id me word (λ n. n) (Measures (step slots word 0 0 none) me)
+  pub measures_at : word ≡ row_at limits row 0 → Allows (Rule key law) slots id me word (λ n. n) (Measures (step slots word 0 0 none) me)
   measures_at at =
       subst (λ (z : Limits × ℕ). Allows (Rule z.0 law) slots id me z.1 (λ n. n) (Measures (step slots z.1 0 0 none) me)) (λ k. (sym own k, sym at k))
       (measures limits law apart slots id actor me row within is owned)

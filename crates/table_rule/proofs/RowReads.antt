@@ -1,5 +1,5 @@
 -- The load of a row's first word, which is the step, and looks at its words keep the rule.
-use Rattle.std.proofs.Common.{◌≡◌, ℕ, ◌<◌, List, [], ◌∷◌, get_or, sym, refl, ap, ◌∙◌, subst, arith}
+use Rattle.std.proofs.Common.{◌≡◌, ℕ, ◌<◌, ◌≤◌, List, [], ◌∷◌, length, get_or, sym, refl, ap, ◌∙◌, subst, arith}
 use Rattle.std.specs.Prelude.{Option, None, Some}
 use Rattle.std.proofs.lemmas.List.{set-get_or}
 use mathlib.Core.Option.{some, none}
@@ -14,15 +14,17 @@ use Rattle.traces.specs.discipline.Knowledge.{knows}
 use Rattle.traces.specs.trace.Trace.{memory_of}
 use Rattle.record_slots.specs.Layout.{row_size}
 use Rattle.record_slots.specs.Spells.{HasSpelling}
-use Rattle.tree_words.specs.Layout.{row_at}
+use Rattle.tree_words.proofs.RowWidths.{some_words}
+use Rattle.tree_words.specs.Layout.{row_at, width_of}
+use Rattle.table_rule.proofs.RowPlaces.{same_row}
 use Rattle.tree_words.specs.Words.{stored, used_in, words_in}
 use Rattle.table_rule.specs.declared.view.Reach.TheVariants.{Idle, Writing, Noted}
 use Rattle.table_rule.specs.declared.view.Reach.{Reach}
 use Rattle.table_rule.specs.declared.view.Part.{Part}
-use Rattle.table_rule.specs.Running.{Each, IsSettled, KnowsPlaceable, KnowsReadable, KeepsRowsApart, LeavesRow, PartFits, ReachFits}
-use Rattle.table_rule.specs.Steps.{IsLawfulStep, Looks, ReadsRow, ReadsFirst}
+use Rattle.table_rule.specs.Running.{Each, IsSettled, IsSpelledRow, KnowsPlaceable, KnowsReadable, KeepsRowsApart, LeavesRow, PartFits, ReachFits}
+use Rattle.table_rule.specs.Steps.{HasReadRecord, IsLawfulStep, Looks, ReadsRow, ReadsFirst}
 use Rattle.table_rule.specs.Views.{alone, Mine, seen_of, SitsAt}
-use Rattle.table_rule.proofs.UsedWords.{some_used}
+use Rattle.table_rule.proofs.UsedWords.{some_used, used_few}
 use Rattle.table_rule.proofs.Turns.{TableState, Rule, extends_now, knows_now, turn, event_telling, same_actor, same_limits, spares_quiet, spells_quiet}
 
 module _ (limits : Limits) (law : Limits → List Entry → Type 0) (apart : KeepsRowsApart limits (law limits)) where
@@ -45,8 +47,8 @@ module _ (limits : Limits) (law : Limits → List Entry → Type 0) (apart : Kee
   settled s h actor row may id view there = each_leaves s.words h.run actor row view h.legal may (h.each id view there)
 
   -- the word j of the record of a row that the actor may read
-  word_is : (s : TableState) (h : Rule limits law s) (actor row j : ℕ) → KnowsReadable (knows h.run actor) row → row < limits.rows → j < row_size → j < used_in limits ((memory_of limits h.run).rows row)
-      → get_or s.words (row_at row j) 0 ≡ get_or (words_in limits ((memory_of limits h.run).rows row)) j 0
+  word_is : (s : TableState) (h : Rule limits law s) (actor row j : ℕ) → KnowsReadable (knows h.run actor) row → row < limits.rows → j < width_of limits row → j < used_in limits ((memory_of limits h.run).rows row)
+      → get_or s.words (row_at limits row j) 0 ≡ get_or (words_in limits ((memory_of limits h.run).rows row)) j 0
   word_is s h actor row j may within small used = h.spells.rows row j within small used (settled s h actor row may)
 
   -- the record of a row that the actor may read
@@ -60,10 +62,40 @@ module _ (limits : Limits) (law : Limits → List Entry → Type 0) (apart : Kee
       may_now : KnowsReadable (knows h.run actor) row
       may_now = subst (λ k. KnowsReadable k row) (sym (knows_now limits law s h id actor (seen_of me) Idle tt there)) known
 
-    looks : (place : ℕ) → place < row_size → Allows (Rule limits law) slots id me (row_at row place) (λ n. n) (Looks (step slots (row_at row place) 0 0 none) me)
+      -- a record that the seat has read since it entered is still in its row
+      stands_now : (actor' : ℕ) → actor ≡ actor' → (row' : ℕ) (content : Record) → HasReadRecord (knows (seen_of me) actor') row' content → (memory_of limits h.run).rows row' ≡ Some content
+      stands_now actor' who row' content has =
+          let seen : (knows h.run actor).read.seen row' ≡ Some content = ap (λ k. k.read.seen row')
+          (knows_now limits law s h id actor (seen_of me) Idle tt there) ∙ ap (λ (z : ℕ). (knows (seen_of me) z).read.seen row') who ∙ has.seen in
+          apart.stands actor row' content h.run h.legal seen
+
+      read_word : (limits' : Limits) → limits ≡ limits' → (actor' : ℕ) → actor ≡ actor' → (row' place' : ℕ) (content : Record) → place' < used_in limits' (Some content)
+          → HasReadRecord (knows (seen_of me) actor') row' content → get_or s.words (row_at limits' row' place') 0 ≡ get_or (stored limits' content) place' 0
+      read_word limits' tree actor' who row' place' content used has =
+          subst (λ (l : Limits). place' < used_in l (Some content) → get_or s.words (row_at l row' place') 0 ≡ get_or (stored l content) place' 0) tree by used
+        where
+          stays : (memory_of limits h.run).rows row' ≡ Some content
+          stays = stands_now actor' who row' content has
+
+          kept : IsSpelledRow limits row' content
+          kept = h.kept row' content stays
+
+          may : KnowsReadable (knows h.run actor) row'
+          may =
+              subst (λ k. KnowsReadable k row') (sym (knows_now limits law s h id actor (seen_of me) Idle tt there))
+              (subst (λ (z : ℕ). KnowsReadable (knows (seen_of me) z) row') (sym who) has.may)
+
+          by : place' < used_in limits (Some content) → get_or s.words (row_at limits row' place') 0 ≡ get_or (stored limits content) place' 0
+          by used =
+              let fills = kept.fills in
+              let few = used_few limits content kept.spelling in
+              word_is s h actor row' place' may kept.there (omega (arith, used, fills, few)) (subst (λ (o : Option Record). place' < used_in limits o) (sym stays) used)
+              ∙ ap (λ o. get_or (words_in limits o) place' 0) stays
+
+    looks : (place : ℕ) → place < row_size → Allows (Rule limits law) slots id me (row_at limits row place) (λ n. n) (Looks (step slots (row_at limits row place) 0 0 none) me)
     looks place small s h _ here _ =
         let there : get_elem? s.views id ≡ some (alone limits actor (seen_of me) Idle) = here ∙ ap (λ (z : Mine). some z.0) is in
-        let at : ℕ = row_at row place in
+        let at : ℕ = row_at limits row place in
         let n : ℕ = get_or s.words at 0 in
         let view : List Part = alone limits actor (seen_of me) Idle in (
           view,
@@ -77,46 +109,35 @@ module _ (limits : Limits) (law : Limits → List Entry → Type 0) (apart : Kee
             λ limits' actor' row' place' content is' small' used has word.
                 let tree : limits ≡ limits' = same_limits limits limits' actor actor' Idle Idle me is is' in
                 let who : actor ≡ actor' = same_actor limits limits' actor actor' Idle Idle me is is' in
-                let row_same : row ≡ row' = omega arith in
-                let place_same : place ≡ place' = omega arith in
-                let seen : (knows h.run actor).read.seen row ≡ Some content = ap (λ k. k.read.seen row)
-                (knows_now limits law s h id actor (seen_of me) Idle tt there) ∙ ap (λ (z : ℕ × ℕ). (knows (seen_of me) z.0).read.seen z.1)
-                (λ k. (who k, row_same k)) ∙ has.seen in
-                let stands : (memory_of limits h.run).rows row ≡ Some content = apart.stands actor row content h.run h.legal seen in
-                let used' : place < used_in limits ((memory_of limits h.run).rows row) =
-                subst (λ (z : ℕ × Limits × Option Record). z.0 < used_in z.1 z.2) (λ k. (sym place_same k, sym tree k, sym stands k)) used in
-                word_is s h actor row place (may_now s h there) within small used'
-                ∙ ap (λ o. get_or (words_in limits o) place 0) stands
-                ∙ (λ k. get_or (stored (tree k) content) (place_same k) 0),
+                let here : n ≡ get_or s.words (row_at limits' row' place') 0 = ap (λ (i : ℕ). get_or s.words i 0) word in
+                here ∙ read_word s h there limits' tree actor' who row' place' content used has,
             λ limits' actor' row' place' content is' small' has word.
+                let tree : limits ≡ limits' = same_limits limits limits' actor actor' Idle Idle me is is' in
                 let who : actor ≡ actor' = same_actor limits limits' actor actor' Idle Idle me is is' in
-                let row_same : row ≡ row' = omega arith in
-                let seen : (knows h.run actor).read.seen row ≡ Some content = ap (λ k. k.read.seen row)
-                (knows_now limits law s h id actor (seen_of me) Idle tt there) ∙ ap (λ (z : ℕ × ℕ). (knows (seen_of me) z.0).read.seen z.1)
-                (λ k. (who k, row_same k)) ∙ has.seen in
-                (h.kept row content (apart.stands actor row content h.run h.legal seen)).spelling,
+                (h.kept row' content (stands_now s h there actor' who row' content has)).spelling,
           ),
         )
 
-    reads : IsLawfulStep law limits actor (seen_of me) None (Row row) None → Allows (Rule limits law) slots id me (row_at row 0) (λ n. n) (ReadsRow law (step slots (row_at row 0) 0 0 none) me)
-    reads may = event_telling limits law slots id actor me Idle (row_at row 0) (λ n. n) None (Row row) None (ReadsRow law (step slots (row_at row 0) 0 0 none) me) tt is may
+    reads : IsLawfulStep law limits actor (seen_of me) None (Row row) None → Allows (Rule limits law) slots id me (row_at limits row 0) (λ n. n) (ReadsRow law (step slots (row_at limits row 0) 0 0 none) me)
+    reads may = event_telling limits law slots id actor me Idle (row_at limits row 0) (λ n. n) None (Row row) None (ReadsRow law (step slots (row_at limits row 0) 0 0 none) me) tt is may
         (λ s h there.
-        let at : ℕ = row_at row 0 in
+        let at : ℕ = row_at limits row 0 in
         let n : ℕ = get_or s.words at 0 in
         let now = may_now s h there in
         let x = row_is s h actor row now in
         let first : n ≡ get_or (stored limits x.0) 0 0 =
-        word_is s h actor row 0 now within (omega arith) (some_used limits ((memory_of limits h.run).rows row)) ∙ ap (λ o. get_or (words_in limits o) 0 0) x.1 in (
+        word_is s h actor row 0 now within (let some = some_words limits row in omega (arith, some)) (some_used limits ((memory_of limits h.run).rows row)) ∙ ap (λ o. get_or (words_in limits o) 0 0) x.1 in (
           Content x.0,
           record {
             answered = (x.0, x.1, refl);
             spells = λ view _. spells_quiet limits law s h id actor (seen_of me) there at view;
             kept = h.kept;
-            writes = λ other row' _ _ _ j small. ap (λ (u : List ℕ). get_or u (row_at row' j) 0) (set-get_or s.words at 0);
+            writes = λ other row' _ _ _ j small. ap (λ (u : List ℕ). get_or u (row_at limits row' j) 0) (set-get_or s.words at 0);
             records = λ other row' _ _. refl;
           },
           λ me' is_after took limits' actor' row' is' word.
-              let row_same : row ≡ row' = omega arith in
+              let tree : limits ≡ limits' = same_limits limits limits' actor actor' Idle Idle me is is' in
+              let row_same : row ≡ row' = same_row limits limits' tree row row' word in
               subst (λ (z : Limits × ℕ × ℕ). SitsAt z.0 z.1 Idle me' × ReadsFirst law z.0 z.1 (seen_of me) z.2 n (seen_of me'))
               (λ k. (same_limits limits limits' actor actor' Idle Idle me is is' k, same_actor limits limits' actor actor' Idle Idle me is is' k, row_same k))
               (is_after, (x.0, x.2, first, took)),
@@ -125,10 +146,10 @@ module _ (limits : Limits) (law : Limits → List Entry → Type 0) (apart : Kee
 -- the same as the functions ask for them
 module _ (law : Limits → List Entry → Type 0) (key limits : Limits) (own : key ≡ limits) (apart : KeepsRowsApart limits (law limits)) (slots id actor : ℕ) (me : Mine) (row word : ℕ)
     (within : row < limits.rows) (is : SitsAt limits actor Idle me) (known : KnowsReadable (knows (seen_of me) actor) row) where
-  pub looks_at : (place : ℕ) → place < row_size → word ≡ row_at row place → Allows (Rule key law) slots id me word (λ n. n) (Looks (step slots word 0 0 none) me)
+  pub looks_at : (place : ℕ) → place < row_size → word ≡ row_at limits row place → Allows (Rule key law) slots id me word (λ n. n) (Looks (step slots word 0 0 none) me)
   looks_at place small at = subst (λ (z : Limits × ℕ). Allows (Rule z.0 law) slots id me z.1 (λ n. n) (Looks (step slots z.1 0 0 none) me)) (λ k. (sym own k, sym at k))
       (looks limits law apart slots id actor me row within is known place small)
 
-  pub reads_at : word ≡ row_at row 0 → IsLawfulStep law limits actor (seen_of me) None (Row row) None → Allows (Rule key law) slots id me word (λ n. n) (ReadsRow law (step slots word 0 0 none) me)
+  pub reads_at : word ≡ row_at limits row 0 → IsLawfulStep law limits actor (seen_of me) None (Row row) None → Allows (Rule key law) slots id me word (λ n. n) (ReadsRow law (step slots word 0 0 none) me)
   reads_at at may = subst (λ (z : Limits × ℕ). Allows (Rule z.0 law) slots id me z.1 (λ n. n) (ReadsRow law (step slots z.1 0 0 none) me)) (λ k. (sym own k, sym at k))
       (reads limits law apart slots id actor me row within is known may)

@@ -18,7 +18,8 @@ use Rattle.traces.specs.discipline.Knowledge.{knows}
 use Rattle.traces.specs.trace.Steps.{IsAnswer, memory_after}
 use Rattle.traces.specs.trace.Trace.{memory_of}
 use Rattle.record_slots.specs.Layout.{row_size}
-use Rattle.tree_words.specs.Layout.{row_at}
+use Rattle.tree_words.proofs.RowWidths.{one_width}
+use Rattle.tree_words.specs.Layout.{row_at, width_of}
 use Rattle.tree_words.specs.Words.{words_in, SpellsWhere}
 use Rattle.table_rule.specs.declared.view.Reach.{Reach}
 use Rattle.table_rule.specs.declared.view.Reach.TheVariants.{Idle, Writing, Noted}
@@ -81,7 +82,7 @@ module _ (limits : Limits) (law : Limits → List Entry → Type 0) where
     pub grows : StartsWith run' run
     pub extends : (other : ℕ) (seen : List Entry) → other ≢ actor → Extends other seen run → Extends other seen run'
     pub same : (other : ℕ) → other ≢ actor → knows run' other ≡ knows run other
-    pub writes : (other row : ℕ) → other ≢ actor → KnowsPlaceable (knows run other) row → row < limits.rows → (j : ℕ) → j < row_size → get_or words' (row_at row j) 0 ≡ get_or words (row_at row j) 0
+    pub writes : (other row : ℕ) → other ≢ actor → KnowsPlaceable (knows run other) row → row < limits.rows → (j : ℕ) → j < width_of limits row → get_or words' (row_at limits row j) 0 ≡ get_or words (row_at limits row j) 0
     pub records : (other row : ℕ) → other ≢ actor → KnowsPlaceable (knows run other) row → (memory_of limits run').rows row ≡ (memory_of limits run).rows row
 
   spared : (actor other : ℕ) (words words' : List ℕ) (seen run run' : List Entry) (reach : Reach) → IsApart actor other reach
@@ -91,7 +92,7 @@ module _ (limits : Limits) (law : Limits → List Entry → Type 0) where
   spared actor other words words' seen run run' (Writing row first written) apart spares goes fits =
       let ne = apart_ne actor other apart in
       let short = fits.short in
-      let stay : (j : ℕ) → j < row_size → get_or words' (row_at row j) 0 ≡ get_or words (row_at row j) 0 = spares.writes other row ne fits.may fits.there in
+      let stay : (j : ℕ) → j < width_of limits row → get_or words' (row_at limits row j) 0 ≡ get_or words (row_at limits row j) 0 = spares.writes other row ne fits.may fits.there in
       let still : (memory_of limits run).rows row ≡ (memory_of limits run').rows row = sym (spares.records other row ne fits.may) in (
         spares.extends other seen ne goes,
         record {
@@ -100,7 +101,7 @@ module _ (limits : Limits) (law : Limits → List Entry → Type 0) where
           short = fits.short;
           old = fits.old ∙ ap (λ o. get_or (words_in limits o) 0 0) still;
           front = λ j below. stay (j + 1) (omega arith) ∙ fits.front j below;
-          behind = λ kind j above small. stay j small ∙ fits.behind kind j above small ∙ ap (λ o. get_or (words_in limits o) j 0) still;
+          behind = λ kind j above small. stay j (let is = (one_width limits kind row).1 in omega (arith, is, small)) ∙ fits.behind kind j above small ∙ ap (λ o. get_or (words_in limits o) j 0) still;
         },
       )
   spared actor other words words' seen run run' Noted apart spares goes fits = (starts_on seen run run' goes spares.grows, tt)
@@ -120,7 +121,7 @@ module _ (limits : Limits) (law : Limits → List Entry → Type 0) where
     grows = starts_self run;
     extends = λ other seen ne x. x;
     same = λ other ne. refl;
-    writes = λ other row ne may within j small. ap (λ (u : List ℕ). get_or u (row_at row j) 0) (set-get_or words i 0);
+    writes = λ other row ne may within j small. ap (λ (u : List ℕ). get_or u (row_at limits row j) 0) (set-get_or words i 0);
     records = λ other row ne may. refl;
   }
 
@@ -166,8 +167,8 @@ module _ (limits : Limits) (law : Limits → List Entry → Type 0) where
     pub spells : (view : List Part) → view ≡ alone limits actor (with_step h.run actor begun step answer reply) Idle
         → SpellsWhere limits (set s.words i x) (memory_after actor step (memory_of limits h.run)) (IsSettled (set s.views id view))
     pub kept : (row : ℕ) (content : Record) → (memory_after actor step (memory_of limits h.run)).rows row ≡ Some content → IsSpelledRow limits row content
-    pub writes : (other row : ℕ) → other ≢ actor → KnowsPlaceable (knows h.run other) row → row < limits.rows → (j : ℕ) → j < row_size
-        → get_or (set s.words i x) (row_at row j) 0 ≡ get_or s.words (row_at row j) 0
+    pub writes : (other row : ℕ) → other ≢ actor → KnowsPlaceable (knows h.run other) row → row < limits.rows → (j : ℕ) → j < width_of limits row
+        → get_or (set s.words i x) (row_at limits row j) 0 ≡ get_or s.words (row_at limits row j) 0
     pub records : (other row : ℕ) → other ≢ actor → KnowsPlaceable (knows h.run other) row → (memory_after actor step (memory_of limits h.run)).rows row ≡ (memory_of limits h.run).rows row
 
   -- a step, and all that it can tell

@@ -14,7 +14,8 @@ use Rattle.record_slots.specs.Spells.{HasSpelling, IsSpelling}
 use Rattle.record_slots.proofs.SpellingLaws.{counts, items_fit, parts_fit, row_spelled, spelling_length}
 use Rattle.compact_rows.specs.Spelling.{compact_words}
 use Rattle.compact_rows.proofs.Parts.{count_is}
-use Rattle.compact_rows.proofs.Sizes.{has_room}
+use Rattle.tree_words.proofs.RowWidths.{one_width, some_words}
+use Rattle.tree_words.specs.Layout.{width_of}
 use Rattle.tree_words.specs.Words.{stored, used_in, words_in}
 use Rattle.table_rule.specs.Steps.{IsStored, tail_from, used_by, used_by_either, words_over}
 
@@ -108,18 +109,20 @@ module _ (limits : Limits) (first : ℕ) (content : Record) (words : List ℕ) (
       by true are = let l = ap length are in omega arith
       by false are = let l = ap length are in let m = spelling_length content (words_of content) is.spelling in omega arith
 
-  pub over_few : used_by first ≤ row_size → (words_over limits first words < row_size) × (words_over limits first words ≤ length (tail_from words))
-  over_few room = by limits.is_large is.are
+  pub over_few : (row : ℕ) → length words ≤ width_of limits row → used_by first ≤ row_size
+      → (words_over limits first words < width_of limits row) × (words_over limits first words ≤ length (tail_from words))
+  over_few row fits room = by limits.is_large refl is.are
     where
-      by : (large : Bool) → (if large then compact_words content else words_of content) ≡ words
-          → ((if large then length words - 1 else used_by_either first (get_or words 0 0) - 1) < row_size)
+      by : (large : Bool) → limits.is_large ≡ large → (if large then compact_words content else words_of content) ≡ words
+          → ((if large then length words - 1 else used_by_either first (get_or words 0 0) - 1) < width_of limits row)
           × ((if large then length words - 1 else used_by_either first (get_or words 0 0) - 1) ≤ length (tail_from words))
-      by true are =
+      by true e are =
           let l = ap length are in
-          let few = has_room content is.spelling.spellable is.spelling.short in
+          let some = some_words limits row in
           let tail = tail_length words in
           (omega arith, omega arith)
-      by false are =
+      by false e are =
+          let wide = (one_width limits e row).1 in
           let l = ap length are ∙ refl in
           let m = spelling_length content (words_of content) is.spelling in
           let spelt : IsSpelling content words = record { spellable = is.spelling.spellable; short = is.spelling.short; are = are } in
@@ -148,3 +151,11 @@ module _ (limits : Limits) (first : ℕ) (content : Record) (words : List ℕ) (
           × (used_by first ≤ (if b then length words - 1 else used_by_either first (get_or words 0 0) - 1) + 1)
       by true e = cc
       by false e = let n = new in let o = old in (omega arith, omega arith)
+
+-- a record has as many words in a row as say something
+pub used_few : (limits : Limits) (content : Record) → HasSpelling content → used_in limits (Some content) ≤ length (stored limits content)
+used_few limits content spelled = by limits.is_large
+  where
+    by : (large : Bool) → (if large then length (compact_words content) else row_size) ≤ length (if large then compact_words content else words_of content)
+    by true = omega arith
+    by false = let long = spelling_length content (words_of content) spelled in omega (arith, long)

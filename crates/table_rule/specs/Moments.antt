@@ -87,13 +87,13 @@ pub record OperationsTurn (law : Limits → List Entry → Type 0) : Type 0 wher
   pub acts : (limits : Limits) (actor : ℕ) (begun : Option Command) (step : StepOf Record) (reply : Option Reply) (me me' : Mine) (found : ℕ)
       → SitsAt limits actor Idle me → Acts law begun step reply me found me' → Turns law me me'
   pub reads : (limits : Limits) (actor row : ℕ) (made : Made (Unit {0})) (me me' : Mine) (found : ℕ)
-      → SitsAt limits actor Idle me → made.word ≡ row_at row 0 → ReadsRow law made me found me' → Turns law me me'
+      → SitsAt limits actor Idle me → made.word ≡ row_at limits row 0 → ReadsRow law made me found me' → Turns law me me'
   pub looks : (made : Made (Unit {0})) (me me' : Mine) (found : ℕ) → Looks made me found me' → Turns law me me'
   pub watches : (limits : Limits) (actor : ℕ) (step : StepOf Record) (made : Made (Unit {0})) (me me' : Mine) (found : ℕ)
       → SitsAt limits actor Idle me → actor < most_large_actors → HasWord limits step → operation_of step ≡ Load → made.word ≡ changed_word limits actor step
       → Watches law made me found me' → Turns law me me'
   pub measures : (limits : Limits) (actor row : ℕ) (made : Made (Unit {0})) (me me' : Mine) (found : ℕ)
-      → SitsAt limits actor Idle me → made.word ≡ row_at row 0 → Measures made me found me' → Turns law me me'
+      → SitsAt limits actor Idle me → made.word ≡ row_at limits row 0 → Measures made me found me' → Turns law me me'
   pub fills : (limits : Limits) (actor row first : ℕ) (written : List ℕ) (me me' : Mine) (found : ℕ)
       → SitsAt limits actor (Writing row first written) me → Fills me found me' → Turns law me me'
   pub places : (limits : Limits) (actor row first : ℕ) (written : List ℕ) (step : StepOf Record) (me me' : Mine) (found : ℕ)

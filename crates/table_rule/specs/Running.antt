@@ -13,8 +13,8 @@ use Rattle.traces.specs.discipline.Knowledge.{Knowledge, knows}
 use Rattle.traces.specs.trace.Trace.{memory_of}
 use Rattle.record_slots.specs.Layout.{row_size}
 use Rattle.record_slots.specs.Spells.{HasSpelling}
-use Rattle.tree_words.specs.Layout.{row_at, width}
-use Rattle.tree_words.specs.Words.{words_in, SpellsWhere}
+use Rattle.tree_words.specs.Layout.{row_at, width, width_of}
+use Rattle.tree_words.specs.Words.{stored, words_in, SpellsWhere}
 use Rattle.table_rule.specs.declared.view.Reach.{Reach}
 use Rattle.table_rule.specs.declared.view.Reach.TheVariants.{Idle, Writing, Noted}
 use Rattle.table_rule.specs.declared.view.Part.{Part}
@@ -69,10 +69,10 @@ everywhere actor (view ∷ views) = times actor view + everywhere actor views
 pub record IsPartWritten (limits : Limits) (words : List ℕ) (run : List Entry) (actor row first : ℕ) (written : List ℕ) : Type 0 where
   pub may : KnowsPlaceable (knows run actor) row
   pub there : row < limits.rows
-  pub short : length written < row_size
+  pub short : length written < width_of limits row
   pub old : first ≡ slice_index (words_in limits ((memory_of limits run).rows row)) 0
-  pub front : (j : ℕ) → j < length written → slice_index words (row_at row (j + 1)) ≡ slice_index written j
-  pub behind : limits.is_large ≡ false → (j : ℕ) → length written < j → j < row_size → slice_index words (row_at row j) ≡ slice_index (words_in limits ((memory_of limits run).rows row)) j
+  pub front : (j : ℕ) → j < length written → slice_index words (row_at limits row (j + 1)) ≡ slice_index written j
+  pub behind : limits.is_large ≡ false → (j : ℕ) → length written < j → j < row_size → slice_index words (row_at limits row j) ≡ slice_index (words_in limits ((memory_of limits run).rows row)) j
 
 -- The words fit where the seat stands.
 abbrev pub ReachFits : Limits → List ℕ → List Entry → ℕ → Reach → Type 0
@@ -90,10 +90,11 @@ ExtendsFor Idle actor seen run = Extends actor seen run
 ExtendsFor (Writing row first words) actor seen run = Extends actor seen run
 ExtendsFor Noted actor seen run = StartsWith run seen
 
--- There is the row, and a row of words can spell the record that stands there.
+-- There is the row, which has room for the record that stands there, and a row of words can spell that.
 pub record IsSpelledRow (limits : Limits) (row : ℕ) (content : Record) : Type 0 where
   pub there : row < limits.rows
   pub spelling : HasSpelling content
+  pub fills : length (stored limits content) ≤ width_of limits row
 
 -- The run goes on from what was seen, and the words fit where the seat stands.
 pub record PartFits (limits : Limits) (words : List ℕ) (run : List Entry) (part : Part) : Type 0 where

@@ -73,7 +73,7 @@ Acts law begun step reply me found me' = Event law begun step reply Idle me (ans
 
 -- The first word of a row is read, which is the step.
 abbrev pub ReadsRow : (Limits → List Entry → Type 0) → Made (Unit {0}) → Mine → ℕ → Mine → Type 0
-ReadsRow law made me found me' = (limits : Limits) (actor row : ℕ) → SitsAt limits actor Idle me → made.word ≡ row_at row 0
+ReadsRow law made me found me' = (limits : Limits) (actor row : ℕ) → SitsAt limits actor Idle me → made.word ≡ row_at limits row 0
     → SitsAt limits actor Idle me' × ReadsFirst law limits actor (seen_of me) row found (seen_of me')
 
 -- The seat has taken no step. The run that it has seen now goes on from what it had seen by steps of others alone, and a step that reads the
@@ -94,9 +94,9 @@ Watches law made me found me' =
 abbrev pub Looks : Made (Unit {0}) → Mine → ℕ → Mine → Type 0
 Looks made me found me' =
     (me' ≡ me) × ((limits : Limits) (actor row place : ℕ) (content : Record) → SitsAt limits actor Idle me → place < row_size → place < used_in limits (Some content)
-    → HasReadRecord (knows (seen_of me) actor) row content → made.word ≡ row_at row place → found ≡ slice_index (stored limits content) place)
+    → HasReadRecord (knows (seen_of me) actor) row content → made.word ≡ row_at limits row place → found ≡ slice_index (stored limits content) place)
     × ((limits : Limits) (actor row place : ℕ) (content : Record) → SitsAt limits actor Idle me → place < row_size → HasReadRecord (knows (seen_of me) actor) row content
-    → made.word ≡ row_at row place → HasSpelling content)
+    → made.word ≡ row_at limits row place → HasSpelling content)
 
 -- how many words a record uses, by its first word; and how many the one or the other of two uses
 abbrev pub used_by : ℕ → ℕ
@@ -126,7 +126,7 @@ written_over limits first words = take (words_over limits first words) (tail_fro
 -- The first word of an own row is looked at, by which a record begins to be placed there; the row has all words that it says are used.
 -- No step is taken.
 abbrev pub Measures : Made (Unit {0}) → Mine → ℕ → Mine → Type 0
-Measures made me found me' = (limits : Limits) (actor row : ℕ) → SitsAt limits actor Idle me → made.word ≡ row_at row 0
+Measures made me found me' = (limits : Limits) (actor row : ℕ) → SitsAt limits actor Idle me → made.word ≡ row_at limits row 0
     → SitsAt limits actor (Writing row found []) me' × (seen_of me' ≡ seen_of me) × (used_by found ≤ row_size)
 
 -- One more word of a row is written behind the header, and the header, which is the step: it is told with the record.

@@ -1,6 +1,7 @@
 //! The step that goes word by word: a record is placed. Behind the words that a record uses a row has zeros, so only those are written that
 //! the new record uses, or the one that stood there before.
-ghost use Rattle.std.specs.Prelude.{◌≡◌, ◌<◌, ◌≤◌, [], None};
+ghost use Rattle.std.specs.Prelude.{◌≡◌, ◌<◌, ◌≤◌, [], None, length};
+ghost use Rattle.tree_words.specs.Layout.{width_of};
 ghost use Rattle.bw_model.specs.declared.step.Answer.TheVariants.{Done};
 ghost use Rattle.bw_model.specs.declared.step.Step.TheVariants.{Place};
 ghost use Rattle.traces.specs.discipline.Knowledge.{knows};
@@ -34,6 +35,7 @@ pub fn place_row<P: Law>(
     requires table { IsOf limits.now words.now.key words.now.table_id seat.old.table_id }
     requires range { row < limits.now.rows }
     requires spelt { IsStored limits.now content.now spelt.now }
+    requires fits { length spelt.now ≤ width_of limits.now row }
     requires seat { SitsAt limits.now actor Idle seat.old.me }
     requires owned { KnowsPlaceable (knows (seen_of seat.old.me) actor) row }
     requires may { IsLawfulStep P.law limits.now actor (seen_of seat.old.me) None (Place row content.now) None }
@@ -64,9 +66,8 @@ fn measure_row<P: Law>(
     ensures seen { seen_of seat.new.me ≡ seen_of seat.old.me }
     ensures room { used_by result ≤ ROW_WORDS }
 {
-    let _ = limits;
     let _ = actor;
-    words.load::<Measuring>(seat, row_place(row))
+    words.load::<Measuring>(seat, row_place(limits, row))
 }
 
 /// Writes the words behind the header, by one store each.
@@ -84,6 +85,7 @@ fn fill_row<P: Law>(
     requires table { IsOf limits.now words.now.key words.now.table_id seat.old.table_id }
     requires range { row < limits.now.rows }
     requires spelt { IsStored limits.now content.now spelt.now }
+    requires fits { length spelt.now ≤ width_of limits.now row }
     requires room { used_by first ≤ ROW_WORDS }
     requires seat { SitsAt limits.now actor (Writing row first []) seat.old.me }
     requires owned { KnowsPlaceable (knows (seen_of seat.old.me) actor) row }
@@ -92,7 +94,7 @@ fn fill_row<P: Law>(
     ensures seen { seen_of seat.new.me ≡ seen_of seat.old.me }
 {
     let _ = content;
-    let base = row_place(row);
+    let base = row_place(limits, row);
     let behind = words_over(limits, first, spelt);
     let mut i = 0;
     while i < behind {
@@ -117,6 +119,7 @@ fn place_header<P: Law, C: Telling>(
     requires table { IsOf limits.now words.now.key words.now.table_id seat.old.table_id }
     requires range { row < limits.now.rows }
     requires spelt { IsStored limits.now content.now spelt.now }
+    requires fits { length spelt.now ≤ width_of limits.now row }
     requires room { used_by first ≤ ROW_WORDS }
     requires seat { SitsAt limits.now actor (Writing row first (written_over limits.now first spelt.now)) seat.old.me }
     requires owned { KnowsPlaceable (knows (seen_of seat.old.me) actor) row }
@@ -127,5 +130,5 @@ fn place_header<P: Law, C: Telling>(
 {
     let _ = first;
     let _ = content;
-    words.store::<Placing<P, C>>(seat, row_place(row), spelt[0]);
+    words.store::<Placing<P, C>>(seat, row_place(limits, row), spelt[0]);
 }

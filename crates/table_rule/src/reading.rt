@@ -35,9 +35,8 @@ pub fn read_first<P: Law>(
     ensures seat { SitsAt limits.now actor Idle seat.new.me }
     ensures took { ReadsFirst P.law limits.now actor (seen_of seat.old.me) row result (seen_of seat.new.me) }
 {
-    let _ = limits;
     let _ = actor;
-    words.load::<Reading<P>>(seat, row_place(row))
+    words.load::<Reading<P>>(seat, row_place(limits, row))
 }
 
 /// Looks at a word of a row whose record the seat's actor has read since it entered, by one load. That is no step, and the seat stays as it
@@ -61,7 +60,6 @@ pub fn look_at<P: Law>(
         → result ≡ slice_index (stored limits.now content) at }
     ensures spelt { (content : Record) → HasReadRecord (knows (seen_of seat.old.me) actor) row content → HasSpelling content }
 {
-    let _ = limits;
     let _ = actor;
-    words.load::<Looking>(seat, row_place(row) + at)
+    words.load::<Looking>(seat, row_place(limits, row) + at)
 }

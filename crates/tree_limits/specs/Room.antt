@@ -1,5 +1,5 @@
 -- The limits that are proposed for so many keys. docs/DECISIONS.md has the reasons.
-use Rattle.std.specs.Prelude.{ℕ, ◌+◌, ◌*◌, ◌/◌, ◌≤◌, ◌↔◌}
+use Rattle.std.specs.Prelude.{ℕ, ◌+◌, ◌-◌, ◌*◌, ◌/◌, ◌≤◌, ◌↔◌}
 use Rattle.tree_limits.specs.Limits.{AreLargeLimits, AreLimits}
 
 -- A split leaves 8 keys or more on both sides, so each leaf but one has the places of 8 keys that have been there.
@@ -26,13 +26,49 @@ rows_for actors pids = in_whole_words (9 * pids + 120 * actors)
 abbrev pub large_pids_for : ℕ → ℕ → ℕ
 large_pids_for actors keys = in_whole_words (1 + pages_for keys + pages_for keys / 16 + 22 * actors)
 
--- The longest chain of each page of a large tree, a base under 2 deltas, and what each seat may hold back.
+-- The longest chain of each page of a large tree is a base under 2 deltas, and each seat may hold back 80 such chains: so many rows for deltas, and
+-- so many for bases.
+abbrev pub narrow_rows_for : ℕ → ℕ → ℕ
+narrow_rows_for actors pids = in_whole_words (2 * (pids + 80 * actors))
+
+abbrev pub page_rows_for : ℕ → ℕ → ℕ
+page_rows_for actors pids = in_whole_words (pids + 80 * actors)
+
+-- One wide row for each 32 pages: for a base of more than 16 items, as a merge leaves it, and for pairs that are longer than the limits are proposed for.
+abbrev pub wide_rows_for : ℕ → ℕ
+wide_rows_for pids = in_whole_words (pids / 32)
+
 abbrev pub large_rows_for : ℕ → ℕ → ℕ
-large_rows_for actors pids = in_whole_words (3 * pids + 240 * actors)
+large_rows_for actors pids = narrow_rows_for actors pids + page_rows_for actors pids + wide_rows_for pids
+
+-- how many words of eight bytes a text takes that has so many bytes, and a key behind its first eight
+abbrev pub text_words_for : ℕ → ℕ
+text_words_for bytes = (bytes + 7) / 8
+
+abbrev pub tail_words_for : ℕ → ℕ
+tail_words_for bytes = (bytes - 8 + 7) / 8
+
+-- so many words, up to the end of the last line of a cache, which has eight
+abbrev pub in_whole_lines : ℕ → ℕ
+in_whole_lines words = (words + 7) / 8 * 8
+
+-- A row for deltas has room for a put of a pair whose key and value have so many bytes, and so for any other record of such a key but a base and a merge.
+abbrev pub narrow_words_for : ℕ → ℕ → ℕ
+narrow_words_for key value = in_whole_lines (4 + tail_words_for key + text_words_for value)
+
+-- A row for bases has room for 16 such pairs, as many as a base has but after a merge, with two bounds of such keys.
+abbrev pub page_words_for : ℕ → ℕ → ℕ
+page_words_for key value = in_whole_lines (2 + 2 * text_words_for key + 16 * (2 + tail_words_for key + text_words_for value))
 
 -- Limits of a large tree are proposed for so many actors and keys: those that the rule makes are limits of a large tree.
 abbrev pub AreProposedLarge : ℕ → ℕ → Type 0
 AreProposedLarge actors keys = AreLargeLimits actors (large_pids_for actors keys) (large_rows_for actors (large_pids_for actors keys)) 1
+
+-- They are proposed for pairs of such lengths: there are such, and limits are proposed for so many keys.
+pub record AreProposedPairs (actors keys key value : ℕ) : Type 0 where
+  pub key_there : key ≤ 64
+  pub value_there : value ≤ 64
+  pub limits : AreProposedLarge actors keys
 
 -- Limits are proposed for so many actors and keys: those that the rule makes are limits.
 abbrev pub AreProposed : ℕ → ℕ → Type 0

@@ -10,4 +10,4 @@
 mod limits;
 mod room;
 
-pub use limits::{BadLimits, Limits, MAX_LARGE_ACTORS, OpenError};
+pub use limits::{BadLimits, Limits, MAX_LARGE_ACTORS, OpenError, WIDE_WORDS, Widths};

@@ -1,7 +1,7 @@
 //! How large a tree is.
 ghost use Rattle.std.specs.Prelude.{◌≡◌, ◌≤◌, ◌%◌, ◌^◌, ◌↔◌, IsOk, IfOk, IsTrue, true, false};
 ghost use Rattle.tree_limits.specs.declared.limits.TheConstants.{WORD_BITS};
-ghost use Rattle.tree_limits.specs.Limits.{AreLargeLimits, AreLimits};
+ghost use Rattle.tree_limits.specs.Limits.{AreLargeLimits, AreLimits, AreWidths, IsOneWidth};
 
 use thiserror::Error;
 
@@ -26,6 +26,15 @@ pub(crate) const MAX_LARGE_PIDS: u64 = 4194304;
 
 /// How many rows a large tree has at most.
 const MAX_LARGE_ROWS: u64 = 67108864;
+
+/// How many words a wide row has: as many as any record takes.
+pub const WIDE_WORDS: u64 = 512;
+
+/// How many words a narrow row has at least: the empty leaf that opens a tree is in one.
+const LEAST_NARROW_WORDS: u64 = 8;
+
+/// How many words any other row has at least, so that it has room for each record but a base and a merge.
+const LEAST_PAGE_WORDS: u64 = 24;
 
 /// The last epoch that may open a tree.
 const MAX_EPOCH: u64 = 1 << 62;
@@ -61,8 +70,31 @@ pub struct Limits {
     pub epoch: u64,
     /// Whether they are those of a large tree, whatever its numbers are.
     pub is_large: bool,
+    /// The rows below this one are narrow.
+    pub narrow_rows: u64,
+    /// The rows from this one on are wide: they have 512 words.
+    pub wide_from: u64,
+    /// How many words a narrow row has.
+    pub narrow_words: u64,
+    /// How many words a row has that is neither narrow nor wide.
+    pub page_words: u64,
     pub ghost allowed: { AreLargeLimits actors pids rows epoch },
     pub ghost small: { is_large ≡ false → AreLimits actors pids rows epoch },
+    pub ghost widths: { AreWidths rows narrow_rows wide_from narrow_words page_words },
+    pub ghost alike: { is_large ≡ false → IsOneWidth narrow_rows wide_from },
+}
+
+/// How wide the rows of a large tree are, by their numbers.
+#[derive(Clone, Copy, Debug, PartialEq, Eq)]
+pub struct Widths {
+    /// The rows below this one are narrow.
+    pub narrow_rows: u64,
+    /// The rows from this one on are wide.
+    pub wide_from: u64,
+    /// How many words a narrow row has.
+    pub narrow_words: u64,
+    /// How many words a row has that is neither narrow nor wide.
+    pub page_words: u64,
 }
 
 /// Whether a count is one of whole words, from one word to the most.
@@ -70,6 +102,22 @@ fn is_whole(count: u64, most: u64) -> bool
     ensures { IsTrue result ↔ (WORD_BITS ≤ count) × (count ≤ most) × (count % WORD_BITS ≡ 0) }
 {
     (WORD_BITS..=most).contains(&count) && count % WORD_BITS == 0
+}
+
+impl Widths {
+    /// Whether a large tree of so many rows may have them.
+    fn are_of(self, rows: u64) -> bool
+        ensures { IsTrue result ↔ AreWidths rows self.narrow_rows self.wide_from self.narrow_words self.page_words }
+    {
+        self.narrow_rows % WORD_BITS == 0
+            && self.wide_from % WORD_BITS == 0
+            && self.narrow_rows <= self.wide_from
+            && self.wide_from < rows
+            && LEAST_NARROW_WORDS <= self.narrow_words
+            && LEAST_PAGE_WORDS <= self.page_words
+            && self.narrow_words <= self.page_words
+            && self.page_words <= WIDE_WORDS
+    }
 }
 
 impl Limits {
@@ -81,6 +129,7 @@ impl Limits {
         ensures rows { IfOk result (λ limits. limits.rows ≡ rows) }
         ensures epoch { IfOk result (λ limits. limits.epoch ≡ epoch) }
         ensures kind { IfOk result (λ limits. limits.is_large ≡ false) }
+        ensures widths { IfOk result (λ limits. IsOneWidth limits.narrow_rows limits.wide_from) }
     {
         let allowed = (1..=MAX_ACTORS).contains(&actors)
             && is_whole(pids, MAX_PIDS)
@@ -93,13 +142,18 @@ impl Limits {
                 rows,
                 epoch,
                 is_large: false,
+                narrow_rows: 0,
+                wide_from: 0,
+                narrow_words: WIDE_WORDS,
+                page_words: WIDE_WORDS,
             })
         } else {
             Err(BadLimits)
         }
     }
 
-    /// These limits of a large tree: up to 63 actors, 4,194,304 PIDs and 67,108,864 rows. Refused exactly where a number is outside its range.
+    /// These limits of a large tree: up to 63 actors, 4,194,304 PIDs and 67,108,864 rows, which are all wide. Refused exactly where a number is
+    /// outside its range.
     pub fn large(actors: u64, pids: u64, rows: u64, epoch: u64) -> Result<Limits, BadLimits>
         ensures allowed { IsOk result ↔ AreLargeLimits actors pids rows epoch }
         ensures actors { IfOk result (λ limits. limits.actors ≡ actors) }
@@ -107,6 +161,7 @@ impl Limits {
         ensures rows { IfOk result (λ limits. limits.rows ≡ rows) }
         ensures epoch { IfOk result (λ limits. limits.epoch ≡ epoch) }
         ensures kind { IfOk result (λ limits. limits.is_large ≡ true) }
+        ensures widths { IfOk result (λ limits. IsOneWidth limits.narrow_rows limits.wide_from) }
     {
         let allowed = (1..=MAX_LARGE_ACTORS).contains(&actors)
             && is_whole(pids, MAX_LARGE_PIDS)
@@ -119,10 +174,51 @@ impl Limits {
                 rows,
                 epoch,
                 is_large: true,
+                narrow_rows: 0,
+                wide_from: 0,
+                narrow_words: WIDE_WORDS,
+                page_words: WIDE_WORDS,
             })
         } else {
             Err(BadLimits)
         }
+    }
+
+    /// These limits of a large tree, whose rows are as wide as it says. Refused exactly where a number is outside its range, or a width.
+    pub fn with_widths(
+        actors: u64,
+        pids: u64,
+        rows: u64,
+        epoch: u64,
+        widths: Widths,
+    ) -> Result<Limits, BadLimits>
+        ensures allowed { IsOk result ↔ AreLargeLimits actors pids rows epoch
+            × AreWidths rows widths.narrow_rows widths.wide_from widths.narrow_words widths.page_words }
+        ensures actors { IfOk result (λ limits. limits.actors ≡ actors) }
+        ensures pids { IfOk result (λ limits. limits.pids ≡ pids) }
+        ensures rows { IfOk result (λ limits. limits.rows ≡ rows) }
+        ensures epoch { IfOk result (λ limits. limits.epoch ≡ epoch) }
+        ensures kind { IfOk result (λ limits. limits.is_large ≡ true) }
+        ensures narrow_rows { IfOk result (λ limits. limits.narrow_rows ≡ widths.narrow_rows) }
+        ensures wide_from { IfOk result (λ limits. limits.wide_from ≡ widths.wide_from) }
+        ensures narrow_words { IfOk result (λ limits. limits.narrow_words ≡ widths.narrow_words) }
+        ensures page_words { IfOk result (λ limits. limits.page_words ≡ widths.page_words) }
+    {
+        if !widths.are_of(rows) {
+            return Err(BadLimits);
+        }
+        let limits = Limits::large(actors, pids, rows, epoch)?;
+        Ok(Limits {
+            actors: limits.actors,
+            pids: limits.pids,
+            rows: limits.rows,
+            epoch: limits.epoch,
+            is_large: true,
+            narrow_rows: widths.narrow_rows,
+            wide_from: widths.wide_from,
+            narrow_words: widths.narrow_words,
+            page_words: widths.page_words,
+        })
     }
 
     /// These limits with another opening epoch, refused exactly where that is outside its range.
@@ -133,6 +229,10 @@ impl Limits {
         ensures rows { IfOk result (λ limits. limits.rows ≡ self.rows) }
         ensures epoch { IfOk result (λ limits. limits.epoch ≡ epoch) }
         ensures kind { IfOk result (λ limits. limits.is_large ≡ self.is_large) }
+        ensures narrow_rows { IfOk result (λ limits. limits.narrow_rows ≡ self.narrow_rows) }
+        ensures wide_from { IfOk result (λ limits. limits.wide_from ≡ self.wide_from) }
+        ensures narrow_words { IfOk result (λ limits. limits.narrow_words ≡ self.narrow_words) }
+        ensures page_words { IfOk result (λ limits. limits.page_words ≡ self.page_words) }
     {
         if (1..=MAX_EPOCH).contains(&epoch) {
             Ok(Limits {
@@ -141,6 +241,10 @@ impl Limits {
                 rows: self.rows,
                 epoch,
                 is_large: self.is_large,
+                narrow_rows: self.narrow_rows,
+                wide_from: self.wide_from,
+                narrow_words: self.narrow_words,
+                page_words: self.page_words,
             })
         } else {
             Err(BadLimits)

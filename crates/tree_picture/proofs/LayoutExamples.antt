@@ -1,4 +1,4 @@
--- Boxes and heights, worked out.
+-- Boxes, heights and items, worked out.
 use Rattle.std.proofs.Common.{◌≡◌, ℕ, [], ◌∷◌, arith, codes, inl, inr, refl}
 use Rattle.traces.specs.chain.Examples.{leaf_chain, put_leaf, split_leaf}
 use Rattle.traces.specs.chain.SideChain.{LivePage}
@@ -7,10 +7,11 @@ use Rattle.tree_picture.specs.declared.shape.Mark.TheVariants.{Held}
 use Rattle.tree_picture.specs.declared.shape.PageBox.{PageBox}
 use Rattle.tree_picture.specs.declared.shape.Rectangle.{Rectangle}
 use Rattle.tree_picture.specs.declared.shape.Shape.TheVariants.{Page, Box}
+use Rattle.tree_picture.specs.Items.{page_items}
 use Rattle.tree_picture.specs.Layout.{IsBefore, IsOnSheet}
 use Rattle.tree_picture.specs.Pages.{boxes_of}
 use Rattle.tree_picture.specs.Texts.{EndInBox}
-use Rattle.tree_picture.specs.Sizes.{level_height, levels_height, page_height}
+use Rattle.tree_picture.specs.Sizes.{page_height}
 use Rattle.tree_picture.proofs.Ranges.{ends_in_box}
 
 abbrev box : ℕ → ℕ → ℕ → ℕ → Rectangle
@@ -86,11 +87,9 @@ middle_is = refl
 large_is : page_height large ≡ 231
 large_is = refl
 
-level_is : level_height (small ∷ large ∷ middle ∷ []) ≡ 231
-level_is = refl
-
-levels_are : levels_height ((small ∷ []) ∷ (small ∷ middle ∷ []) ∷ []) ≡ 396
-levels_are = refl
+-- the merge's item, which is the newer one, and then the base's
+items_are : page_items large ≡ codes "k09 = w09" ∷ codes "k08 = v08" ∷ codes "k09 = v09" ∷ []
+items_are = refl
 
 -- a range of 40 characters would end behind the box
 not_at_length : EndInBox 236 7 Held (codes "from 0123456789.. to 0123456789.. and on") → ⊥

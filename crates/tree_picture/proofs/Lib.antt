@@ -2,10 +2,12 @@ mod Descents
 mod Documents
 mod Escapes
 mod Heights
+mod Items
 mod LayoutExamples
 mod Layouts
 mod Marking
 mod Ranges
+mod Rows
 mod Shapes
 mod Sides
 mod TextExamples

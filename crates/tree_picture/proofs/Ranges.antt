@@ -1,15 +1,20 @@
 -- How long the words for a range are, how they come together, and that they end in their box.
 use Rattle.std.proofs.Common.{◌≡◌, ◌≤◌, ◌<◌, ◌^◌, ℕ, zero, suc, List, [], ◌∷◌, ◌++◌, Bool, true, false, Option, Some, None, ap, append_assoc, arith, length, take, ◌∙◌}
-use Rattle.std.specs.Prelude.{codes, decimal, if◌then◌else◌, nat_lt}
+use Rattle.std.specs.Prelude.{codes, decimal, if◌then◌else◌, nat_lt, ◌==◌}
 use Rattle.std.proofs.lemmas.List.{length-append}
 use Rattle.std.proofs.lemmas.Fmt.{length-decimal-le}
+use Rattle.base_page.specs.declared.item.Content.TheVariants.{Value, Child}
+use Rattle.base_page.specs.declared.item.Item.{Item}
 use Rattle.hex.specs.Hex.{encode_lower, lower_digits}
 use Rattle.hex.proofs.HexLemmas.{length-encode_with}
 use Rattle.shell_lines.specs.Token.{is_word}
 use Rattle.tree_picture.specs.Adding.{Adds}
 use Rattle.tree_picture.specs.declared.shape.Mark.{Mark}
 use Rattle.tree_picture.specs.declared.shape.Mark.TheVariants.{Termed, Termless, Held, Removed}
-use Rattle.tree_picture.specs.Ranges.{dots, end_text, range_text, short_token}
+use Rattle.tree_picture.specs.Items.{content_text, held_text, item_text}
+use Rattle.tree_picture.specs.Ranges.{dots, end_text, key_text, range_text, short_token}
+use Rattle.tree_picture.specs.declared.slots.Slot.{Slot}
+use Rattle.tree_picture.specs.SlotTexts.{kind_text, slot_text}
 use Rattle.tree_picture.specs.Texts.{EndInBox, mark_text, name_text}
 
 pub adds_then : (old middle new more last : List ℕ) → Adds old middle more → Adds middle new last → Adds old new (more ++ last)
@@ -37,13 +42,38 @@ few_short bytes = go (is_word bytes)
     go true = omega (arith, length-append (take 10 bytes) (dots 10 bytes), few_taken 10 bytes, few_dots 10 bytes)
     go false = omega (arith, length-append (encode_lower (take 5 bytes)) (dots 5 bytes), length-encode_with lower_digits (take 5 bytes), few_taken 5 bytes, few_dots 5 bytes)
 
+few_key : (key : List ℕ) → length (key_text key) ≤ 13
+few_key [] = omega arith
+few_key (b ∷ bytes) = few_short (b ∷ bytes)
+
 few_end : (high : Option (List ℕ)) → length (end_text high) ≤ 17
-few_end (Some high) = omega (arith, few_short high)
+few_end (Some high) = omega (arith, few_key high)
 few_end None = omega arith
+
+few_held : (held : Bool) → length (held_text held) ≤ 6
+few_held true = omega arith
+few_held false = omega arith
+
+pub few_value : (value : List ℕ) → length (content_text (Value value)) ≤ 30
+few_value value = omega (arith, few_short value)
+
+pub few_child : (page : ℕ) (held : Bool) → page < 2 ^ 32 → length (content_text (Child page held)) ≤ 30
+few_child page held small =
+    omega (
+      arith,
+      length-append (codes " to PID " ++ decimal page) (held_text held),
+      length-append (codes " to PID ") (decimal page),
+      length-decimal-le 10 page (omega arith) (omega (arith, small)) (omega (arith, small)),
+      few_held held,
+    )
+
+-- the words for an item have room
+pub item_fits : (item : Item) (words : List ℕ) → length (content_text item.content) ≤ 30 → Adds [] words (item_text item) → words ≡ item_text item
+item_fits item words short adds = adds (omega (arith, length-append (key_text item.key) (content_text item.content), few_key item.key, short))
 
 -- the words for a range have room
 range_fits : (low : List ℕ) (high : Option (List ℕ)) → length (range_text low high) ≤ 35
-range_fits low high = omega (arith, length-append (short_token low) (end_text high), few_short low, few_end high)
+range_fits low high = omega (arith, length-append (key_text low) (end_text high), few_key low, few_end high)
 
 few_marked : (mark : Mark) → length (mark_text mark) ≤ 7
 few_marked Termed = omega arith
@@ -71,3 +101,23 @@ pub whole_range : (old words low low_now : List ℕ) (high high_now : Option (Li
 whole_range old words low low_now high high_now adds none low_is high_is =
     adds (omega (arith, range_fits low high, ap length none)) ∙ ap (λ (first : List ℕ). first ++ range_text low high) none
     ∙ ap (λ (key : List ℕ). range_text key high) low_is ∙ ap (λ (key : Option (List ℕ)). range_text low_now key) high_is
+
+few_kind : (number : ℕ) → length (kind_text number) ≤ 6
+few_kind number = go (number == 0)
+  where
+    go : (first : Bool) → length (if first then codes ": PID " else codes ": row ") ≤ 6
+    go true = omega arith
+    go false = omega arith
+
+-- the words for a slot have room
+pub slot_fits : (slot : Slot) (words : List ℕ) → slot.number < 2 ^ 32 → slot.content < 2 ^ 32 → Adds [] words (slot_text slot) → words ≡ slot_text slot
+slot_fits slot words small low adds =
+    adds (omega (
+      arith,
+      length-append (codes "slot " ++ decimal slot.number) (kind_text slot.number ++ decimal slot.content),
+      length-append (codes "slot ") (decimal slot.number),
+      length-append (kind_text slot.number) (decimal slot.content),
+      few_kind slot.number,
+      length-decimal-le 10 slot.number (omega arith) (omega (arith, small)) (omega (arith, small)),
+      length-decimal-le 10 slot.content (omega arith) (omega (arith, low)) (omega (arith, low)),
+    ))

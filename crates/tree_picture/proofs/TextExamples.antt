@@ -11,7 +11,7 @@ word_is = refl
 cut_is : short_token (codes "k1234567890") ≡ codes "k123456789.."
 cut_is = refl
 
--- so are five and six in digits, and the empty key has none
+-- so are five and six in digits, and no bytes have none
 empty_is : short_token [] ≡ codes "="
 unfolding encode_with
 empty_is = refl
@@ -27,6 +27,5 @@ cut_digits_are = refl
 range_is : page_range (record { pid = 1; chain = split_leaf }) ≡ codes "from a to k09"
 range_is = refl
 
-open_range_is : page_range (record { pid = 1; chain = put_leaf }) ≡ codes "from = to the end"
-unfolding encode_with
+open_range_is : page_range (record { pid = 1; chain = put_leaf }) ≡ codes "from (lowest) to the end"
 open_range_is = refl

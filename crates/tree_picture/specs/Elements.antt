@@ -2,12 +2,13 @@
 use Rattle.std.specs.Prelude.{ℕ, List, [], ◌∷◌, ◌+◌, ◌++◌, Bool, true, false, codes, decimal}
 use Rattle.std.specs.List.{flat_map}
 use Rattle.tree_picture.specs.declared.colour.Colour.TheVariants.{Ink, Missing}
-use Rattle.tree_picture.specs.declared.shape.TheConstants.{INSET, MARK_INSET, NAME_DROP, RANGE_DROP}
+use Rattle.tree_picture.specs.declared.shape.TheConstants.{INSET, MARK_INSET, NAME_DROP, RANGE_DROP, SLOT_DROP, SLOT_INSET}
 use Rattle.tree_picture.specs.declared.shape.Line.{Line as LineOf}
 use Rattle.tree_picture.specs.declared.shape.PageBox.{PageBox}
 use Rattle.tree_picture.specs.declared.shape.Rectangle.{Rectangle}
 use Rattle.tree_picture.specs.declared.shape.Shape.{Shape}
-use Rattle.tree_picture.specs.declared.shape.Shape.TheVariants.{Page, Box, Line, Text}
+use Rattle.tree_picture.specs.declared.shape.Shape.TheVariants.{Page, Box, Item, Line, Slot, Text}
+use Rattle.tree_picture.specs.declared.shape.SlotBox.{SlotBox}
 use Rattle.tree_picture.specs.declared.shape.Text.{Text as TextOf}
 use Rattle.tree_picture.specs.Colours.{colour_text}
 pub use Rattle.tree_picture.specs.Texts.{mark_text, name_text}
@@ -67,19 +68,57 @@ range_in page = record { x = page.rectangle.x + INSET; y = page.rectangle.y + RA
 abbrev pub box_element : PageBox → Element
 box_element page = rectangle_element (attribute (codes "id") (codes "page-" ++ decimal page.pid) ∷ []) page.rectangle
 
--- A page's box is followed by its PID, its mark and its range.
+-- so has a slot's its number
+abbrev pub slot_element : SlotBox → Element
+slot_element slot = rectangle_element (attribute (codes "id") (codes "slot-" ++ decimal slot.slot.number) ∷ []) slot.rectangle
+
+abbrev pub words_in : SlotBox → TextOf
+words_in slot = record { x = slot.rectangle.x + SLOT_INSET; y = slot.rectangle.y + SLOT_DROP; size = 11; bold = false; colour = Ink; words = slot.words }
+
+-- A page's box is followed by its PID, its mark and its range, a slot's by its words.
 abbrev pub elements_of : Shape → List Element
 elements_of (Page page) = box_element page ∷ text_element (name_in page) ∷ text_element (mark_in page) ∷ text_element (range_in page) ∷ []
 elements_of (Box r) = rectangle_element [] r ∷ []
+elements_of (Item text) = text_element text ∷ []
+elements_of (Slot slot) = slot_element slot ∷ text_element (words_in slot) ∷ []
 elements_of (Line line) = line_element line ∷ []
 elements_of (Text text) = text_element text ∷ []
 
+-- what is seen of a document, however large it is shown: all of it
+abbrev pub view_attribute : ℕ → ℕ → Attribute
+view_attribute width height = attribute (codes "viewBox") (codes "0 0 " ++ (decimal width ++ (codes " " ++ decimal height)))
+
 abbrev pub document_attributes : ℕ → ℕ → List Attribute
 document_attributes width height =
-    attribute (codes "xmlns") (codes "http://www.w3.org/2000/svg") ∷ number (codes "width") width ∷ number (codes "height") height
-    ∷ attribute (codes "font-family") (codes "DejaVu Sans, Verdana, Helvetica, Arial, sans-serif") ∷ []
+    attribute (codes "xmlns") (codes "http://www.w3.org/2000/svg") ∷ number (codes "width") width ∷ number (codes "height") height ∷ view_attribute width height
+    ∷ attribute (codes "font-family") (codes "DejaVu Sans, Verdana, Helvetica, Arial, sans-serif") ∷ attribute (codes "role") (codes "img") ∷ []
 
--- a document of this width and height, with the shapes one over another
-abbrev pub document_text : ℕ → ℕ → List Shape → List ℕ
-document_text width height shapes =
-    open_text (codes "svg") (document_attributes width height) ++ codes "\n" ++ flat_map element_text (flat_map elements_of shapes) ++ close_text (codes "svg")
+-- an element of nothing but words
+abbrev pub words_element : List ℕ → List ℕ → Element
+words_element name words = record { name = name; attributes = []; content = words }
+
+-- the colours on a dark ground, for a reader who prefers one
+abbrev pub dark_style : List ℕ
+dark_style =
+    codes "@media (prefers-color-scheme: dark) {[fill='#ffffff']{fill:#0d1117}[fill='#1b1f24']{fill:#e6edf3}[stroke='#1b1f24']{stroke:#e6edf3}"
+    ++ codes "[fill='#57606a']{fill:#9ba4ae}[stroke='#57606a']{stroke:#9ba4ae}[fill='#ddf4e4']{fill:#12361f}[fill='#dbe9ff']{fill:#16304f}"
+    ++ codes "[fill='#ffe08a']{fill:#5a4500}[fill='#ffc9c4']{fill:#5e1f1b}[fill='#e4d4fa']{fill:#3d2a5c}"
+    ++ codes "[stroke='#0a5ec2']{stroke:#58a6ff}[stroke='#1a7f37']{stroke:#3fb950}[stroke='#bc4c00']{stroke:#f0883e}[fill='#bc4c00']{fill:#f0883e}}"
+
+-- the ground of a picture
+abbrev pub ground_element : Element
+ground_element = record {
+  name = codes "rect";
+  attributes = attribute (codes "width") (codes "100%") ∷ attribute (codes "height") (codes "100%") ∷ attribute (codes "fill") (codes "#ffffff") ∷ [];
+  content = [];
+}
+
+-- what stands in a document before its shapes: its name and what it shows, for who can't see it, its dark colours, and its ground
+abbrev pub head_elements : List ℕ → List ℕ → List Element
+head_elements title description = words_element (codes "title") title ∷ words_element (codes "desc") description ∷ words_element (codes "style") dark_style ∷ ground_element ∷ []
+
+-- a document of this width and height, by its name and by what it shows, with the shapes one over another
+abbrev pub document_text : ℕ → ℕ → List ℕ → List ℕ → List Shape → List ℕ
+document_text width height title description shapes =
+    open_text (codes "svg") (document_attributes width height) ++ codes "\n" ++ flat_map element_text (head_elements title description)
+    ++ flat_map element_text (flat_map elements_of shapes) ++ close_text (codes "svg")

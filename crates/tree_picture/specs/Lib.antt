@@ -2,6 +2,7 @@ pub mod Adding
 pub mod Colours
 pub mod Document
 pub mod Elements
+pub mod Items
 pub mod Layout
 pub mod Levels
 pub mod Marks
@@ -10,4 +11,6 @@ pub mod Pids
 pub mod Ranges
 pub mod Scenes
 pub mod Sizes
+pub mod SlotTexts
+pub mod Slots
 pub mod Texts

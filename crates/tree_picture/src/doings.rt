@@ -8,7 +8,7 @@ use crate::shape::Text;
 use crate::sheet::Sheet;
 use crate::steps::{command_words, step_words};
 use crate::words::Words;
-use crate::write::{with_number, with_token};
+use crate::write::{with_key, with_number};
 use bw_model::Key;
 use core_memory::CoreRows;
 use epochs::{Entry, Stage};
@@ -23,7 +23,7 @@ pub(crate) fn actor_lines(
     number: u8,
     actor: &Actor<CoreRows>,
     announced: u64,
-    y: u32,
+    y: u64,
 )
     requires { IsActorShown actor.now }
     ensures { sheet.new ≡ sheet.old }
@@ -78,7 +78,7 @@ fn errands(words: &mut Words, keys: &[Key]) {
             return;
         }
         left -= 1;
-        with_token(words, b" ", key.as_slice());
+        with_key(words, b" ", key.as_slice());
     }
 }
 

@@ -1,16 +1,16 @@
-//! What stands around the levels: the title, slot 0, the counts and the legend.
+//! What stands around the levels: the title, the counts and the legend.
 ghost use Rattle.std.specs.Prelude.{◌≡◌};
 
 use crate::Scene;
 use crate::colour::Colour;
-use crate::places::{LEFT, TOP};
+use crate::places::{LEFT, SLOT_HEIGHT, SLOT_WIDTH, SLOTS_TOP, TOP};
 use crate::shape::{Line, Rectangle, Text};
 use crate::sheet::Sheet;
 use crate::words::Words;
 use crate::write::{plain, with_number};
 
-/// The title, the counts, and slot 0 with its line to the root, whose box begins at `root_x`.
-pub(crate) fn head(sheet: &mut Sheet, scene: &Scene, root_x: u32)
+/// The title, the counts, and the line from slot 0 to the root, whose box begins at `root_x`.
+pub(crate) fn head(sheet: &mut Sheet, scene: &Scene, root_x: u64)
     ensures { sheet.new ≡ sheet.old }
 {
     sheet.text(Text {
@@ -19,35 +19,19 @@ pub(crate) fn head(sheet: &mut Sheet, scene: &Scene, root_x: u32)
         size: 20,
         bold: true,
         colour: Colour::Ink,
-        words: plain(b"A Bw-tree as it stands"),
+        words: title(),
     });
-    let mut words = Words::new();
-    with_number(&mut words, b"levels: ", scene.levels().len() as u64);
-    with_number(&mut words, b"; free PIDs: ", scene.free_pids());
-    with_number(&mut words, b"; free rows: ", scene.free_rows());
-    with_number(&mut words, b"; epoch: ", scene.epoch());
-    sheet.words(LEFT, 54, 13, words);
-    slot_0(sheet, scene.root(), root_x);
+    sheet.words(LEFT, 54, 13, counts(scene));
+    root_line(sheet, root_x);
 }
 
-/// Slot 0, and its line to the root.
-fn slot_0(sheet: &mut Sheet, root: u32, root_x: u32)
+/// The line of slot 0 to the root.
+fn root_line(sheet: &mut Sheet, root_x: u64)
     ensures { sheet.new ≡ sheet.old }
 {
-    sheet.rectangle(Rectangle {
-        x: LEFT,
-        y: 66,
-        width: 130,
-        height: 24,
-        fill: Colour::Paper,
-        edge: Colour::Ink,
-    });
-    let mut words = Words::new();
-    with_number(&mut words, b"slot 0: PID ", u64::from(root));
-    sheet.words(LEFT + 8, 83, 13, words);
     sheet.line(Line {
-        x1: LEFT + 130,
-        y1: 78,
+        x1: LEFT + SLOT_WIDTH,
+        y1: SLOTS_TOP + SLOT_HEIGHT / 2,
         x2: root_x.saturating_add(20),
         y2: TOP,
         colour: Colour::Term,
@@ -55,8 +39,23 @@ fn slot_0(sheet: &mut Sheet, root: u32, root_x: u32)
     });
 }
 
+/// The name of a picture.
+pub(crate) fn title() -> Words {
+    plain(b"A Bw-tree as it stands")
+}
+
+/// What a scene has, in numbers.
+pub(crate) fn counts(scene: &Scene) -> Words {
+    let mut words = Words::new();
+    with_number(&mut words, b"levels: ", scene.levels().len() as u64);
+    with_number(&mut words, b"; free PIDs: ", scene.free_pids());
+    with_number(&mut words, b"; free rows: ", scene.free_rows());
+    with_number(&mut words, b"; epoch: ", scene.epoch());
+    words
+}
+
 /// What colours and lines mean, and the height behind it.
-pub(crate) fn legend(sheet: &mut Sheet, y: u32) -> u32
+pub(crate) fn legend(sheet: &mut Sheet, y: u64) -> u64
     ensures { sheet.new ≡ sheet.old }
 {
     let boxes = y.saturating_add(10);
@@ -97,10 +96,18 @@ pub(crate) fn legend(sheet: &mut Sheet, y: u32) -> u32
         b"held term",
     );
     key_line(sheet, LEFT + 590, lines, Colour::Side, false, b"side link");
+    key_line(
+        sheet,
+        LEFT + 700,
+        lines,
+        Colour::Grey,
+        false,
+        b"a slot's newest record",
+    );
     y.saturating_add(66)
 }
 
-fn key_box(sheet: &mut Sheet, x: u32, y: u32, fill: Colour, words: &[u8])
+fn key_box(sheet: &mut Sheet, x: u64, y: u64, fill: Colour, words: &[u8])
     ensures { sheet.new ≡ sheet.old }
 {
     sheet.rectangle(Rectangle {
@@ -114,7 +121,7 @@ fn key_box(sheet: &mut Sheet, x: u32, y: u32, fill: Colour, words: &[u8])
     sheet.words(x.saturating_add(30), y.saturating_add(12), 12, plain(words));
 }
 
-fn key_line(sheet: &mut Sheet, x: u32, y: u32, colour: Colour, dashed: bool, words: &[u8])
+fn key_line(sheet: &mut Sheet, x: u64, y: u64, colour: Colour, dashed: bool, words: &[u8])
     ensures { sheet.new ≡ sheet.old }
 {
     let middle = y.saturating_add(7);

@@ -1,112 +1,132 @@
 //! The levels one under another.
-ghost use Rattle.std.specs.Prelude.{◌≡◌, ◌≤◌, ◌<◌, ◌+◌, ◌-◌, ◌*◌, ◌^◌, ◌++◌, [], ℕ, List, All, length, OnOk};
+ghost use Rattle.std.specs.Prelude.{◌≡◌, ◌≤◌, ◌<◌, ◌+◌, ◌*◌, ◌^◌, ◌++◌, ◌⊎◌, [], List, All, length, IfOk, OnOk};
 ghost use Rattle.std.specs.List.{AllZip};
+ghost use Rattle.tree_picture.specs.Items.{all_items, level_items};
 ghost use Rattle.tree_picture.specs.Layout.{AreLaidTo};
 ghost use Rattle.tree_picture.specs.Marks.{AreMarked, IsMarkFor};
 ghost use Rattle.tree_picture.specs.Pids.{all_pids, level_pids};
 ghost use Rattle.tree_picture.specs.Ranges.{all_ranges, level_ranges};
-ghost use Rattle.tree_picture.specs.Sizes.{level_height, levels_height};
+ghost use Rattle.tree_picture.specs.Sizes.{IsWideFor};
 ghost use Rattle.tree_picture.specs.declared.shape.Mark.{Mark};
-ghost use Rattle.tree_picture.specs.declared.places.TheConstants.{DROP, GAP, PAGE_WIDTH};
+ghost use Rattle.tree_picture.specs.declared.places.TheConstants.{BESIDE, DROP, SHELF};
 
 use crate::boxes::page_box;
-use crate::links::{Drawn, links, mark_of, side_link};
-use crate::places::{DROP, GAP, PAGE_WIDTH, first_x, level_height};
+use crate::links::{Drawn, links, mark_of, side_link, slot_lines};
+use crate::places::{BESIDE, DROP, GAP, PAGE_WIDTH, SHELF, first_x, highest};
 use crate::sheet::Sheet;
-use crate::{Level, ScenePage};
+use crate::{Level, Scene, ScenePage};
 use std::alloc::AllocError;
 
-/// A level: its pages from left to right, with their side links.
-fn level_row(
+/// A level from a height on: its pages from left to right, in rows of at most `BESIDE`, with their side links. Answers the height behind it.
+fn level_rows(
     sheet: &mut Sheet,
     level: &Level,
     above: &[ScenePage],
     root: u32,
-    x: u32,
-    y: u32,
-) -> Result<(), AllocError>
-    requires { x + length level.now * (PAGE_WIDTH + GAP) < 2 ^ 32 }
+    width: u64,
+    top: u64,
+) -> Result<u64, AllocError>
+    requires wide { IsWideFor width (length level.now) }
+    requires narrow { width ≤ 2 ^ 32 }
+    requires high { top ≤ 2 ^ 40 }
     ensures pids { OnOk result (sheet.new.pids ≡ sheet.old.pids ++ level_pids level.now) }
     ensures ranges { OnOk result (sheet.new.ranges ≡ sheet.old.ranges ++ level_ranges level.now) }
+    ensures slots { OnOk result (sheet.new.slots ≡ sheet.old.slots) }
+    ensures items { OnOk result (sheet.new.items ≡ sheet.old.items ++ level_items level.now) }
     ensures marks { OnOk result ((own : List Mark) × (sheet.new.marks ≡ sheet.old.marks ++ own) × AllZip (IsMarkFor root above.now) level.now own) }
-    ensures laid { OnOk result ((width : ℕ) → x + length level.now * (PAGE_WIDTH + GAP) ≤ width + GAP → AreLaidTo width (y + level_height level.now) x y sheet.old.boxes
-        → AreLaidTo width (y + level_height level.now) (x + length level.now * (PAGE_WIDTH + GAP)) y sheet.new.boxes) }
+    ensures laid { IfOk result (λ end. AreLaidTo width top 0 top sheet.old.boxes → AreLaidTo width end 0 end sheet.new.boxes) }
+    ensures few { IfOk result (λ end. end ≤ top + 4194305 * (5046 + SHELF)) }
 {
-    let mut x = x;
-    for page in level.pages() {
-        page_box(sheet, page, mark_of(page, above, root), x, y)?;
+    let pages = level.pages();
+    let height = highest(pages);
+    let first = first_x(width, pages.len());
+    let mut place = Place {
+        column: 0,
+        x: first,
+        y: top,
+    };
+    for page in pages {
+        let here = in_row(place, first, height + SHELF);
+        page_box(sheet, page, mark_of(page, above, root), here.x, here.y)?;
         if page.page().right().is_some() {
-            side_link(sheet, x, y);
+            side_link(sheet, here.x, here.y);
         }
-        x += PAGE_WIDTH + GAP;
+        place = Place {
+            column: here.column + 1,
+            x: here.x + (PAGE_WIDTH + GAP),
+            y: here.y,
+        };
     }
-    Ok(())
+    Ok(place.y + height)
 }
 
-/// All levels from a height on, in a picture of this width.
+/// A place for a page of a level: in which column, and the corner.
+#[derive(Clone, Copy)]
+struct Place {
+    column: usize,
+    x: u64,
+    y: u64,
+}
+
+/// The place next to it, or where its row is full, the first one of the next row.
+fn in_row(place: Place, first: u64, down: u64) -> Place
+    requires { place.y + down < 2 ^ 64 }
+    ensures { ((place.column < BESIDE) × (result ≡ place)) ⊎ (result ≡ record { column = 0; x = first; y = place.y + down }) }
+{
+    if place.column < BESIDE {
+        place
+    } else {
+        Place {
+            column: 0,
+            x: first,
+            y: place.y + down,
+        }
+    }
+}
+
+/// All levels from a height on, in a picture of this width. Answers the height behind them.
 pub(crate) fn rows(
     sheet: &mut Sheet,
     levels: &[Level],
     root: u32,
-    width: u32,
-    top: u32,
-) -> Result<(), AllocError>
-    requires wide { All (λ level. length level * (PAGE_WIDTH + GAP) ≤ width) levels.now }
-    requires narrow { width + GAP < 2 ^ 32 }
-    requires high { top + levels_height levels.now < 2 ^ 32 }
+    width: u64,
+    top: u64,
+) -> Result<u64, AllocError>
+    requires wide { All (λ level. IsWideFor width (length level)) levels.now }
+    requires narrow { width ≤ 2 ^ 32 }
+    requires few { length levels.now ≤ 16 }
+    requires high { top ≤ 1000 }
     ensures pids { OnOk result (sheet.new.pids ≡ sheet.old.pids ++ all_pids levels.now) }
     ensures ranges { OnOk result (sheet.new.ranges ≡ sheet.old.ranges ++ all_ranges levels.now) }
+    ensures slots { OnOk result (sheet.new.slots ≡ sheet.old.slots) }
+    ensures items { OnOk result (sheet.new.items ≡ sheet.old.items ++ all_items levels.now) }
     ensures marks { OnOk result ((own : List Mark) × (sheet.new.marks ≡ sheet.old.marks ++ own) × AreMarked root [] levels.now own) }
-    ensures laid { OnOk result (AreLaidTo width top 0 top sheet.old.boxes
-        → AreLaidTo width (top + levels_height levels.now) 0 (top + levels_height levels.now) sheet.new.boxes) }
+    ensures laid { IfOk result (λ end. AreLaidTo width top 0 top sheet.old.boxes → AreLaidTo width end 0 end sheet.new.boxes) }
+    ensures few { IfOk result (λ end. end ≤ top + 16 * (4194305 * (5046 + SHELF) + DROP)) }
 {
     let mut y = top;
     let mut above: &[ScenePage] = &[];
     for level in levels {
-        level_row(
-            sheet,
-            level,
-            above,
-            root,
-            first_x(width, level.pages().len()),
-            y,
-        )?;
-        y += level_height(level) + DROP;
+        let end = level_rows(sheet, level, above, root, width, y)?;
+        y = end + DROP;
         above = level.pages();
     }
-    Ok(())
+    Ok(y)
 }
 
-/// The lines between levels.
-pub(crate) fn all_links(sheet: &mut Sheet, levels: &[Level], width: u32, top: u32)
+/// The lines from slots, and between levels.
+pub(crate) fn all_links(sheet: &mut Sheet, scene: &Scene, width: u64, top: u64)
     ensures { sheet.new ≡ sheet.old }
 {
     let mut y = top;
     let mut above: Option<Drawn<'_>> = None;
-    for level in levels {
-        let here = Drawn {
-            level,
-            x: first_x(width, level.pages().len()),
-            y,
-        };
+    for level in scene.levels() {
+        let here = Drawn::new(level, width, y);
+        slot_lines(sheet, scene.slots(), here);
         if let Some(above) = above {
             links(sheet, above, here);
         }
-        y = y.saturating_add(level_height(level)).saturating_add(DROP);
+        y = here.bottom().saturating_add(DROP);
         above = Some(here);
     }
-}
-
-/// The height behind all levels.
-pub(crate) fn bottom_of(levels: &[Level], top: u32) -> u32
-    requires few { length levels.now ≤ 16 }
-    requires high { top ≤ 1000 }
-    ensures exact { result ≡ top + levels_height levels.now }
-    ensures few { result ≤ top + 16 * (5046 + DROP) }
-{
-    let mut y = top;
-    for level in levels {
-        y += level_height(level) + DROP;
-    }
-    y
 }

@@ -20,7 +20,9 @@ mod places;
 mod scene;
 mod shape;
 mod sheet;
+mod slots;
 mod steps;
+mod taken;
 mod well_formed;
 mod whole;
 mod words;
@@ -32,9 +34,12 @@ pub use level::Level;
 pub use page::ScenePage;
 pub use scene::Scene;
 pub use shape::{
-    INSET, Line, MARK_INSET, Mark, NAME_DROP, PageBox, RANGE_DROP, Rectangle, Shape, Text,
+    INSET, Line, MARK_INSET, Mark, NAME_DROP, PageBox, RANGE_DROP, Rectangle, SLOT_DROP,
+    SLOT_INSET, Shape, SlotBox, Text,
 };
 pub use sheet::Picture;
+pub use slots::Slot;
+pub use taken::StepName;
 pub use well_formed::{documents_are_well_formed, escapes_are_safe};
 pub use whole::picture;
 pub use words::{MAX_WORDS, Words};

@@ -17,6 +17,7 @@ use std::marker::Model;
 /// A page by its PID: the records of its chain, the newest first, and the page that they make.
 pub struct ScenePage<A: Allocator = Global> {
     pid: u32,
+    row: u32,
     records: Vec<Record, A>,
     page: Page,
 }
@@ -25,6 +26,7 @@ impl<A: Allocator> Drop for ScenePage<A> {
     fn drop(self) {
         let ScenePage {
             pid: _,
+            row: _,
             records: _,
             page: _,
         } = self;
@@ -48,6 +50,11 @@ impl<A: Allocator> ScenePage<A> {
         ensures { result ≡ self.now.pid }
     {
         self.pid
+    }
+
+    /// The row of the newest one of its records.
+    pub fn row(&self) -> u32 {
+        self.row
     }
 
     /// The records of its chain, the newest first, the base last.
@@ -93,7 +100,13 @@ pub(crate) fn page_at<A: Allocator, B: Allocator>(
 {
     let page = page_of(table, pid);
     let records = records_at(alloc, table, pid)?;
-    Ok(ScenePage { pid, records, page })
+    let row = table.slot(pid);
+    Ok(ScenePage {
+        pid,
+        row,
+        records,
+        page,
+    })
 }
 
 /// The records of a page's chain, the newest first.

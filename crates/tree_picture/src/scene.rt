@@ -7,6 +7,7 @@ ghost use Rattle.tree_law.specs.LevelPages.{HasAllLevels};
 
 use crate::counts::{free_pids, free_rows};
 use crate::level::{Level, level_from};
+use crate::slots::{Slot, slots_of};
 use bw_model::Limits;
 use core_memory::CoreTable;
 use std::alloc::{AllocError, Allocator, Global};
@@ -19,6 +20,7 @@ const MANY_LEVELS: u32 = 16;
 #[derive(Drop)]
 pub struct Scene<A: Allocator = Global> {
     root: u32,
+    slots: Vec<Slot, A>,
     levels: Vec<Level<A>, A>,
     free_pids: u64,
     free_rows: u64,
@@ -31,7 +33,7 @@ impl<A: Allocator> Model for Scene<A> {
 
     ghost Value = { Scene };
 
-    ghost view = { λ s. record { root = s.root; levels = s.levels.items; free_pids = s.free_pids; free_rows = s.free_rows; epoch = s.epoch } };
+    ghost view = { λ s. record { root = s.root; slots = s.slots.items; levels = s.levels.items; free_pids = s.free_pids; free_rows = s.free_rows; epoch = s.epoch } };
 
     ghost invariant = { λ s. length s.levels.items ≤ 16 };
 }
@@ -50,6 +52,7 @@ impl<A: Allocator + Copy> Scene<A> {
         let levels = levels_of(alloc, limits, table)?;
         Ok(Scene {
             root: table.slot(0),
+            slots: slots_of(alloc, table, limits.pids)?,
             levels,
             free_pids: free_pids(table, limits.pids),
             free_rows: free_rows(table, limits.rows),
@@ -64,6 +67,13 @@ impl<A: Allocator> Scene<A> {
         ensures { result ≡ self.now.root }
     {
         self.root
+    }
+
+    /// The slots that aren't 0.
+    pub fn slots(&self) -> &[Slot]
+        ensures { result.now ≡ self.now.slots }
+    {
+        self.slots.as_slice()
     }
 
     /// The levels, the root's first.

@@ -1,35 +1,37 @@
 //! Shapes. A place is told in pixels, from the left and from the top.
 ghost use Rattle.std.specs.Prelude.{◌≡◌};
+ghost use Rattle.tree_picture.specs.SlotTexts.{slot_text};
 ghost use Rattle.tree_picture.specs.Texts.{EndInBox, mark_text};
 
 use crate::colour::Colour;
+use crate::slots::Slot;
 use crate::words::Words;
 
 /// How far to the right of the corner of a page's box its name and its range begin.
-pub const INSET: u32 = 10;
+pub const INSET: u64 = 10;
 
 /// How far to the right of that corner its mark begins.
-pub const MARK_INSET: u32 = 166;
+pub const MARK_INSET: u64 = 166;
 
 /// How far under that corner its name and its mark stand.
-pub const NAME_DROP: u32 = 18;
+pub const NAME_DROP: u64 = 18;
 
 /// How far under that corner its range stands.
-pub const RANGE_DROP: u32 = 35;
+pub const RANGE_DROP: u64 = 35;
 
 /// How wide a character of a name or a mark is taken to be, in pixels. Letters of such a font are about so wide; a few are wider.
-pub const BOLD_WIDTH: u32 = 10;
+pub const BOLD_WIDTH: u64 = 10;
 
 /// How wide a character of a range is taken to be.
-pub const PLAIN_WIDTH: u32 = 6;
+pub const PLAIN_WIDTH: u64 = 6;
 
 /// A rectangle, from its corner that is leftmost and topmost.
 #[derive(Clone, Copy)]
 pub struct Rectangle {
-    pub x: u32,
-    pub y: u32,
-    pub width: u32,
-    pub height: u32,
+    pub x: u64,
+    pub y: u64,
+    pub width: u64,
+    pub height: u64,
     pub fill: Colour,
     pub edge: Colour,
 }
@@ -37,10 +39,10 @@ pub struct Rectangle {
 /// A straight line, from one place to another.
 #[derive(Clone, Copy)]
 pub struct Line {
-    pub x1: u32,
-    pub y1: u32,
-    pub x2: u32,
-    pub y2: u32,
+    pub x1: u64,
+    pub y1: u64,
+    pub x2: u64,
+    pub y2: u64,
     pub colour: Colour,
     pub dashed: bool,
 }
@@ -48,8 +50,8 @@ pub struct Line {
 /// Words in a row, from the place of their lower left corner.
 #[derive(Drop)]
 pub struct Text {
-    pub x: u32,
-    pub y: u32,
+    pub x: u64,
+    pub y: u64,
     pub size: u8,
     pub bold: bool,
     pub colour: Colour,
@@ -104,6 +106,22 @@ pub struct PageBox {
     pub ghost inside: { EndInBox rectangle.width pid mark range },
 }
 
+/// The box of a slot of the mapping table, and the words in it.
+#[derive(Drop)]
+pub struct SlotBox {
+    pub slot: Slot,
+    pub rectangle: Rectangle,
+    pub words: Words,
+    /// The words name the slot and what it has.
+    pub ghost worded: { words ≡ slot_text slot },
+}
+
+/// How far to the right of the corner of a slot's box its words begin.
+pub const SLOT_INSET: u64 = 8;
+
+/// How far under that corner they stand.
+pub const SLOT_DROP: u64 = 15;
+
 /// One shape of a picture.
 #[derive(Drop)]
 pub enum Shape {
@@ -111,6 +129,10 @@ pub enum Shape {
     Page(PageBox),
     /// Any other box.
     Box(Rectangle),
+    /// An item of a base or a merge.
+    Item(Text),
+    /// A slot of the mapping table.
+    Slot(SlotBox),
     /// A line.
     Line(Line),
     /// Words.

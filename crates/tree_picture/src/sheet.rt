@@ -1,9 +1,9 @@
 //! Shapes while they are drawn.
-ghost use Rattle.std.specs.Prelude.{◌≡◌, [], IfOk, OnOk};
-ghost use Rattle.tree_picture.specs.Pages.{pages_in, with_page};
+ghost use Rattle.std.specs.Prelude.{◌≡◌, ◌∷◌, [], IfOk, OnOk};
+ghost use Rattle.tree_picture.specs.Pages.{pages_in, with_items, with_page, with_slots};
 
 use crate::colour::Colour;
-use crate::shape::{Line, PageBox, Rectangle, Shape, Text};
+use crate::shape::{Line, PageBox, Rectangle, Shape, SlotBox, Text};
 use crate::words::Words;
 use std::alloc::{AllocError, Global};
 use std::marker::Model;
@@ -12,8 +12,12 @@ use std::marker::Model;
 #[derive(Drop)]
 pub struct Picture {
     pub shapes: Vec<Shape>,
-    pub width: u32,
-    pub height: u32,
+    pub width: u64,
+    pub height: u64,
+    /// Its name.
+    pub title: Words,
+    /// What it shows, for who can't see it.
+    pub description: Words,
 }
 
 /// The shapes that were drawn so far, or that there was no room for one. Its contracts tell of the pages among them.
@@ -51,6 +55,24 @@ impl Sheet {
         Ok(())
     }
 
+    /// An item of a base or a merge.
+    #[tactic(auto, using(crate::proofs::Shapes::item_more))]
+    pub(crate) fn item(&mut self, text: Text) -> Result<(), AllocError>
+        ensures { OnOk result (self.new ≡ with_items self.old (text.words ∷ [])) }
+    {
+        self.shapes.push(Shape::Item(text))?;
+        Ok(())
+    }
+
+    /// The box of a slot.
+    #[tactic(auto, using(crate::proofs::Shapes::slot_more))]
+    pub(crate) fn slot(&mut self, slot: SlotBox) -> Result<(), AllocError>
+        ensures { OnOk result (self.new ≡ with_slots self.old (slot.slot ∷ [])) }
+    {
+        self.shapes.push(Shape::Slot(slot))?;
+        Ok(())
+    }
+
     /// Any other box.
     #[tactic(auto, using(crate::proofs::Shapes::box_more))]
     pub(crate) fn rectangle(&mut self, rectangle: Rectangle)
@@ -85,7 +107,7 @@ impl Sheet {
     }
 
     /// Plain words of a size.
-    pub(crate) fn words(&mut self, x: u32, y: u32, size: u8, words: Words)
+    pub(crate) fn words(&mut self, x: u64, y: u64, size: u8, words: Words)
         ensures { self.new ≡ self.old }
     {
         self.text(Text {
@@ -99,7 +121,13 @@ impl Sheet {
     }
 
     /// The picture, if there was room for all its shapes.
-    pub(crate) fn finish(self, width: u32, height: u32) -> Result<Picture, AllocError>
+    pub(crate) fn finish(
+        self,
+        width: u64,
+        height: u64,
+        title: Words,
+        description: Words,
+    ) -> Result<Picture, AllocError>
         ensures shapes { IfOk result (λ picture. pages_in picture.shapes.items ≡ self) }
         ensures size { IfOk result (λ picture. (picture.width ≡ width) × (picture.height ≡ height)) }
     {
@@ -110,6 +138,8 @@ impl Sheet {
             shapes: self.shapes,
             width,
             height,
+            title,
+            description,
         })
     }
 }

@@ -1,39 +1,39 @@
 //! Words for commands and steps.
 
 use crate::words::Words;
-use crate::write::{record_words, with_number, with_token};
+use crate::write::{record_words, with_key, with_number, with_token};
 use bw_model::{Command, Step};
 use deltas::Record;
 
 /// What an actor was asked.
 pub(crate) fn command_words(words: &mut Words, command: &Command) {
     match command {
-        Command::Get(key) => with_token(words, b"get ", key.as_slice()),
+        Command::Get(key) => with_key(words, b"get ", key.as_slice()),
         Command::Insert(key, value) => {
-            with_token(words, b"insert ", key.as_slice());
+            with_key(words, b"insert ", key.as_slice());
             with_token(words, b" ", value.as_slice());
         }
         Command::Upsert(key, value) => {
-            with_token(words, b"upsert ", key.as_slice());
+            with_key(words, b"upsert ", key.as_slice());
             with_token(words, b" ", value.as_slice());
         }
-        Command::Delete(key) => with_token(words, b"delete ", key.as_slice()),
+        Command::Delete(key) => with_key(words, b"delete ", key.as_slice()),
         Command::DeleteIf(key, expected) => {
-            with_token(words, b"delete_if ", key.as_slice());
+            with_key(words, b"delete_if ", key.as_slice());
             with_token(words, b" ", expected.as_slice());
         }
         Command::Swap(key, expected, value) => {
-            with_token(words, b"swap ", key.as_slice());
+            with_key(words, b"swap ", key.as_slice());
             with_token(words, b" ", expected.as_slice());
             with_token(words, b" ", value.as_slice());
         }
         Command::Add(key, number) => {
-            with_token(words, b"add ", key.as_slice());
+            with_key(words, b"add ", key.as_slice());
             with_number(words, b" ", *number);
         }
-        Command::Page(key) => with_token(words, b"page ", key.as_slice()),
-        Command::Back(key) => with_token(words, b"back ", key.as_slice()),
-        Command::Tidy(key) => with_token(words, b"tidy ", key.as_slice()),
+        Command::Page(key) => with_key(words, b"page ", key.as_slice()),
+        Command::Back(key) => with_key(words, b"back ", key.as_slice()),
+        Command::Tidy(key) => with_key(words, b"tidy ", key.as_slice()),
     }
 }
 

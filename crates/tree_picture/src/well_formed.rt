@@ -13,5 +13,5 @@ pub fn escapes_are_safe()
 
 /// Whatever the shapes are, and the words in them, their document is well-formed. It does nothing.
 pub fn documents_are_well_formed()
-    ensures { (width height : ℕ) (shapes : List Shape) → IsWellFormed (document_text width height shapes) }
+    ensures { (width height : ℕ) (title description : List ℕ) (shapes : List Shape) → IsWellFormed (document_text width height title description shapes) }
 {}

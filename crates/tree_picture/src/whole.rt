@@ -1,19 +1,19 @@
 //! The whole picture.
-ghost use Rattle.std.specs.Prelude.{◌≡◌, [], IfOk};
+ghost use Rattle.std.specs.Prelude.{◌≡◌, ◌≤◌, [], IfOk};
+ghost use Rattle.tree_picture.specs.Items.{all_items};
 ghost use Rattle.tree_picture.specs.Layout.{AreLaidOut};
 ghost use Rattle.tree_picture.specs.Marks.{AreMarked};
-ghost use Rattle.tree_picture.specs.Pages.{boxes_of, marks_of, pids_of, ranges_of};
+ghost use Rattle.tree_picture.specs.Pages.{boxes_of, items_of, marks_of, pids_of, ranges_of, slots_of};
 ghost use Rattle.tree_picture.specs.Pids.{all_pids};
 ghost use Rattle.tree_picture.specs.Ranges.{all_ranges};
 
 use crate::Scene;
-use crate::colour::Colour;
 use crate::doings::actor_lines;
-use crate::frame::{head, legend};
-use crate::levels::{all_links, bottom_of, rows};
-use crate::places::{DROP, LEFT, TOP, first_x, width_of};
-use crate::shape::Rectangle;
+use crate::frame::{counts, head, legend, title};
+use crate::levels::{all_links, rows};
+use crate::places::{DROP, LEFT, SLOTS_TOP, TOP, first_x, width_of};
 use crate::sheet::{Picture, Sheet};
+use crate::slots::{slot_boxes, slots_bottom};
 use std::alloc::{AllocError, Global};
 use step_core::Core;
 
@@ -22,38 +22,40 @@ use step_core::Core;
 pub fn picture(alloc: Global, scene: &Scene, core: &Core) -> Result<Picture, AllocError>
     ensures pages { IfOk result (λ picture. pids_of picture.shapes.items ≡ all_pids scene.now.levels) }
     ensures ranges { IfOk result (λ picture. ranges_of picture.shapes.items ≡ all_ranges scene.now.levels) }
+    ensures items { IfOk result (λ picture. items_of picture.shapes.items ≡ all_items scene.now.levels) }
+    ensures slots { IfOk result (λ picture. slots_of picture.shapes.items ≡ scene.now.slots) }
     ensures marks { IfOk result (λ picture. AreMarked scene.now.root [] scene.now.levels (marks_of picture.shapes.items)) }
     ensures laid { IfOk result (λ picture. AreLaidOut picture.width picture.height (boxes_of picture.shapes.items)) }
 {
     let levels = scene.levels();
     let width = width_of(levels);
-    let end = bottom_of(levels, TOP);
-    let bottom = end.saturating_sub(DROP / 2);
-    let many = core.limits().actors as u32;
-    let height = bottom + many * 56 + 90;
     let mut sheet = Sheet::new(alloc);
-    sheet.rectangle(Rectangle {
-        x: 0,
-        y: 0,
-        width,
-        height,
-        fill: Colour::Paper,
-        edge: Colour::Paper,
-    });
     let root_x = match levels.first() {
         Some(level) => first_x(width, level.pages().len()),
         None => LEFT,
     };
     head(&mut sheet, scene, root_x);
-    all_links(&mut sheet, levels, width, TOP);
-    rows(&mut sheet, levels, scene.root(), width, TOP)?;
-    let y = all_actors(&mut sheet, core, bottom);
-    legend(&mut sheet, y);
-    sheet.finish(width, height)
+    all_links(&mut sheet, scene, width, TOP);
+    let end = rows(&mut sheet, levels, scene.root(), width, TOP)?;
+    slot_boxes(&mut sheet, scene.slots(), SLOTS_TOP)?;
+    let under = larger(
+        end.saturating_sub(DROP / 2),
+        slots_bottom(scene.slots(), SLOTS_TOP),
+    );
+    let y = all_actors(&mut sheet, core, under);
+    let height = larger(legend(&mut sheet, y), end);
+    sheet.finish(width, height, title(), counts(scene))
+}
+
+/// The larger of two numbers.
+fn larger(one: u64, other: u64) -> u64
+    ensures { other ≤ result }
+{
+    if one < other { other } else { one }
 }
 
 /// All actors from a height on, and the height behind them.
-fn all_actors(sheet: &mut Sheet, core: &Core, y: u32) -> u32
+fn all_actors(sheet: &mut Sheet, core: &Core, y: u64) -> u64
     ensures { sheet.new ≡ sheet.old }
 {
     let mut y = y.saturating_add(20);

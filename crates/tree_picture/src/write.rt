@@ -1,9 +1,9 @@
 //! Words for numbers, keys and records.
 
-ghost use Rattle.std.specs.Prelude.{◌≡◌, ◌≤◌, ◌++◌, length, option_copied, take};
+ghost use Rattle.std.specs.Prelude.{◌≡◌, ◌≤◌, ◌++◌, decimal, length, option_copied, take};
 ghost use Rattle.hex.specs.Hex.{encode_lower};
 ghost use Rattle.tree_picture.specs.Adding.{Adds};
-ghost use Rattle.tree_picture.specs.Ranges.{dots, range_text, short_token};
+ghost use Rattle.tree_picture.specs.Ranges.{dots, key_text, range_text, short_token};
 ghost use Rattle.tree_picture.specs.declared.write.TheConstants.{SHORT_DIGITS};
 
 use crate::words::Words;
@@ -26,7 +26,9 @@ pub(crate) fn plain(bytes: &[u8]) -> Words {
 }
 
 /// Words, and a number behind them.
-pub(crate) fn with_number(words: &mut Words, before: &[u8], number: u64) {
+pub(crate) fn with_number(words: &mut Words, before: &[u8], number: u64)
+    ensures { Adds words.old words.new (before.now ++ decimal number) }
+{
     words.add(before);
     let mut buffer = Buffer::new();
     words.add(buffer.format(number).as_bytes());
@@ -86,20 +88,39 @@ pub(crate) fn with_token(words: &mut Words, before: &[u8], bytes: &[u8])
     add_short(words, bytes);
 }
 
+/// Adds a key; the empty one is the lowest.
+fn add_key(words: &mut Words, bytes: &[u8])
+    ensures { Adds words.old words.new (key_text bytes.now) }
+{
+    if bytes.is_empty() {
+        words.add(b"(lowest)");
+    } else {
+        add_short(words, bytes);
+    }
+}
+
+/// Words, and a key behind them.
+pub(crate) fn with_key(words: &mut Words, before: &[u8], bytes: &[u8])
+    ensures { Adds words.old words.new (before.now ++ key_text bytes.now) }
+{
+    words.add(before);
+    add_key(words, bytes);
+}
+
 /// From which key on, and up to which one.
 pub(crate) fn with_range(words: &mut Words, low: &Key, high: Option<&Key>)
     ensures { Adds words.old words.new (range_text low.now (option_copied high.entry)) }
 {
-    with_token(words, b"from ", low.as_slice());
+    with_key(words, b"from ", low.as_slice());
     match high {
-        Some(high) => with_token(words, b" to ", high.as_slice()),
+        Some(high) => with_key(words, b" to ", high.as_slice()),
         None => words.add(b" to the end"),
     }
 }
 
 /// A separator and a child.
 fn with_child(words: &mut Words, before: &[u8], separator: &Key, child: u32) {
-    with_token(words, before, separator.as_slice());
+    with_key(words, before, separator.as_slice());
     with_number(words, b" to PID ", u64::from(child));
 }
 
@@ -115,10 +136,10 @@ pub(crate) fn record_words(record: &Record) -> Words {
             );
         }
         Record::Put(put) => {
-            with_token(&mut words, b"put ", put.key.as_slice());
+            with_key(&mut words, b"put ", put.key.as_slice());
             with_token(&mut words, b" = ", put.value.as_slice());
         }
-        Record::Delete(delete) => with_token(&mut words, b"delete ", delete.key.as_slice()),
+        Record::Delete(delete) => with_key(&mut words, b"delete ", delete.key.as_slice()),
         Record::Split(split) => with_child(&mut words, b"split ", &split.separator, split.page),
         Record::Term(term) => with_child(&mut words, b"term ", &term.separator, term.child),
         Record::Hold(hold) => with_child(&mut words, b"hold ", &hold.separator, hold.child),

@@ -2,9 +2,10 @@
 ghost use Rattle.std.specs.Prelude.{IfSome};
 ghost use Rattle.running_tree.specs.Trees.{AreSeatsOf};
 
+use crate::trees::new_tree;
 use crate::turns::{in_turn, is_done};
 use crate::works::{Work, key};
-use bw_model::{Command, Limits};
+use bw_model::{Command, Limits, Widths};
 use running_tree::{BwSeat, Tree};
 use std::alloc::Global;
 use workers::{opened, opened_from};
@@ -70,6 +71,35 @@ fn a_full_tree_is_moved(rt: HostRuntime) {
     assert!(rt; before < KEYS && after == KEYS as usize);
 }
 
+/// How many keys a tree takes that has so many narrow rows, rows for pages, and wide ones, and how many one that is proposed for such pairs.
+fn three_widths_and_larger(alloc: Global, [narrow, pages, wide]: [u64; 3]) -> Option<(u32, usize)> {
+    let wide_from = narrow.checked_add(pages)?;
+    let widths = Widths {
+        narrow_rows: narrow,
+        wide_from,
+        narrow_words: 8,
+        page_words: 24,
+    };
+    let rows = wide_from.checked_add(wide)?;
+    let small = Limits::with_widths(1, 64, rows, 1, widths).ok()?;
+    let larger = Limits::for_pairs(1, u64::from(KEYS), 4, 4).ok()?;
+    filled_and_moved(alloc, small, larger)
+}
+
+#[test]
+fn a_full_tree_of_three_widths_is_moved(rt: HostRuntime) {
+    for rows in [[64, 64, 64], [512, 64, 64], [64, 512, 64], [64, 64, 512]] {
+        let Some((before, after)) = three_widths_and_larger(rt.alloc(), rows) else {
+            assert!(rt; false, "{rows:?}");
+            continue;
+        };
+        assert!(rt;
+            before < KEYS && after == KEYS as usize,
+            "{rows:?} {before} {after}"
+        );
+    }
+}
+
 /// The other seat of two looks a key up, so that the first one is next again.
 fn other_reads(tree: &Tree, seats: &mut Vec<BwSeat>)
     requires own { AreSeatsOf tree.now seats.old.items }
@@ -111,8 +141,7 @@ fn one_holds_back(tree: &Tree, seats: &mut Vec<BwSeat>) -> (u32, u32)
 
 /// How often it was done each time, in a small tree with two seats.
 fn held_back(alloc: Global) -> Option<(u32, u32)> {
-    let limits = Limits::new(2, 64, 64, 1).ok()?;
-    let (tree, mut seats) = opened(alloc, limits).ok()?;
+    let (tree, mut seats) = new_tree(alloc, Limits::new(2, 64, 64, 1).ok())?;
     let counts = one_holds_back(&tree, &mut seats);
     tree.close(alloc, seats).ok()?;
     Some(counts)

@@ -3,7 +3,7 @@
 ghost use Rattle.running_tree.specs.Trees.{AreSeatsOf};
 
 use crate::numbered::{are_numbers, insert};
-use crate::trees::closed;
+use crate::trees::{closed, new_tree};
 use bw_model::{Limits, Reply};
 use running_tree::{BwSeat, Tree};
 use std::alloc::Global;
@@ -100,7 +100,7 @@ fn what_is_refused_comes_back(rt: HostRuntime) {
 
 /// Runs a command to its end on the only seat of a tree.
 fn runs_to_end<R: Wait>(rt: &R, alloc: Global) -> Option<bool> {
-    let (tree, mut seats) = opened(alloc, Limits::for_keys(1, 100).ok()?).ok()?;
+    let (tree, mut seats) = new_tree(alloc, Limits::for_keys(1, 100).ok())?;
     let mut seat = take_seat(&tree, &mut seats)?;
     if !seat.is_idle() {
         return None;

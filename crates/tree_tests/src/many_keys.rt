@@ -3,12 +3,12 @@
 ghost use Rattle.running_tree.specs.Trees.{AreSeatsOf};
 
 use crate::orders::{Order, numbers};
+use crate::trees::new_tree;
 use crate::turns::done;
 use crate::works::{Work, key, value};
 use bw_model::{Key, Limits, Value};
 use running_tree::{BwSeat, Tree};
 use std::alloc::{AllocError, Global};
-use workers::opened;
 
 /// How many seats the tree has, which take their turns, and how many keys.
 const SEATS: u64 = 16;
@@ -45,8 +45,8 @@ fn are_all(pairs: &[(Key, Value)]) -> bool {
 
 /// For how many keys each work is done on a new tree, and whether it lists all of them as it is closed.
 fn held(alloc: Global) -> Option<([u32; 3], bool)> {
-    let limits = Limits::for_many_keys(SEATS, u64::from(KEYS)).ok()?;
-    let (tree, mut seats) = opened(alloc, limits).ok()?;
+    let limits = Limits::for_many_keys(SEATS, u64::from(KEYS)).ok();
+    let (tree, mut seats) = new_tree(alloc, limits)?;
     let counts = counts(alloc, &tree, &mut seats);
     let pairs = tree.close(alloc, seats).ok()?;
     Some((counts.ok()?, are_all(pairs.as_slice())))

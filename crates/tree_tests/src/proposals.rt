@@ -38,19 +38,19 @@ fn limits_are_proposed(rt: HostRuntime) {
 #[test]
 fn limits_of_large_trees_are_proposed(rt: HostRuntime) {
     for (actors, keys, limits) in [
-        (1, 0, Some((64, 448))),
-        (1, 1_000, Some((192, 832))),
-        (16, 1_000, Some((512, 5_376))),
-        (4, 100_000, Some((15_616, 47_808))),
-        (4, 1_000_000, Some((155_072, 466_176))),
-        (4, 10_000_000, Some((1_549_632, 4_649_856))),
-        (1, 27_068_967, Some((4_194_304, 12_583_168))),
+        (1, 0, Some((64, 576))),
+        (1, 1_000, Some((192, 960))),
+        (16, 1_000, Some((512, 5_440))),
+        (4, 100_000, Some((15_616, 48_320))),
+        (4, 1_000_000, Some((155_072, 471_040))),
+        (4, 10_000_000, Some((1_549_632, 4_698_304))),
+        (1, 27_068_967, Some((4_194_304, 12_714_304))),
         (1, 27_068_968, None),
-        (16, 27_066_839, Some((4_194_304, 12_586_752))),
+        (16, 27_066_839, Some((4_194_304, 12_717_824))),
         (16, 27_066_840, None),
-        (17, 1_000, Some((576, 5_824))),
-        (63, 1_000, Some((1_600, 19_968))),
-        (63, 27_060_167, Some((4_194_304, 12_598_080))),
+        (17, 1_000, Some((576, 5_952))),
+        (63, 1_000, Some((1_600, 20_032))),
+        (63, 27_060_167, Some((4_194_304, 12_729_152))),
         (63, 27_060_168, None),
         (0, 1, None),
         (64, 1, None),
@@ -62,6 +62,52 @@ fn limits_of_large_trees_are_proposed(rt: HostRuntime) {
             "{actors} {keys}"
         );
     }
+}
+
+/// How many rows are narrow, for pages, and wide, and how many words a narrow one and one for a page have.
+fn widths(limits: Result<Limits, BadLimits>) -> Option<([u64; 3], [u64; 2])> {
+    let limits = limits.ok()?;
+    let rows = [
+        limits.narrow_rows,
+        limits.wide_from.checked_sub(limits.narrow_rows)?,
+        limits.rows.checked_sub(limits.wide_from)?,
+    ];
+    Some((rows, [limits.narrow_words, limits.page_words]))
+}
+
+#[test]
+fn limits_by_width_are_proposed(rt: HostRuntime) {
+    let million = [310_784, 155_392, 4_864];
+    for (key, value, words) in [
+        (16, 8, Some([8, 72])),
+        (8, 8, Some([8, 56])),
+        (16, 16, Some([8, 88])),
+        (16, 32, Some([16, 120])),
+        (32, 16, Some([16, 128])),
+        (64, 64, Some([24, 296])),
+        (0, 0, Some([8, 40])),
+        (65, 8, None),
+        (16, 65, None),
+        (u64::MAX, 0, None),
+    ] {
+        let proposed = Limits::for_pairs(4, 1_000_000, key, value);
+        let wanted = words.map(|words| (million, words));
+        assert!(rt; widths(proposed) == wanted, "{key} {value}");
+    }
+    for (actors, keys, rows) in [
+        (1, 0, [320, 192, 64]),
+        (63, 1_000, [13_312, 6_656, 64]),
+        (4, 1_000_000, million),
+        (1, 27_068_967, [8_388_800, 4_194_432, 131_072]),
+    ] {
+        let proposed = Limits::for_many_keys(actors, keys);
+        assert!(rt;
+            widths(proposed) == Some((rows, [24, 296])),
+            "{actors} {keys}"
+        );
+    }
+    let large = Limits::large(1, 64, 64, 1);
+    assert!(rt; widths(large) == Some(([0, 0, 64], [512, 512])));
 }
 
 /// PIDs and rows, and whether they are limits, and limits of a large tree.

@@ -2,6 +2,7 @@
 ghost use Rattle.running_tree.specs.Trees.{IsSeatOf};
 
 use crate::calls::{goes_to_its_end, stops_after};
+use crate::trees::new_tree;
 use crate::works::{Work, key};
 use bw_model::{Command, Limits, Reply};
 use running_tree::{BwSeat, Held, Room, Tree};
@@ -91,8 +92,8 @@ fn are_free(
     filling: [(u32, u32); 4],
     end: (u32, u32),
 ) -> Option<bool> {
-    let limits = Limits::new(2, size.0, size.1, 1).ok()?;
-    let (tree, mut seats) = opened(alloc, limits).ok()?;
+    let limits = Limits::new(2, size.0, size.1, 1).ok();
+    let (tree, mut seats) = new_tree(alloc, limits)?;
     let mut one = take_seat(&tree, &mut seats)?;
     let mut other = take_seat(&tree, &mut seats)?;
     let right = filled(&tree, &mut one, &mut other)? == filling;

@@ -4,7 +4,7 @@ use crate::calls::replies;
 use crate::clients::{Client, OWN};
 use crate::loading::are_moved;
 use crate::numbered::{are_numbers, found, get, insert, key, value};
-use crate::trees::closed;
+use crate::trees::{by_width, closed};
 use bw_model::{BadLimits, Key, Limits, Reply, Value};
 use running_tree::{BwSeat, Tree};
 use std::alloc::Global;
@@ -144,7 +144,11 @@ fn four_collide<R: Threads + Sync>(
 
 #[test]
 fn four_threads_collide(rt: HostRuntime) {
-    for limits in [Limits::new(4, 64, 128, 1), Limits::large(4, 64, 128, 1)] {
+    for limits in [
+        Limits::new(4, 64, 128, 1),
+        Limits::large(4, 64, 128, 1),
+        by_width((4, 64, 128)),
+    ] {
         assert!(rt; four_collide(&rt, rt.alloc(), limits));
     }
 }

@@ -1,13 +1,20 @@
 //! Trees that are opened, run and closed.
-ghost use Rattle.std.specs.Prelude.{IfOk, true};
+ghost use Rattle.std.specs.Prelude.{IfOk, IfSome, true};
 ghost use Rattle.running_tree.specs.Trees.{AreSeatsOf, IsSeatOf};
 
 use crate::runs::{Run, is_right, is_right_alone};
 use crate::stops::Stop;
-use bw_model::{BadLimits, Key, Limits, OpenError, Value};
+use bw_model::{BadLimits, Key, Limits, OpenError, Value, Widths};
 use running_tree::{BwSeat, Tree};
 use std::alloc::Global;
-use workers::{give_seat, take_seat};
+use workers::{give_seat, opened, take_seat};
+
+/// A new tree and its seats, if these are limits.
+pub(crate) fn new_tree(alloc: Global, limits: Option<Limits>) -> Option<(Tree, Vec<BwSeat>)>
+    ensures { IfSome result (λ made. AreSeatsOf made.0 made.1.items) }
+{
+    opened(alloc, limits?).ok()
+}
 
 /// Gives a seat back.
 pub(crate) fn give_back(tree: &Tree, seats: &mut Vec<BwSeat>, seat: BwSeat) -> bool
@@ -95,10 +102,22 @@ fn are_left(all: &[Run], pairs: &[(Key, Value)]) -> bool {
 /// How many seats, PIDs and rows a tree has.
 type Size = (u64, u64, u64);
 
-/// Whether these runs go right on a tree of this size, and on a large one.
-fn go_right_in_both(alloc: Global, (seats, pids, rows): Size, all: &[Run]) -> bool {
+/// Limits of a large tree that has so many rows of each width, each as narrow as it may be.
+pub(crate) fn by_width((seats, pids, rows): Size) -> Result<Limits, BadLimits> {
+    let widths = Widths {
+        narrow_rows: rows,
+        wide_from: rows.saturating_mul(2),
+        narrow_words: 8,
+        page_words: 24,
+    };
+    Limits::with_widths(seats, pids, rows.saturating_mul(3), 1, widths)
+}
+
+/// Whether these runs go right on a tree of this size, on a large one, and on one that has so many rows of each width.
+fn go_right_in_each(alloc: Global, (seats, pids, rows): Size, all: &[Run]) -> bool {
     go_right(alloc, Limits::new(seats, pids, rows, 1), 1, all)
         && go_right(alloc, Limits::large(seats, pids, rows, 1), 1, all)
+        && go_right(alloc, by_width((seats, pids, rows)), 1, all)
 }
 
 /// Whether these runs go right on a tree of these limits that opens at this epoch, and leave it with their pairs.
@@ -136,7 +155,7 @@ const RUNS: [(Size, Run); 7] = [
 #[test]
 fn replies_and_pairs_are_right(rt: HostRuntime) {
     for ((seats, pids, rows), run) in RUNS {
-        let right = go_right_in_both(rt.alloc(), (seats, pids, rows), &[run]);
+        let right = go_right_in_each(rt.alloc(), (seats, pids, rows), &[run]);
         assert!(rt; right, "{seats} {pids} {rows}");
     }
 }
@@ -144,7 +163,7 @@ fn replies_and_pairs_are_right(rt: HostRuntime) {
 /// Whether all replies are right wherever the operation is stopped.
 fn stops_anywhere(alloc: Global, stop: Stop) -> bool {
     for steps in 1..stop.most_steps() {
-        if !go_right_in_both(alloc, (2, 64, 256), &[Run::Stopped(stop, steps)]) {
+        if !go_right_in_each(alloc, (2, 64, 256), &[Run::Stopped(stop, steps)]) {
             return false;
         }
     }

@@ -15,6 +15,7 @@ use Rattle.traces.specs.trace.Steps.{IsWordOf, memory_after}
 use Rattle.tree_words.specs.Layout.{slot_at, pid_bits_at, row_bits_at, epoch_at, announced_at, width}
 use Rattle.tree_words.specs.Changes.{HasWord, SetsBits, word_after, SpellsParts, ChangesOneWord, OperationsLeaveWords, StepsChangeOneWord, StoresTellNothing, WordsStandApart}
 use Rattle.tree_words.proofs.FreeBits.{word_kept, bits_set, word_apart, taken, found_free}
+use Rattle.tree_words.proofs.RowWidths.{few_words, row_within}
 use Rattle.deltas.proofs.Replaced.{replaced_same, replaced_other}
 
 module _ (limits : Limits) (words : List ℕ) (m : Memory) (long : length words ≡ width limits) (sp : SpellsParts limits words m) where
@@ -167,9 +168,9 @@ all_change limits words memory actor step long spells few within bits = changes 
 pub all_apart : WordsStandApart
 all_apart limits actor (Row row) few within = absurd within
 all_apart limits actor (Place row content) few within = absurd within
-all_apart limits actor (TakePid pid) few within = let p = limits.allowed.whole_pids in record { there = omega arith; apart = λ row j below small. λ e. absurd (omega arith) }
-all_apart limits actor (TakeRow row) few within = let r = limits.allowed.whole_rows in record { there = omega arith; apart = λ row j below small. λ e. absurd (omega arith) }
-all_apart limits actor other few within = record { there = omega arith; apart = λ row j below small. λ e. absurd (omega arith) }
+all_apart limits actor (TakePid pid) few within = let p = limits.allowed.whole_pids in record { there = omega arith; apart = λ row j below small. λ e. absurd (let inside = row_within limits row below in let few' = few_words limits row in omega arith) }
+all_apart limits actor (TakeRow row) few within = let r = limits.allowed.whole_rows in record { there = omega arith; apart = λ row j below small. λ e. absurd (let inside = row_within limits row below in let few' = few_words limits row in omega arith) }
+all_apart limits actor other few within = record { there = omega arith; apart = λ row j below small. λ e. absurd (let inside = row_within limits row below in let few' = few_words limits row in omega arith) }
 
 pub all_leave : OperationsLeaveWords
 all_leave (Slot pid) found = refl

@@ -1,3 +1,5 @@
 pub mod Opens
 pub mod FreeBits
 pub mod Changed
+pub mod RowWidths
+pub mod RowFits

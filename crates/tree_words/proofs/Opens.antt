@@ -15,7 +15,8 @@ use Rattle.traces.specs.trace.Steps.{IsWordOf}
 use Rattle.record_slots.specs.Layout.{form_unit, no_bound, row_size, second_at, text_size}
 use Rattle.record_slots.specs.Parts.{header_word}
 use Rattle.record_slots.specs.Spelling.{words_left, words_of}
-use Rattle.tree_words.specs.Layout.{slot_at, pid_bits_at, row_bits_at, epoch_at, announced_at, row_at, width}
+use Rattle.tree_words.specs.Layout.{slot_at, pid_bits_at, row_bits_at, epoch_at, announced_at, row_at, rows_width, width, width_of}
+use Rattle.tree_words.proofs.RowWidths.{few_words, one_width, row_within, rows_apart, some_words}
 use Rattle.compact_rows.specs.Layout.{compact_form, second_unit}
 use Rattle.compact_rows.specs.Spelling.{compact_words}
 use Rattle.tree_words.specs.Opening.{bound_at, bound_word, leaf_header, with_ones, with_free, opening_words}
@@ -97,7 +98,7 @@ base_word (suc j) a b = between (second_at - 1) j (replicate text_size 0 ++ repl
     between (suc n) zero behind other none = refl
     between (suc n) (suc i) behind other none = between n i behind (λ e. other (ap suc e)) none
 
-module _ (limits : Limits) (header place bound : ℕ) (low : 0 < place) (high : place < row_size) (is_header : get_or (words_in limits (Some (Base empty_leaf))) 0 0 ≡ header)
+module _ (limits : Limits) (header place bound : ℕ) (low : 0 < place) (high : place < width_of limits 1) (is_header : get_or (words_in limits (Some (Base empty_leaf))) 0 0 ≡ header)
     (is_bound : get_or (words_in limits (Some (Base empty_leaf))) place 0 ≡ bound)
     (is_zero : (j : ℕ) → j ≢ 0 → j ≢ place → j < row_size → j < used_in limits (Some (Base empty_leaf)) → get_or (words_in limits (Some (Base empty_leaf))) j 0 ≡ 0) where
   abbrev L0 : List ℕ
@@ -119,10 +120,10 @@ module _ (limits : Limits) (header place bound : ℕ) (low : 0 < place) (high : 
   L5 = set L4 epoch_at limits.epoch
 
   abbrev L6 : List ℕ
-  L6 = set L5 (row_at 1 0) header
+  L6 = set L5 (row_at limits 1 0) header
 
   abbrev L7 : List ℕ
-  L7 = set L6 (row_at 1 place) bound
+  L7 = set L6 (row_at limits 1 place) bound
 
   some_pids : 64 ≤ limits.pids
   some_pids = limits.allowed.some_pids
@@ -135,6 +136,16 @@ module _ (limits : Limits) (header place bound : ℕ) (low : 0 < place) (high : 
 
   few_rows : limits.rows ≤ 67108864
   few_rows = limits.allowed.few_rows
+
+  -- the first leaf's row ends before the slots
+  first_in : rows_width limits 1 + row_size ≤ rows_width limits limits.rows
+  first_in = row_within limits 1 (let some = some_rows in omega arith)
+
+  first_few : width_of limits 1 ≤ row_size
+  first_few = few_words limits 1
+
+  first_some : 8 ≤ width_of limits 1
+  first_some = some_words limits 1
 
   l0 : length L0 ≡ width limits
   l0 = length-replicate (width limits) 0
@@ -155,18 +166,18 @@ module _ (limits : Limits) (header place bound : ℕ) (low : 0 < place) (high : 
   l5 = length-set L4 epoch_at limits.epoch ∙ l4
 
   l6 : length L6 ≡ width limits
-  l6 = length-set L5 (row_at 1 0) header ∙ l5
+  l6 = length-set L5 (row_at limits 1 0) header ∙ l5
 
   -- but for five words
-  else_where : (i : ℕ) → i ≢ slot_at limits 0 → i ≢ slot_at limits 1 → i ≢ epoch_at → i ≢ row_at 1 0 → i ≢ row_at 1 place → get_or L7 i 0 ≡ get_or L2 i 0
+  else_where : (i : ℕ) → i ≢ slot_at limits 0 → i ≢ slot_at limits 1 → i ≢ epoch_at → i ≢ row_at limits 1 0 → i ≢ row_at limits 1 place → get_or L7 i 0 ≡ get_or L2 i 0
   else_where i a b c d e =
-      get_or-set_other L6 (row_at 1 place) i bound 0 e ∙ get_or-set_other L5 (row_at 1 0) i header 0 d
+      get_or-set_other L6 (row_at limits 1 place) i bound 0 e ∙ get_or-set_other L5 (row_at limits 1 0) i header 0 d
       ∙ get_or-set_other L4 epoch_at i limits.epoch 0 c ∙ get_or-set_other L3 (slot_at limits 1) i 1 0 b ∙ get_or-set_other L2 (slot_at limits 0) i 1 0 a
 
   zero_at : (i : ℕ) → i < width limits → get_or L0 i 0 ≡ 0
   zero_at i h = get_or-replicate (width limits) i 0 0 h
 
-  nowhere : (i : ℕ) → i < width limits → i ≢ slot_at limits 0 → i ≢ slot_at limits 1 → i ≢ epoch_at → i ≢ row_at 1 0 → i ≢ row_at 1 place
+  nowhere : (i : ℕ) → i < width limits → i ≢ slot_at limits 0 → i ≢ slot_at limits 1 → i ≢ epoch_at → i ≢ row_at limits 1 0 → i ≢ row_at limits 1 place
       → ((k : ℕ) → k < limits.pids / 64 → i ≢ pid_bits_at limits k) → ((k : ℕ) → k < limits.rows / 64 → i ≢ row_bits_at limits k)
       → get_or L7 i 0 ≡ 0
   nowhere i h a b c d e f g = else_where i a b c d e ∙ free2 i h f g
@@ -177,14 +188,14 @@ module _ (limits : Limits) (header place bound : ℕ) (low : 0 < place) (high : 
           (limits.pids / 64) L0 i (omega arith) (λ k lt e. f k lt (omega (arith, e))) ∙ zero_at i h
 
   slot_word : (pid : ℕ) → pid < limits.pids → get_or L7 (slot_at limits pid) 0 ≡ (opening limits).slots pid
-  slot_word pid lt = let sp = some_pids in let sr = some_rows in elim (same_or_not pid 0) [
-    | inl zero_is ↦ rw zero_is (get_or-set_other L6 (row_at 1 place) (slot_at limits 0) bound 0 (λ e. absurd (omega arith)) ∙ get_or-set_other L5
-        (row_at 1 0) (slot_at limits 0) header 0 (λ e. absurd (omega arith)) ∙ get_or-set_other L4 epoch_at (slot_at limits 0) limits.epoch 0
+  slot_word pid lt = let sp = some_pids in let sr = some_rows in let fi = first_in in let ff = first_few in elim (same_or_not pid 0) [
+    | inl zero_is ↦ rw zero_is (get_or-set_other L6 (row_at limits 1 place) (slot_at limits 0) bound 0 (λ e. absurd (omega arith)) ∙ get_or-set_other L5
+        (row_at limits 1 0) (slot_at limits 0) header 0 (λ e. absurd (omega arith)) ∙ get_or-set_other L4 epoch_at (slot_at limits 0) limits.epoch 0
         (λ e. absurd (omega arith)) ∙ get_or-set_other L3 (slot_at limits 1) (slot_at limits 0) 1 0 (λ e. absurd (omega arith)) ∙ get_or-set_same L2
         (slot_at limits 0) 1 0 (let l = l2 in omega arith))
     | inr some ↦ elim (same_or_not pid 1) [
-      | inl one_is ↦ rw one_is (get_or-set_other L6 (row_at 1 place) (slot_at limits 1) bound 0 (λ e. absurd (omega arith)) ∙ get_or-set_other L5
-          (row_at 1 0) (slot_at limits 1) header 0 (λ e. absurd (omega arith)) ∙ get_or-set_other L4 epoch_at (slot_at limits 1) limits.epoch 0
+      | inl one_is ↦ rw one_is (get_or-set_other L6 (row_at limits 1 place) (slot_at limits 1) bound 0 (λ e. absurd (omega arith)) ∙ get_or-set_other L5
+          (row_at limits 1 0) (slot_at limits 1) header 0 (λ e. absurd (omega arith)) ∙ get_or-set_other L4 epoch_at (slot_at limits 1) limits.epoch 0
           (λ e. absurd (omega arith)) ∙ get_or-set_same L3 (slot_at limits 1) 1 0 (let l = l3 in omega arith))
       | inr more ↦ rw (lt-leb pid 1 (omega arith)) (nowhere (slot_at limits pid) (omega arith) (λ e. some (omega arith)) (λ e. more (omega arith))
           (λ e. absurd (omega arith)) (λ e. absurd (omega arith)) (λ e. absurd (omega arith)) (λ k h e. absurd (omega arith)) (λ k h e. absurd (omega arith)))
@@ -192,7 +203,7 @@ module _ (limits : Limits) (header place bound : ℕ) (low : 0 < place) (high : 
   ]
 
   pid_word : (word : ℕ) → word < limits.pids / 64 → Free limits.pids word (get_or L7 (pid_bits_at limits word) 0)
-  pid_word word lt = let sp = some_pids in let sr = some_rows in
+  pid_word word lt = let sp = some_pids in let sr = some_rows in let fi = first_in in let ff = first_few in
       let there : get_or L7 (pid_bits_at limits word) 0 ≡ get_or L1 (pid_bits_at limits word) 0 =
       else_where (pid_bits_at limits word) (λ e. absurd (omega arith)) (λ e. absurd (omega arith)) (λ e. absurd (omega arith)) (λ e. absurd (omega arith)) (λ e. absurd (omega arith))
       ∙ free_outside (row_bits_at limits 0) (limits.rows / 64) L1 (pid_bits_at limits word) (omega arith) (λ k h e. absurd (omega arith)) in
@@ -200,47 +211,47 @@ module _ (limits : Limits) (header place bound : ℕ) (low : 0 < place) (high : 
       (subst (λ i. Free limits.pids word (get_or L1 i 0)) (omega arith) (free_inside limits.pids (pid_bits_at limits 0) word L0 limits.allowed.whole_pids sp lt (let l = l0 in omega arith)))
 
   row_word : (word : ℕ) → word < limits.rows / 64 → Free limits.rows word (get_or L7 (row_bits_at limits word) 0)
-  row_word word lt = let sp = some_pids in let sr = some_rows in
+  row_word word lt = let sp = some_pids in let sr = some_rows in let fi = first_in in let ff = first_few in
       let there : get_or L7 (row_bits_at limits word) 0 ≡ get_or L2 (row_bits_at limits word) 0 =
       else_where (row_bits_at limits word) (λ e. absurd (omega arith)) (λ e. absurd (omega arith)) (λ e. absurd (omega arith)) (λ e. absurd (omega arith)) (λ e. absurd (omega arith)) in
       subst (Free limits.rows word) (sym there)
       (subst (λ i. Free limits.rows word (get_or L2 i 0)) (omega arith) (free_inside limits.rows (row_bits_at limits 0) word L1 limits.allowed.whole_rows sr lt (let l = l1 in omega arith)))
 
-  record_word : (row j : ℕ) → row < limits.rows → j < row_size → j < used_in limits ((opening limits).rows row) → get_or L7 (row_at row j) 0 ≡ get_or (words_in limits ((opening limits).rows row)) j 0
-  record_word row j rl jl used = elim (same_or_not row 1) [
-    | inl one ↦ subst (λ r. get_or L7 (row_at r j) 0 ≡ get_or (words_in limits ((opening limits).rows r)) j 0) (sym one) (let used' : j < used_in limits (Some (Base empty_leaf)) = subst (λ r. j < used_in limits ((opening limits).rows r)) one used in elim (same_or_not j 0) [
-      | inl none ↦ subst (λ k. get_or L7 (row_at 1 k) 0 ≡ get_or (words_in limits (Some (Base empty_leaf))) k 0) (sym none) (get_or-set_other L6
-          (row_at 1 place) (row_at 1 0) bound 0 (λ e. absurd (omega arith)) ∙ get_or-set_same L5 (row_at 1 0) header 0
+  record_word : (row j : ℕ) → row < limits.rows → j < width_of limits row → j < used_in limits ((opening limits).rows row) → get_or L7 (row_at limits row j) 0 ≡ get_or (words_in limits ((opening limits).rows row)) j 0
+  record_word row j rl jl used = let fi = first_in in let ff = first_few in let fs = first_some in let inside = row_within limits row rl in let few' = few_words limits row in elim (same_or_not row 1) [
+    | inl one ↦ subst (λ r. get_or L7 (row_at limits r j) 0 ≡ get_or (words_in limits ((opening limits).rows r)) j 0) (sym one) (let used' : j < used_in limits (Some (Base empty_leaf)) = subst (λ r. j < used_in limits ((opening limits).rows r)) one used in let low' : j < width_of limits 1 = subst (λ r. j < width_of limits r) one jl in elim (same_or_not j 0) [
+      | inl none ↦ subst (λ k. get_or L7 (row_at limits 1 k) 0 ≡ get_or (words_in limits (Some (Base empty_leaf))) k 0) (sym none) (get_or-set_other L6
+          (row_at limits 1 place) (row_at limits 1 0) bound 0 (λ e. absurd (omega arith)) ∙ get_or-set_same L5 (row_at limits 1 0) header 0
           (let l = l5 in let s = some_rows in omega arith) ∙ sym is_header)
       | inr some ↦ elim (same_or_not j place) [
-        | inl here ↦ subst (λ k. get_or L7 (row_at 1 k) 0 ≡ get_or (words_in limits (Some (Base empty_leaf))) k 0) (sym here)
-            (get_or-set_same L6 (row_at 1 place) bound 0 (let l = l6 in let s = some_rows in omega arith) ∙ sym is_bound)
-        | inr other ↦ nowhere (row_at 1 j) (let s = some_rows in omega arith) (λ e. absurd (omega arith)) (λ e. absurd (omega arith))
+        | inl here ↦ subst (λ k. get_or L7 (row_at limits 1 k) 0 ≡ get_or (words_in limits (Some (Base empty_leaf))) k 0) (sym here)
+            (get_or-set_same L6 (row_at limits 1 place) bound 0 (let l = l6 in let s = some_rows in omega arith) ∙ sym is_bound)
+        | inr other ↦ nowhere (row_at limits 1 j) (let s = some_rows in omega arith) (λ e. absurd (omega arith)) (λ e. absurd (omega arith))
             (λ e. absurd (omega arith)) (λ e. some (omega arith)) (λ e. other (omega arith)) (λ k h e. absurd (omega arith)) (λ k h e. absurd (omega arith)) ∙
-            sym (is_zero j some other jl used')
+            sym (is_zero j some other (omega (arith, low', ff)) used')
       ]
     ])
     | inr apart ↦ rw (ne_eqb row 1 apart)
-        (nowhere (row_at row j) (omega arith) (λ e. absurd (omega arith)) (λ e. absurd (omega arith)) (λ e. absurd (omega arith)) (λ e. apart (omega arith))
-        (λ e. apart (omega arith)) (λ k h e. absurd (omega arith)) (λ k h e. absurd (omega arith)) ∙ sym (get_or-replicate row_size j 0 0 jl))
+        (nowhere (row_at limits row j) (omega arith) (λ e. absurd (omega arith)) (λ e. absurd (omega arith)) (λ e. absurd (omega arith)) (λ e. rows_apart limits row 1 j 0 apart jl (omega (arith, fs)) (omega (arith, e)))
+        (λ e. rows_apart limits row 1 j place apart jl high (omega (arith, e))) (λ k h e. absurd (omega arith)) (λ k h e. absurd (omega arith)) ∙ sym (get_or-replicate row_size j 0 0 (omega (arith, jl, few'))))
   ]
 
   opens : AreWordsOf limits (opening limits) L7
   opens = record {
-    wide = length-set L6 (row_at 1 place) bound ∙ l6;
+    wide = length-set L6 (row_at limits 1 place) bound ∙ l6;
     spells = record {
       slots = slot_word;
       pid_bits = pid_word;
       row_bits = row_word;
       epoch =
-          get_or-set_other L6 (row_at 1 place) epoch_at bound 0 (λ e. absurd (omega arith))
-          ∙ get_or-set_other L5 (row_at 1 0) epoch_at header 0 (λ e. absurd (omega arith))
+          get_or-set_other L6 (row_at limits 1 place) epoch_at bound 0 (λ e. absurd (omega arith))
+          ∙ get_or-set_other L5 (row_at limits 1 0) epoch_at header 0 (λ e. absurd (omega arith))
           ∙ get_or-set_same L4 epoch_at limits.epoch 0 (let l = l4 in omega arith);
       announced =
-          λ a al. nowhere (announced_at a) (omega arith) (λ e. absurd (omega arith)) (λ e. absurd (omega arith)) (λ e. absurd (omega arith))
+          λ a al. let fi = first_in in let ff = first_few in nowhere (announced_at a) (omega arith) (λ e. absurd (omega arith)) (λ e. absurd (omega arith)) (λ e. absurd (omega arith))
           (λ e. absurd (omega arith)) (λ e. absurd (omega arith)) (λ k h e. absurd (omega arith)) (λ k h e. absurd (omega arith));
       pads =
-          λ i pad. let low = pad.0 in let high = pad.1 in nowhere i (omega arith) (λ e. absurd (omega arith)) (λ e. absurd (omega arith))
+          λ i pad. let low = pad.0 in let high = pad.1 in let fi = first_in in let ff = first_few in nowhere i (omega arith) (λ e. absurd (omega arith)) (λ e. absurd (omega arith))
           (λ e. absurd (omega arith)) (λ e. absurd (omega arith)) (λ e. absurd (omega arith)) (λ k h e. absurd (omega arith))
           (λ k h e. absurd (omega arith));
       rows = λ r j rl jl used _. record_word r j rl jl used;
@@ -249,16 +260,16 @@ module _ (limits : Limits) (header place bound : ℕ) (low : 0 < place) (high : 
 
 -- the words of the empty leaf that opens a tree of either kind
 pub opening_is : (limits : Limits) → AreWordsOf limits (opening limits) (opening_words limits)
-opening_is limits = opens limits (leaf_header limits) (bound_at limits) (bound_word limits) (some limits.is_large) (few limits.is_large) (header limits.is_large) (bound limits.is_large)
+opening_is limits = opens limits (leaf_header limits) (bound_at limits) (bound_word limits) (some limits.is_large) (few limits.is_large refl) (header limits.is_large) (bound limits.is_large)
     (nothing limits.is_large)
   where
     some : (large : Bool) → 0 < (if large then 1 else second_at)
     some true = omega arith
     some false = omega arith
 
-    few : (large : Bool) → (if large then 1 else second_at) < row_size
-    few true = omega arith
-    few false = omega arith
+    few : (large : Bool) → limits.is_large ≡ large → (if large then 1 else second_at) < width_of limits 1
+    few true e = let some' = some_words limits 1 in omega (arith, some')
+    few false e = let is = (one_width limits e 1).1 in omega (arith, is)
 
     header : (large : Bool) → get_or (if large then compact_words (Base empty_leaf) else words_of (Base empty_leaf)) 0 0 ≡ (if large then 1 + form_unit * compact_form else header_word 1 0 0)
     header true = refl

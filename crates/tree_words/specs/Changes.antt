@@ -10,8 +10,7 @@ use Rattle.bw_model.specs.declared.step.Step.TheVariants.{Slot, Row, Epoch, Anno
 use Rattle.deltas.specs.declared.record.Record.{Record}
 use Rattle.deltas.specs.Memory.{Memory}
 use Rattle.traces.specs.trace.Steps.{IsAnswer, memory_after}
-use Rattle.record_slots.specs.Layout.{row_size}
-use Rattle.tree_words.specs.Layout.{slot_at, pid_bits_at, row_bits_at, epoch_at, announced_at, row_at, width}
+use Rattle.tree_words.specs.Layout.{slot_at, pid_bits_at, row_bits_at, epoch_at, announced_at, row_at, width, width_of}
 use Rattle.tree_words.specs.Words.{SpellsWhere}
 use Rattle.tree_words.specs.declared.operations.Operation.{Operation}
 use Rattle.tree_words.specs.declared.operations.Operation.TheVariants as operation
@@ -44,12 +43,12 @@ SetsBits _ = ⊤
 -- The place of the word of an actor's step. A record has no one word, but a row of them, from here on.
 abbrev pub changed_word : Limits → ℕ → Step Record → ℕ
 changed_word limits actor (Slot pid) = slot_at limits pid
-changed_word limits actor (Row row) = row_at row 0
+changed_word limits actor (Row row) = row_at limits row 0
 changed_word limits actor Epoch = epoch_at
 changed_word limits actor (Announce other) = announced_at other
 changed_word limits actor (PidBits word) = pid_bits_at limits word
 changed_word limits actor (RowBits word) = row_bits_at limits word
-changed_word limits actor (Place row content) = row_at row 0
+changed_word limits actor (Place row content) = row_at limits row 0
 changed_word limits actor (Exchange slot old new) = slot_at limits slot
 changed_word limits actor (TakePid pid) = pid_bits_at limits (pid / 64)
 changed_word limits actor (TakeRow row) = row_bits_at limits (row / 64)
@@ -138,7 +137,7 @@ StepsChangeOneWord = (limits : Limits) (words : List ℕ) (memory : Memory) (act
 -- Each such step has a word that is there, and is none of a row.
 pub record HasOwnWord (limits : Limits) (actor : ℕ) (step : Step Record) : Type 0 where
   pub there : changed_word limits actor step < width limits
-  pub apart : (row j : ℕ) → row < limits.rows → j < row_size → changed_word limits actor step ≢ row_at row j
+  pub apart : (row j : ℕ) → row < limits.rows → j < width_of limits row → changed_word limits actor step ≢ row_at limits row j
 
 abbrev pub WordsStandApart : Type 0
 WordsStandApart = (limits : Limits) (actor : ℕ) (step : Step Record) → actor < most_large_actors → HasWord limits step → HasOwnWord limits actor step

@@ -1,5 +1,5 @@
 -- Where each part of a memory has its words, in a table of these limits.
-use Rattle.std.specs.Prelude.{◌≢◌, ◌<◌, ◌+◌, ◌*◌, ◌/◌, ℕ}
+use Rattle.std.specs.Prelude.{◌≢◌, ◌<◌, ◌+◌, ◌-◌, ◌*◌, ◌/◌, ℕ, ltb, if◌then◌else◌}
 use Rattle.tree_limits.specs.declared.limits.Limits.{Limits}
 use Rattle.tree_limits.specs.Limits.{most_large_actors}
 use Rattle.record_slots.specs.Layout.{row_size}
@@ -15,21 +15,33 @@ announced_at actor = 8 + 8 * actor
 abbrev pub rows_at : ℕ
 rows_at = announced_at most_large_actors
 
-abbrev pub row_at : ℕ → ℕ → ℕ
-row_at row j = rows_at + (row_size * row + j)
+-- How many words a row has, by its number: narrow rows come first, then those for pages, then the wide ones. Where all rows have one width
+-- they are wide.
+abbrev pub width_of : Limits → ℕ → ℕ
+width_of limits row = if ltb row limits.narrow_rows then limits.narrow_words else if ltb row limits.wide_from then limits.page_words else row_size
+
+-- how many words the rows below this one have
+unfoldable pub rows_width : Limits → ℕ → ℕ
+rows_width limits row =
+    if ltb row limits.narrow_rows then limits.narrow_words * row else if ltb row limits.wide_from then
+    limits.narrow_words * limits.narrow_rows + limits.page_words * (row - limits.narrow_rows) else
+    limits.narrow_words * limits.narrow_rows + limits.page_words * (limits.wide_from - limits.narrow_rows) + row_size * (row - limits.wide_from)
+
+abbrev pub row_at : Limits → ℕ → ℕ → ℕ
+row_at limits row j = rows_at + (rows_width limits row + j)
 
 abbrev pub slot_at : Limits → ℕ → ℕ
-slot_at limits pid = rows_at + row_size * limits.rows + pid
+slot_at limits pid = rows_at + rows_width limits limits.rows + pid
 
 abbrev pub pid_bits_at : Limits → ℕ → ℕ
-pid_bits_at limits word = rows_at + row_size * limits.rows + limits.pids + word
+pid_bits_at limits word = rows_at + rows_width limits limits.rows + limits.pids + word
 
 abbrev pub row_bits_at : Limits → ℕ → ℕ
-row_bits_at limits word = rows_at + row_size * limits.rows + limits.pids + limits.pids / 64 + word
+row_bits_at limits word = rows_at + rows_width limits limits.rows + limits.pids + limits.pids / 64 + word
 
 -- how many words a table has
 abbrev pub width : Limits → ℕ
-width limits = rows_at + row_size * limits.rows + limits.pids + limits.pids / 64 + limits.rows / 64
+width limits = rows_at + rows_width limits limits.rows + limits.pids + limits.pids / 64 + limits.rows / 64
 
 -- a word that no part has
 abbrev pub IsPad : ℕ → Type 0

@@ -29,4 +29,4 @@ bound_word limits = if limits.is_large then second_unit * no_bound else no_bound
 abbrev pub opening_words : Limits → List ℕ
 opening_words limits =
     slice_set (slice_set (slice_set (slice_set (slice_set (with_free (row_bits_at limits 0) (limits.rows / 64) (with_free (pid_bits_at limits 0) (limits.pids / 64) (replicate (width limits) 0)))
-    (slot_at limits 0) 1) (slot_at limits 1) 1) epoch_at limits.epoch) (row_at 1 0) (leaf_header limits)) (row_at 1 (bound_at limits)) (bound_word limits)
+    (slot_at limits 0) 1) (slot_at limits 1) 1) epoch_at limits.epoch) (row_at limits 1 0) (leaf_header limits)) (row_at limits 1 (bound_at limits)) (bound_word limits)

@@ -8,7 +8,7 @@ use Rattle.traces.specs.trace.Steps.{IsWordOf}
 use Rattle.record_slots.specs.Layout.{row_size}
 use Rattle.record_slots.specs.Spelling.{words_of}
 use Rattle.compact_rows.specs.Spelling.{compact_words}
-use Rattle.tree_words.specs.Layout.{slot_at, pid_bits_at, row_bits_at, epoch_at, announced_at, row_at, width, IsPad}
+use Rattle.tree_words.specs.Layout.{slot_at, pid_bits_at, row_bits_at, epoch_at, announced_at, row_at, width, width_of, IsPad}
 
 -- the words that a record has in a row of the tree: a large tree has compact rows
 abbrev pub stored : Limits → Record → List ℕ
@@ -33,8 +33,8 @@ pub record SpellsWhere (limits : Limits) (words : List ℕ) (memory : Memory) (s
   pub epoch : slice_index words epoch_at ≡ memory.epoch
   pub announced : (actor : ℕ) → actor < most_large_actors → slice_index words (announced_at actor) ≡ memory.announced actor
   pub pads : (i : ℕ) → IsPad i → slice_index words i ≡ 0
-  pub rows : (row j : ℕ) → row < limits.rows → j < row_size → j < used_in limits (memory.rows row) → settled row
-      → slice_index words (row_at row j) ≡ slice_index (words_in limits (memory.rows row)) j
+  pub rows : (row j : ℕ) → row < limits.rows → j < width_of limits row → j < used_in limits (memory.rows row) → settled row
+      → slice_index words (row_at limits row j) ≡ slice_index (words_in limits (memory.rows row)) j
 
 -- These are the words of the memory: one row of words for each memory.
 pub record AreWordsOf (limits : Limits) (memory : Memory) (words : List ℕ) : Type 0 where

@@ -7,7 +7,7 @@ ghost use Rattle.tree_words.specs.Changes.{changed_word, answer_by, word_after};
 
 /// The words of steps of actor 3, as a table of 4,096 PIDs and 16,384 rows is laid out.
 pub fn steps_have_words()
-    ensures slot { (limits : Limits) → limits.rows ≡ 64 → changed_word limits 3 (Slot 5) ≡ 33285 }
+    ensures slot { (limits : Limits) → limits.is_large ≡ false → limits.rows ≡ 64 → changed_word limits 3 (Slot 5) ≡ 33285 }
     ensures epoch { (limits : Limits) → changed_word limits 3 (Retire 7) ≡ 0 }
     ensures other { (limits : Limits) → changed_word limits 3 (Announce 0) ≡ 8 }
     ensures own { (limits : Limits) → changed_word limits 3 Leave ≡ 32 }

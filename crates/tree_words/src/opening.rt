@@ -35,8 +35,8 @@ pub fn opening_words<A: Allocator>(alloc: A, limits: &Limits) -> Result<Vec<u64,
     words[slot_place(limits, 0)] = 1;
     words[slot_place(limits, 1)] = 1;
     words[epoch_place()] = limits.epoch;
-    words[row_place(1)] = leaf_header(limits);
-    words[row_place(1) + bound_place(limits)] = bound_word(limits);
+    words[row_place(limits, 1)] = leaf_header(limits);
+    words[row_place(limits, 1) + bound_place(limits)] = bound_word(limits);
     Ok(words)
 }
 

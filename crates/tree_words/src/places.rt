@@ -1,10 +1,9 @@
 //! Where the words of each part stand.
-ghost use Rattle.std.specs.Prelude.{◌≡◌};
-ghost use Rattle.tree_words.specs.Layout.{announced_at, epoch_at, pid_bits_at, row_at, row_bits_at, slot_at, width};
+ghost use Rattle.std.specs.Prelude.{◌≡◌, ◌<◌, ◌≤◌};
+ghost use Rattle.tree_words.specs.Layout.{announced_at, epoch_at, pid_bits_at, row_at, row_bits_at, rows_width, slot_at, width};
 
 use bw_model::Limits;
-use record_slots::ROW_WORDS;
-use tree_limits::MAX_LARGE_ACTORS;
+use tree_limits::{MAX_LARGE_ACTORS, WIDE_WORDS};
 
 /// The place of the first word of the first row: behind the words that so many actors announce.
 const ROWS: usize = 8 + 8 * MAX_LARGE_ACTORS as usize;
@@ -13,14 +12,14 @@ const ROWS: usize = 8 + 8 * MAX_LARGE_ACTORS as usize;
 pub fn slot_place(limits: &Limits, pid: u32) -> usize
     ensures { result ≡ slot_at limits.now pid }
 {
-    ROWS + ROW_WORDS * limits.rows as usize + pid as usize
+    ROWS + rows_width(limits, limits.rows) + pid as usize
 }
 
 /// The place of a word of free PIDs.
 pub(crate) fn pid_bits_place(limits: &Limits, word: u32) -> usize
     ensures { result ≡ pid_bits_at limits.now word }
 {
-    ROWS + ROW_WORDS * limits.rows as usize + limits.pids as usize + word as usize
+    ROWS + rows_width(limits, limits.rows) + limits.pids as usize + word as usize
 }
 
 /// The place of a word of free rows.
@@ -28,7 +27,7 @@ pub(crate) fn row_bits_place(limits: &Limits, word: u32) -> usize
     ensures { result ≡ row_bits_at limits.now word }
 {
     let pids = limits.pids as usize;
-    ROWS + ROW_WORDS * limits.rows as usize + pids + pids / 64 + word as usize
+    ROWS + rows_width(limits, limits.rows) + pids + pids / 64 + word as usize
 }
 
 /// The place of the epoch.
@@ -46,10 +45,31 @@ pub(crate) fn announced_place(actor: u8) -> usize
 }
 
 /// The place of the first word of a row.
-pub fn row_place(row: u32) -> usize
-    ensures { result ≡ row_at row 0 }
+#[inline]
+pub fn row_place(limits: &Limits, row: u32) -> usize
+    requires { row < limits.now.rows }
+    ensures { result ≡ row_at limits.now row 0 }
 {
-    ROWS + ROW_WORDS * row as usize
+    ROWS + rows_width(limits, u64::from(row))
+}
+
+/// How many words the rows below this one have.
+#[inline]
+fn rows_width(limits: &Limits, row: u64) -> usize
+    requires { row ≤ limits.now.rows }
+    ensures width { result ≡ rows_width limits.now row }
+    ensures few { result ≤ 34359738368 }
+{
+    if row >= limits.wide_from {
+        let pages = limits.wide_from - limits.narrow_rows;
+        let before = limits.narrow_words * limits.narrow_rows + limits.page_words * pages;
+        return (before + WIDE_WORDS * (row - limits.wide_from)) as usize;
+    }
+    if row < limits.narrow_rows {
+        return (limits.narrow_words * row) as usize;
+    }
+    let before = limits.narrow_words * limits.narrow_rows;
+    (before + limits.page_words * (row - limits.narrow_rows)) as usize
 }
 
 /// How many words a table of these limits has.
@@ -57,5 +77,5 @@ pub fn width(limits: &Limits) -> usize
     ensures { result ≡ width limits.now }
 {
     let (pids, rows) = (limits.pids as usize, limits.rows as usize);
-    ROWS + ROW_WORDS * rows + pids + pids / 64 + rows / 64
+    ROWS + rows_width(limits, limits.rows) + pids + pids / 64 + rows / 64
 }

@@ -80,10 +80,11 @@ pub record IsTidy (memory : Memory) (key : List ℕ) : Type 0 where
   pub few : length base.items < 16
 
 module _ (limits : Limits) (entries : List Entry) where
-  -- The operation has read each word of the free PIDs as 0, or each word of the free rows.
+  -- The operation has read each word of the free PIDs as 0, or each word of the free rows that have room for any record,
+  -- which are all where all rows have one width.
   abbrev pub FindsNothingFree : Operation → Type 0
   FindsNothingFree operation = ((word : ℕ) → word < limits.pids / 64 → (n : ℕ) × TakesOwnStep entries operation n (PidBits word) (Number 0))
-      ⊎ ((word : ℕ) → word < limits.rows / 64 → (n : ℕ) × TakesOwnStep entries operation n (RowBits word) (Number 0))
+      ⊎ ((word : ℕ) → limits.wide_from / 64 ≤ word → word < limits.rows / 64 → (n : ℕ) × TakesOwnStep entries operation n (RowBits word) (Number 0))
 
   -- At an own step before this one the operation read the slot of a page above the leaf, which was not removed and held the
   -- leaf back.

@@ -1,7 +1,7 @@
 -- Small runs step by step, and traces that the definitions refuse.
 use Rattle.std.specs.Prelude.{codes, replicate, ◌^◌, ◌-◌, List, [], ◌∷◌, true, false, None, Some}
 use Rattle.std.proofs.Common.{lit≤, refl}
-use Rattle.tree_limits.specs.Limits.{AreLargeLimits, AreLimits}
+use Rattle.tree_limits.specs.Limits.{AreLargeLimits, AreLimits, AreWidths}
 use Rattle.tree_limits.specs.declared.limits.Limits.{Limits}
 use Rattle.bw_model.specs.declared.command.Command.TheVariants.{Get, Insert}
 use Rattle.bw_model.specs.declared.command.Reply.TheVariants as reply
@@ -43,8 +43,34 @@ small_allowed = record {
   small_epoch = are_small.small_epoch;
 }
 
+pub small_widths : AreWidths 64 0 0 512 512
+small_widths = record {
+  whole_narrow = refl;
+  whole_pages = refl;
+  ordered = lit≤ tt;
+  some_wide = lit≤ tt;
+  narrow_room = lit≤ tt;
+  page_room = lit≤ tt;
+  widening = lit≤ tt;
+  fitting = lit≤ tt;
+}
+
 abbrev pub small : Limits
-small = record { actors = 2; pids = 64; rows = 64; epoch = 1; is_large = false; allowed = small_allowed; small = λ _. are_small }
+small = record {
+  actors = 2;
+  pids = 64;
+  rows = 64;
+  epoch = 1;
+  is_large = false;
+  narrow_rows = 0;
+  wide_from = 0;
+  narrow_words = 512;
+  page_words = 512;
+  allowed = small_allowed;
+  small = λ _. are_small;
+  widths = small_widths;
+  alike = λ _. record { narrow = refl; pages = refl };
+}
 
 abbrev pub opening_leaf : Record
 opening_leaf = delta.Base empty_leaf

@@ -187,7 +187,7 @@ module _ (limits : Limits) (entries : List Entry) (actor : ℕ) (step : StepOf R
   ]
   from_state (Change now next) t k r new_r new_task new_hand shows wants calm stays new_shows writer steps pays m after within = elim wants [
     | inl is ↦
-        let asked : wanted_of_change now.plan hand.spares now.state ≡ step = same_Some (wanted_of_change now.plan hand.spares now.state) step is in
+        let asked : wanted_of_change now.limits now.plan hand.spares now.state ≡ step = same_Some (wanted_of_change now.limits now.plan hand.spares now.state) step is in
         turned (change_at now) t (lawful_change now r)
         (subst (λ (s : StepOf Record). Turns (knows entries actor) (change_at now) s answer t) asked
         (turns_change limits task hand.spares (knows entries actor) r now next shows answer (subst (λ (s : StepOf Record). Fits limits (knows entries actor) s answer) (sym asked) fits)

@@ -8,15 +8,15 @@ use Rattle.structure_changes.specs.declared.plan.Plan.TheVariants as plan_is
 use Rattle.traces.specs.discipline.Discipline.{May, MayExchange}
 use Rattle.traces.specs.discipline.Fitting.{Fits, FitsExchange, ReadsRemoved}
 use Rattle.traces.specs.discipline.Knowledge.{Gone, Ready}
-use Rattle.change_machine.specs.Changes.{AreEnough, Change, IsSoundState, MayLinkAs, ShowsState, StandsReady, base_row, linked_number, wanted_at}
-use Rattle.change_machine.specs.Spares.{IsUnlinked, Spares, last_row, pid_of}
+use Rattle.change_machine.specs.Changes.{AreEnough, Change, IsSoundState, MayLinkAs, ShowsState, StandsReady, base_row, linked_number, record_row, wanted_at}
+use Rattle.change_machine.specs.Spares.{IsUnlinked, Spares, pid_of}
 use Rattle.change_machine.specs.Taking.{wanted_number}
 use Rattle.change_machine.specs.declared.change.State.{State}
 use Rattle.change_machine.specs.declared.change.State.TheVariants as at
 use Rattle.change_machine.specs.declared.taking.Kind.TheVariants.{Pid, Row}
 use Rattle.change_machine.specs.declared.taking.Taking.{Taking}
 use Rattle.change_machine.specs.declared.taking.Taking.TheVariants.{Bits, Take}
-use Rattle.change_machine.proofs.Following.{last_is}
+use Rattle.change_machine.proofs.Following.{record_is}
 use Rattle.op_machine.specs.machine.Shows.{IsInChange}
 use Rattle.op_machine.specs.declared.then.Then.{Then}
 use Rattle.progress.specs.WritersAmong.{Decides, meets}
@@ -53,44 +53,44 @@ read_of k actor (suc slot) (suc head) zero some may = absurd (elim some [ inl e 
 read_of k actor (suc slot) (suc head) (suc number) some may = inr (inr may.basis.head)
 
 calm_taking : (taking : Taking) (answer : Answer Record) → meets (wanted_number taking) answer ≡ false
-calm_taking (Bits Pid word whole) answer = refl
-calm_taking (Bits Row word whole) answer = refl
-calm_taking (Take Pid number whole) answer = refl
-calm_taking (Take Row number whole) answer = refl
+calm_taking (Bits Pid from word whole) answer = refl
+calm_taking (Bits Row from word whole) answer = refl
+calm_taking (Take Pid from number whole) answer = refl
+calm_taking (Take Row from number whole) answer = refl
 
 module _ (limits : Limits) (task : Task) (spares : Spares) (k : Knowledge) (r : Recalled) (now : Change) (after : Then) (shows : IsInChange task spares k r now after) (answer : Answer Record) where
   abbrev Asks : State → Type 0
-  Asks state = Fits limits k (wanted_at now.plan spares state) answer × May task.actor k (wanted_at now.plan spares state)
+  Asks state = Fits limits k (wanted_at now.limits now.plan spares state) answer × May task.actor k (wanted_at now.limits now.plan spares state)
 
-  spare_pid : AreEnough now.plan spares → needs_pid now.plan ≡ true → 0 < pid_of spares
+  spare_pid : AreEnough now.limits now.plan spares → needs_pid now.plan ≡ true → 0 < pid_of spares
   spare_pid enough needs = pid_some (λ pid. IsUnlinked (k.own.pages pid)) spares.pid (enough.pid needs) shows.shows.are.page
 
-  number_some : AreEnough now.plan spares → (slot_of now.plan ≡ 0) ⊎ (0 < linked_number now.plan spares)
+  number_some : AreEnough now.limits now.plan spares → (slot_of now.plan ≡ 0) ⊎ (0 < linked_number now.limits now.plan spares)
   number_some enough = by_plan now.plan refl
     where
-      last : 0 < last_row spares
-      last = (last_is task.actor now.limits k now.plan spares shows.sound.room enough shows.shows.may shows.shows.keeps shows.shows.are).1
+      placed : 0 < record_row now.limits now.plan spares
+      placed = (record_is task.actor now.limits k now.plan spares shows.sound.room enough shows.shows.may shows.shows.keeps shows.shows.are).1
 
-      by_plan : (plan : Plan) → now.plan ≡ plan → (slot_of now.plan ≡ 0) ⊎ (0 < linked_number now.plan spares)
-      by_plan (plan_is.Install pid head content) e = inr (rw e last)
-      by_plan (plan_is.Split pid plan) e = inr (rw e last)
+      by_plan : (plan : Plan) → now.plan ≡ plan → (slot_of now.plan ≡ 0) ⊎ (0 < linked_number now.limits now.plan spares)
+      by_plan (plan_is.Install pid head content) e = inr (rw e (rw e at placed))
+      by_plan (plan_is.Split pid plan) e = inr (rw e (rw e at placed))
       by_plan (plan_is.Root left root) e = inl (ap slot_of e)
-      by_plan (plan_is.Unlink pid head unterm removal) e = inr (rw e last)
+      by_plan (plan_is.Unlink pid head unterm removal) e = inr (rw e (rw e at placed))
 
-  pub decides : now.state ≡ at.Link → May task.actor k (wanted_at now.plan spares now.state) → Decides k (slot_of now.plan) (head_of now.plan) (wanted_at now.plan spares now.state)
+  pub decides : now.state ≡ at.Link → May task.actor k (wanted_at now.limits now.plan spares now.state) → Decides k (slot_of now.plan) (head_of now.plan) (wanted_at now.limits now.plan spares now.state)
   decides is may =
-      let enough : AreEnough now.plan spares = subst (λ (s : State). IsSoundState now.limits now.plan spares s) is shows.sound.state in
-      let here : May task.actor k (wanted_at now.plan spares at.Link) = subst (λ (s : State). May task.actor k (wanted_at now.plan spares s)) is may in
+      let enough : AreEnough now.limits now.plan spares = subst (λ (s : State). IsSoundState now.limits now.plan spares s) is shows.sound.state in
+      let here : May task.actor k (wanted_at now.limits now.plan spares at.Link) = subst (λ (s : State). May task.actor k (wanted_at now.limits now.plan spares s)) is may in
       record {
-        number = linked_number now.plan spares;
-        is = ap (wanted_at now.plan spares) is;
-        read = read_of k task.actor (slot_of now.plan) (head_of now.plan) (linked_number now.plan spares) (number_some enough) here.1;
+        number = linked_number now.limits now.plan spares;
+        is = ap (wanted_at now.limits now.plan spares) is;
+        read = read_of k task.actor (slot_of now.plan) (head_of now.plan) (linked_number now.limits now.plan spares) (number_some enough) here.1;
       }
 
-  undone : IsSoundState now.limits now.plan spares at.Undo → ShowsState now.plan spares k at.Undo → k.own.pages (pid_of spares) ≡ Ready (base_row now.plan spares)
+  undone : IsSoundState now.limits now.plan spares at.Undo → ShowsState now.limits now.plan spares k at.Undo → k.own.pages (pid_of spares) ≡ Ready (base_row now.limits now.plan spares)
   undone sound ready = by_plan now.plan refl sound.1 ready
     where
-      by_plan : (plan : Plan) → now.plan ≡ plan → needs_pid now.plan ≡ true → StandsReady now.plan spares k.own → k.own.pages (pid_of spares) ≡ Ready (base_row now.plan spares)
+      by_plan : (plan : Plan) → now.plan ≡ plan → needs_pid now.plan ≡ true → StandsReady now.limits now.plan spares k.own → k.own.pages (pid_of spares) ≡ Ready (base_row now.limits now.plan spares)
       by_plan (plan_is.Install pid head content) e needs ready = absurd (let both : false ≡ true = ap needs_pid (sym e) ∙ needs in cc)
       by_plan (plan_is.Split pid plan) e needs ready = rw e (rw e at ready).0
       by_plan (plan_is.Root left root) e needs ready = rw e (rw e at ready).0
@@ -105,24 +105,24 @@ module _ (limits : Limits) (task : Task) (spares : Spares) (k : Knowledge) (r : 
       by_plan (plan_is.Root left root) e sound links = absurd (let both : false ≡ true = ap clears (sym e) ∙ sound in cc)
       by_plan (plan_is.Unlink pid head unterm removal) e sound links = rw e (rw e at links).1
 
-  by_state : (state : State) → now.state ≡ state → (state ≡ at.Link → ⊥) → Asks state → meets (wanted_at now.plan spares state) answer ≡ false
+  by_state : (state : State) → now.state ≡ state → (state ≡ at.Link → ⊥) → Asks state → meets (wanted_at now.limits now.plan spares state) answer ≡ false
   by_state (at.Taking taking) is other asks = calm_taking taking answer
   by_state at.Base is other asks = refl
   by_state at.Ready is other asks =
       let sound = subst (λ (s : State). IsSoundState now.limits now.plan spares s) is shows.sound.state in
-      calm_exchange limits k (pid_of spares) 0 (base_row now.plan spares) answer asks.0 (fills limits k (pid_of spares) (base_row now.plan spares) (spare_pid sound.0 sound.1))
+      calm_exchange limits k (pid_of spares) 0 (base_row now.limits now.plan spares) answer asks.0 (fills limits k (pid_of spares) (base_row now.limits now.plan spares) (spare_pid sound.0 sound.1))
   by_state at.Place is other asks = refl
   by_state at.Link is other asks = absurd (other refl)
   by_state at.Undo is other asks =
       let sound = subst (λ (s : State). IsSoundState now.limits now.plan spares s) is shows.sound.state in
-      let ready = subst (λ (s : State). ShowsState now.plan spares k s) is shows.shows.stands in
-      calm_exchange limits k (pid_of spares) (base_row now.plan spares) 0 answer asks.0
-      (empties limits k (pid_of spares) (base_row now.plan spares) (spare_pid sound.0 sound.1) (undone sound ready))
+      let ready = subst (λ (s : State). ShowsState now.limits now.plan spares k s) is shows.shows.stands in
+      calm_exchange limits k (pid_of spares) (base_row now.limits now.plan spares) 0 answer asks.0
+      (empties limits k (pid_of spares) (base_row now.limits now.plan spares) (spare_pid sound.0 sound.1) (undone sound ready))
   by_state at.Clear is other asks =
       let sound = subst (λ (s : State). IsSoundState now.limits now.plan spares s) is shows.sound.state in
-      let gone = subst (λ (s : State). ShowsState now.plan spares k s) is shows.shows.stands in
+      let gone = subst (λ (s : State). ShowsState now.limits now.plan spares k s) is shows.shows.stands in
       calm_exchange limits k (cleared_page now.plan) (cleared_row now.plan) 0 answer asks.0
       (clears_it limits k task.actor (cleared_page now.plan) (cleared_row now.plan) gone.1 (cleared sound) asks.1.1)
 
-  pub calm : (now.state ≡ at.Link → ⊥) → Fits limits k (wanted_at now.plan spares now.state) answer → May task.actor k (wanted_at now.plan spares now.state) → meets (wanted_at now.plan spares now.state) answer ≡ false
+  pub calm : (now.state ≡ at.Link → ⊥) → Fits limits k (wanted_at now.limits now.plan spares now.state) answer → May task.actor k (wanted_at now.limits now.plan spares now.state) → meets (wanted_at now.limits now.plan spares now.state) answer ≡ false
   calm other fits may = by_state now.state refl other (fits, may)

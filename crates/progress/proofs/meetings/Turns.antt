@@ -96,9 +96,9 @@ is_link at.Undo = inr (λ e. cc e)
 is_link at.Clear = inr (λ e. cc e)
 
 module _ (limits : Limits) (task : Task) (spares : Spares) (k : Knowledge) (r : Recalled) (now : ChangeOf) (after : Then) (shows : IsInChange task spares k r now after) (answer : Answer Record)
-    (fits : Fits limits k (wanted_at now.plan spares now.state) answer) (may : May task.actor k (wanted_at now.plan spares now.state)) (new : State) where
+    (fits : Fits limits k (wanted_at now.limits now.plan spares now.state) answer) (may : May task.actor k (wanted_at now.limits now.plan spares now.state)) (new : State) where
   abbrev step : StepOf Record
-  step = wanted_at now.plan spares now.state
+  step = wanted_at now.limits now.plan spares now.state
 
   abbrev slot : ℕ
   slot = slot_of now.plan

@@ -368,9 +368,10 @@ pub record MayCallTidy (k : Knowledge) (command : Command) (reply : Reply) : Typ
   pub back : page ≢ 1 → length base.items ≤ 4 → (low_in basis.chain ≡ []) ⊎ IsHeldBack k page (low_in basis.chain)
   pub unlinked : k.asked.linked ≡ None
 
--- Each word of the free PIDs, or each word of the free rows, was read as 0.
+-- Each word of the free PIDs, or each word of the free rows that have room for any record, was read as 0.
 abbrev pub LacksRoom : Limits → Knowledge → Type 0
-LacksRoom limits k = ((word : ℕ) → word < limits.pids / 64 → IsTrue (k.asked.no_pids word)) ⊎ ((word : ℕ) → word < limits.rows / 64 → IsTrue (k.asked.no_rows word))
+LacksRoom limits k = ((word : ℕ) → word < limits.pids / 64 → IsTrue (k.asked.no_pids word))
+    ⊎ ((word : ℕ) → limits.wide_from / 64 ≤ word → word < limits.rows / 64 → IsTrue (k.asked.no_rows word))
 
 -- Full: the command's actor may link records, no update was linked, and there is no room for a change.
 pub record MayGiveUp (limits : Limits) (k : Knowledge) (command : Command) (reply : Reply) : Type 0 where

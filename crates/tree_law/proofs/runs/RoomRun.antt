@@ -21,7 +21,7 @@ none_free =
     }
 
 lacks : LacksRoom small at_last
-lacks = inr (λ word lt. let zero : word ≡ 0 = omega arith in rw zero)
+lacks = inr (λ word least lt. let zero : word ≡ 0 = omega arith in rw zero)
 
 full : MayReply small 0 at_last reply.Full
 full = record { command = insert_a; going = refl; justified = inr (inr (inr (inr (record { is = refl; writes = refl; unlinked = refl; lacks = lacks })))) }

@@ -53,7 +53,7 @@ module _ (entries : List Entry) (last : Entry) where
 
   pub nothing_free_kept : (limits : Limits) (op : Operation) → FindsNothingFree limits entries op → FindsNothingFree limits longer op
   nothing_free_kept limits op (inl h) = inl (λ word lt. let f = h word lt in (f.0, takes_kept op f.0 _ _ f.1))
-  nothing_free_kept limits op (inr h) = inr (λ word lt. let f = h word lt in (f.0, takes_kept op f.0 _ _ f.1))
+  nothing_free_kept limits op (inr h) = inr (λ word least lt. let f = h word least lt in (f.0, takes_kept op f.0 _ _ f.1))
 
   -- what was read before a step was read before each later one
   pub read_kept : (limits : Limits) (op : Operation) (n later page row : ℕ) (chain : List Record) → n ≤ later → WasRead limits entries op n page row chain
@@ -115,4 +115,4 @@ module _ (entries : List Entry) (last : Entry) where
 -- what an actor may take for want of room, its operation has found
 pub lacks : (limits : Limits) (entries : List Entry) (op : Operation) (k : Knowledge) → IsSearch entries op k → LacksRoom limits k → FindsNothingFree limits entries op
 lacks limits entries op k h (inl words) = inl (λ word lt. h.pids_at word (words word lt))
-lacks limits entries op k h (inr words) = inr (λ word lt. h.rows_at word (words word lt))
+lacks limits entries op k h (inr words) = inr (λ word least lt. h.rows_at word (words word least lt))

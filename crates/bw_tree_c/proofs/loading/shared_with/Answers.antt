@@ -15,7 +15,7 @@ pub returns-in-Some-clause-ok : goal.returns-in-Some-clause-ok
 returns-in-Some-clause-ok c = record {
   tree = c.in-Ok.opened.0;
   limits = c.in-Ok.ensures.limits;
-  loaded = subst (λ seats. AreLoaded c.in-Ok.opened.0 seats (map given_pair c.args.given.now)) (sym c.in-Some.ensures)
+  loaded = subst (λ seats. AreLoaded c.in-Ok.opened.0 seats (map given_pair c.args.given.now)) (sym c.in-Some.ensures.items)
       (subst (AreLoaded c.in-Ok.opened.0 c.in-Ok.opened.1.items) (c.as_slice.ensures.value ∙ c.in_ok-pairs.ensures.ok) c.in-Ok.ensures.loaded);
 }
 

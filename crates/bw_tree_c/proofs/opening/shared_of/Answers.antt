@@ -6,9 +6,9 @@ use Rattle.bw_tree_c.proofs.opening.shared_of.Goals as goal
 pub shared_with_seats-requires-clause-one : goal.shared_with_seats-requires-clause-one
 shared_with_seats-requires-clause-one c = one_tree c.in-Ok.tree c.args.limits c.in-Ok.seats.items c.in-Ok.ensures.limits c.in-Ok.ensures.fresh.count c.in-Ok.ensures.own
 
-pub returns : goal.returns
-returns c = record {
+pub returns-clause-opened : goal.returns-clause-opened
+returns-clause-opened c = record {
   tree = c.in-Ok.tree;
   limits = c.in-Ok.ensures.limits;
-  fresh = subst (AreFresh c.in-Ok.tree) (sym c.in_ok-shared.ensures) c.in-Ok.ensures.fresh;
+  fresh = subst (AreFresh c.in-Ok.tree) (sym c.in_ok-made.ensures.items) c.in-Ok.ensures.fresh;
 }

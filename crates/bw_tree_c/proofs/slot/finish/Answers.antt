@@ -3,7 +3,8 @@ use Rattle.bw_tree_c.proofs.slot.finish.Goals as goal
 
 pub write-note-requires : goal.write-note-requires
 write-note-requires c = record {
-  can = can_write c.args.shared.now c.args.slot.now c.args.place.value c.deref_mut.result.now c.deref_mut.ensures.value c.requires.can;
+  can = can_write c.args.shared.now c.args.slot.now c.args.place.value c.deref_mut.result.now c.deref_mut.ensures.value c.requires.can c.args.since
+      c.requires.may c.seen_by.result c.seen_by.ensures;
   since = (c.seen_by.ensures.table, c.seen_by.ensures.none);
 }
 

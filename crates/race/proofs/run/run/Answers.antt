@@ -11,7 +11,7 @@ returns-in-Ok-run_jobs g c =
       inl (
         c.in-Ok-run_jobs.results.items,
         c.in-Ok-run_jobs.seats.items,
-        record { tree = c.in-Ok.tree; fresh = c.in-Ok.seats.items; limited = c.in-Ok.ensures.limits; opened = c.in-Ok.ensures.seats; each = run.results; worked = run.worked },
+        record { tree = c.in-Ok.tree; fresh = c.in-Ok.seats.items; limited = c.in-Ok.ensures.limits; opened = c.in-Ok.ensures.fresh; each = run.results; worked = run.worked },
         rw (c.in-Ok.ensures.limits, c.as_slice.ensures.value) at told.1,
       ),
       told.2,
@@ -31,7 +31,7 @@ returns-in-Err g c =
           results = c.in-Err.error.results.items;
           limited =
               c.in-Ok.ensures.limits;
-          opened = c.in-Ok.ensures.seats;
+          opened = c.in-Ok.ensures.fresh;
           stopped = c.in-Err.ensures.refused;
         },
         refl,

@@ -2,6 +2,9 @@ use Rattle.std.proofs.Common.{arith}
 use Rattle.running_tree.proofs.Kept.{large_row_is, row_there, spread_spells}
 use Rattle.running_tree.proofs.closed.compact_record.Goals as goal
 
+pub row_of-requires-clause-range : goal.row_of-requires-clause-range
+row_of-requires-clause-range g c = let (memory, content, has, at) = c.requires.stands in (has.1.kept c.args.row content at).there
+
 pub row_of-requires-clause-there : goal.row_of-requires-clause-there
 row_of-requires-clause-there g c =
     let (memory, content, has, at) = c.requires.stands in

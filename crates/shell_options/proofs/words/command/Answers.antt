@@ -1,6 +1,6 @@
 use Rattle.std.proofs.Common.{ap, true, ◌∙◌}
 use Rattle.clap.specs.Simple.{app_of_fields, on_top}
-use Rattle.shell_options.specs.Words.{script_app, weave_app, draw_app, race_app}
+use Rattle.shell_options.specs.Words.{script_app, weave_app, draw_app, film_app, race_app}
 use Rattle.shell_options.proofs.words.command.Goals as goal
 
 pub returns : goal.returns
@@ -12,4 +12,5 @@ returns c =
     let script = c.with_program-command.ensures _ script_app root c.script_command.ensures in
     let weave = c.with_program-command-2.ensures _ weave_app script c.weave_command.ensures in
     let draw = c.with_program-command-3.ensures _ draw_app weave c.draw_command.ensures in
-    c.with_program.ensures _ race_app draw c.race_command.ensures
+    let film = c.with_program-command-4.ensures _ film_app draw c.film_command.ensures in
+    c.with_program.ensures _ race_app film c.race_command.ensures

@@ -1,6 +1,6 @@
 use Rattle.std.proofs.Common.{◌∙◌, refl}
 use Rattle.clap.specs.Words.{found_of, rows_of}
-use Rattle.shell_options.specs.declared.words.Program.TheVariants.{Script, Weave, Draw, Race}
+use Rattle.shell_options.specs.declared.words.Program.TheVariants.{Script, Weave, Draw, Film, Race}
 use Rattle.shell_options.specs.Words.{told_by}
 use Rattle.shell_options.proofs.Spelling.{is_told, name_is}
 use Rattle.shell_options.proofs.words.named_program.Goals as goal
@@ -24,6 +24,12 @@ returns-in-Some-subcommand_matches-2-clause-told c =
 
 pub returns-in-Some-subcommand_matches-3-clause-told : goal.returns-in-Some-subcommand_matches-3-clause-told
 returns-in-Some-subcommand_matches-3-clause-told c =
-    is_told (told_by c.args.matches.now) Race (rows_of (found_of c.in-Some-subcommand_matches-3.race.now)) c.numbers-in-Some-subcommand_matches-3.result
+    is_told (told_by c.args.matches.now) Film (rows_of (found_of c.in-Some-subcommand_matches-3.film.now)) c.numbers-in-Some-subcommand_matches-3.result
     (name_is _ ∙ c.in-Some-subcommand_matches-3.ensures.found.0 refl) c.in-Some-subcommand_matches-3.ensures.rows
     c.numbers-in-Some-subcommand_matches-3.ensures.ok c.numbers-in-Some-subcommand_matches-3.ensures.program
+
+pub returns-in-Some-subcommand_matches-4-clause-told : goal.returns-in-Some-subcommand_matches-4-clause-told
+returns-in-Some-subcommand_matches-4-clause-told c =
+    is_told (told_by c.args.matches.now) Race (rows_of (found_of c.in-Some-subcommand_matches-4.race.now)) c.numbers-in-Some-subcommand_matches-4.result
+    (name_is _ ∙ c.in-Some-subcommand_matches-4.ensures.found.0 refl) c.in-Some-subcommand_matches-4.ensures.rows
+    c.numbers-in-Some-subcommand_matches-4.ensures.ok c.numbers-in-Some-subcommand_matches-4.ensures.program

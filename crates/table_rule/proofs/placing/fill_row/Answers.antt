@@ -4,6 +4,7 @@ use Rattle.std.proofs.Math.Seq.{take-suc}
 use Rattle.table_rule.specs.declared.view.Reach.TheVariants.{Writing}
 use Rattle.table_rule.specs.Steps.{tail_from}
 use Rattle.table_rule.specs.Views.{seen_of, SitsAt}
+use Rattle.tree_words.proofs.RowWidths.{few_words, row_few, row_within}
 use Rattle.table_rule.proofs.UsedWords.{over_few, stored_some, tail_length}
 use Rattle.table_rule.proofs.Filled.{fills_at, next_in_tail}
 use Rattle.table_rule.proofs.placing.fill_row.Goals as goal
@@ -11,15 +12,17 @@ use Rattle.table_rule.proofs.placing.fill_row.Goals as goal
 pub store-requires : goal.store-requires
 store-requires g c =
     let v = c.loop-i.invariant in
-    let few = over_few c.args.limits.now c.args.first c.args.content.now c.args.spelt.now c.requires.spelt c.requires.room in
+    let few = over_few c.args.limits.now c.args.first c.args.content.now c.args.spelt.now c.requires.spelt c.args.row c.requires.fits c.requires.room in
     let over = c.words_over-behind.ensures in
     let test = c.loop-i-test.true in
     let written : List ℕ = take c.loop-i.i (tail_from c.args.spelt.now) in
     let k : length written ≡ c.loop-i.i = length-take-le c.loop-i.i (tail_from c.args.spelt.now) (omega (arith, few.1, over, test)) in
     let base = c.row_place-base.ensures in
-    let wide = c.requires.table.wide in (
+    let wide = c.requires.table.wide in
+    let inside = row_within c.args.limits.now c.args.row c.requires.range in
+    let width = few_words c.args.limits.now c.args.row in (
       v.table ∙ c.requires.table.same,
-      omega (arith, c.requires.range, wide, base, few.0, over, test),
+      omega (arith, c.requires.range, wide, base, few.0, over, test, inside, width),
       fills_at g.P.Law.law _ c.args.limits.now c.requires.table.own c.requires.law _ _ c.args.actor _ c.args.row c.args.first written _
           (seen_of c.args.seat.now.me) v.seen c.requires.range v.at c.requires.owned _ (omega (arith, base, k)) (omega (arith, few.0, over, test, k)),
     )
@@ -27,7 +30,7 @@ store-requires g c =
 pub loop-i-preserved : goal.loop-i-preserved
 loop-i-preserved g c =
     let v = c.loop-i.invariant in
-    let few = over_few c.args.limits.now c.args.first c.args.content.now c.args.spelt.now c.requires.spelt c.requires.room in
+    let few = over_few c.args.limits.now c.args.first c.args.content.now c.args.spelt.now c.requires.spelt c.args.row c.requires.fits c.requires.room in
     let over = c.words_over-behind.ensures in
     let test = c.loop-i-test.true in
     let written : List ℕ = take c.loop-i.i (tail_from c.args.spelt.now) in
@@ -47,8 +50,28 @@ words_over-behind-requires g c = stored_some c.args.limits.now c.args.first c.ar
 
 pub bounds-spelt-i : goal.bounds-spelt-i
 bounds-spelt-i g c =
-    let few = over_few c.args.limits.now c.args.first c.args.content.now c.args.spelt.now c.requires.spelt c.requires.room in
+    let few = over_few c.args.limits.now c.args.first c.args.content.now c.args.spelt.now c.requires.spelt c.args.row c.requires.fits c.requires.room in
     let over = c.words_over-behind.ensures in
     let test = c.loop-i-test.true in
     let tail = tail_length c.args.spelt.now in
     omega arith
+
+pub overflow_add-base : goal.overflow_add-base
+overflow_add-base g c =
+    let few = over_few c.args.limits.now c.args.first c.args.content.now c.args.spelt.now c.requires.spelt c.args.row c.requires.fits c.requires.room in
+    let width = few_words c.args.limits.now c.args.row in
+    let place = row_few c.args.limits.now c.args.row c.requires.range in
+    let over = c.words_over-behind.ensures in
+    let test = c.loop-i-test.true in
+    let base = c.row_place-base.ensures in
+    omega (arith, place, base, few.0, over, test, width)
+
+pub overflow_add-base-in-loop-i : goal.overflow_add-base-in-loop-i
+overflow_add-base-in-loop-i g c =
+    let few = over_few c.args.limits.now c.args.first c.args.content.now c.args.spelt.now c.requires.spelt c.args.row c.requires.fits c.requires.room in
+    let width = few_words c.args.limits.now c.args.row in
+    let place = row_few c.args.limits.now c.args.row c.requires.range in
+    let over = c.words_over-behind.ensures in
+    let test = c.loop-i-test.true in
+    let base = c.row_place-base.ensures in
+    omega (arith, place, base, few.0, over, test, width)

@@ -1,13 +1,15 @@
 use Rattle.std.proofs.Common.{arith}
+use Rattle.tree_words.proofs.RowWidths.{row_few, row_within}
 use Rattle.table_rule.proofs.RowReads.{looks_at}
 use Rattle.table_rule.proofs.reading.look_at.Goals as goal
 
 pub load-requires : goal.load-requires
 load-requires g c =
     let wide = c.requires.table.wide in
-    let base = c.row_place.ensures in (
+    let base = c.row_place.ensures in
+    let inside = row_within c.args.limits.now c.args.row c.requires.range in (
       c.requires.table.same,
-      omega (arith, c.requires.range, c.requires.word, wide, base),
+      omega (arith, c.requires.range, c.requires.word, wide, base, inside),
       looks_at g.P.Law.law _ c.args.limits.now c.requires.table.own c.requires.law _ _ c.args.actor _ c.args.row _ c.requires.range c.requires.seat
           c.requires.known c.args.at c.requires.word (omega (arith, base)),
     )
@@ -27,3 +29,6 @@ pub returns-clause-same : goal.returns-clause-same
 returns-clause-same g c =
     let told = c.load.ensures in
     λ i. record { marker = record {}; table_id = told.0 i; id = told.1 i; me = told.2.0 i }
+
+pub overflow_add-row_place : goal.overflow_add-row_place
+overflow_add-row_place g c = let few = row_few c.args.limits.now c.args.row c.requires.range in omega (arith, few, c.row_place.ensures, c.requires.word)

@@ -1,13 +1,15 @@
 use Rattle.std.proofs.Common.{arith}
+use Rattle.tree_words.proofs.RowWidths.{row_within}
 use Rattle.table_rule.proofs.RowReads.{reads_at}
 use Rattle.table_rule.proofs.reading.read_first.Goals as goal
 
 pub load-requires : goal.load-requires
 load-requires g c =
     let wide = c.requires.table.wide in
-    let base = c.row_place.ensures in (
+    let base = c.row_place.ensures in
+    let inside = row_within c.args.limits.now c.args.row c.requires.range in (
       c.requires.table.same,
-      omega (arith, c.requires.range, wide, base),
+      omega (arith, c.requires.range, wide, base, inside),
       reads_at g.P.Law.law _ c.args.limits.now c.requires.table.own c.requires.law _ _ c.args.actor _ c.args.row _ c.requires.range c.requires.seat c.requires.known base c.requires.may,
     )
 

@@ -1,21 +1,41 @@
-use Rattle.std.proofs.Common.{[], ◌∷◌, ◌++◌, ap, arith, refl, subst, sym, ◌∙◌}
+use Rattle.std.proofs.Common.{◌≡◌, [], ◌∷◌, ◌++◌, ap, arith, refl, subst, sym, ◌∙◌}
+use Rattle.std.specs.List.{flat_map}
 use Rattle.traces.specs.chain.Chains.{high_in, low_in}
 use Rattle.tree_picture.specs.declared.colour.Colour.TheVariants.{Ink}
+use Rattle.tree_picture.specs.Items.{record_items}
 use Rattle.tree_picture.specs.Layout.{AreLaidTo}
+use Rattle.tree_picture.specs.Pages.{DrawnPages, with_items}
 use Rattle.tree_picture.proofs.Layouts.{one_more}
 use Rattle.tree_picture.proofs.Ranges.{page_ends, whole_range}
 use Rattle.tree_picture.proofs.boxes.page_box.Goals as goal
 
+pub returns-clause-pids : goal.returns-clause-pids
+returns-clause-pids c =
+    ap (λ sheet. sheet.pids) c.in_ok-record_boxes.ensures ∙ ap (λ sheet. sheet.pids) c.in_ok-page.ensures
+    ∙ ap (λ pid. c.args.sheet.now.pids ++ pid ∷ []) c.pid.ensures
+
+pub returns-clause-marks : goal.returns-clause-marks
+returns-clause-marks c =
+    ap (λ sheet. sheet.marks) c.in_ok-record_boxes.ensures ∙ ap (λ sheet. sheet.marks) c.in_ok-page.ensures
+
+pub returns-clause-slots : goal.returns-clause-slots
+returns-clause-slots c = ap (λ sheet. sheet.slots) c.in_ok-record_boxes.ensures ∙ ap (λ sheet. sheet.slots) c.in_ok-page.ensures
+
+pub returns-clause-items : goal.returns-clause-items
+returns-clause-items c =
+    ap (λ sheet. sheet.items) c.in_ok-record_boxes.ensures ∙ ap (λ sheet. sheet.items ++ flat_map record_items c.records.result.now) c.in_ok-page.ensures
+    ∙ ap (λ chain. c.args.sheet.now.items ++ flat_map record_items chain) c.records.ensures.chain
+
 pub returns-clause-ranges : goal.returns-clause-ranges
 returns-clause-ranges c =
-    ap (λ sheet. sheet.ranges) (c.records-2.ensures ∙ c.in_ok-page.ensures)
+    ap (λ sheet. sheet.ranges) c.in_ok-record_boxes.ensures ∙ ap (λ sheet. sheet.ranges) c.in_ok-page.ensures
     ∙ ap (λ words. c.args.sheet.now.ranges ++ words ∷ [])
     (whole_range _ _ _ _ _ _ c.with_range.ensures c.new-range.ensures (c.low.ensures ∙ c.page.ensures.low) (c.high.ensures ∙ c.page-2.ensures.high))
 
 pub returns-clause-laid : goal.returns-clause-laid
 returns-clause-laid c = λ width bottom next to right further high.
     let exact = c.page_height.ensures.exact in
-    subst (λ sheet. AreLaidTo width bottom next c.args.y sheet.boxes) (sym (c.records-2.ensures ∙ c.in_ok-page.ensures))
+    subst (λ boxes. AreLaidTo width bottom next c.args.y boxes) (sym (ap (λ sheet. sheet.boxes) c.in_ok-record_boxes.ensures ∙ ap (λ sheet. sheet.boxes) c.in_ok-page.ensures))
     (one_more to (record { x = c.args.x; y = c.args.y; width = 236; height = c.page_height.result; fill = c.colour.result; edge = Ink }) refl refl
     (record { wide = omega arith; high = omega (arith, exact); right = omega (arith, right); bottom = omega (arith, exact, high) }) next (omega (arith, further)))
 

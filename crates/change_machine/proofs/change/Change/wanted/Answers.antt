@@ -1,6 +1,21 @@
 use Rattle.change_machine.proofs.Clearing.{may_end}
-use Rattle.change_machine.proofs.Following.{may_decide, may_place}
+use Rattle.change_machine.proofs.Following.{base_may_place, may_decide, may_place, slot_may_empty, slot_may_set}
 use Rattle.change_machine.proofs.change.Change.wanted.Goals as goal
+
+pub returns-in-Base-clause-may : goal.returns-in-Base-clause-may
+returns-in-Base-clause-may c = λ actor k shows.
+    let may = base_may_place actor c.args.self.now c.args.spares.now k (rw (← c.self.view_is) c.in-Base.is) c.requires.sound shows in
+    rw (c.base_row.ensures) may
+
+pub returns-in-Ready-clause-may : goal.returns-in-Ready-clause-may
+returns-in-Ready-clause-may c = λ actor k shows.
+    let may = slot_may_set actor c.args.self.now c.args.spares.now k (rw (← c.self.view_is) c.in-Ready.is) c.requires.sound shows in
+    rw (c.pid_or_0.ensures, c.base_row-in-Ready.ensures) may
+
+pub returns-in-Undo-clause-may : goal.returns-in-Undo-clause-may
+returns-in-Undo-clause-may c = λ actor k shows.
+    let may = slot_may_empty actor c.args.self.now c.args.spares.now k (rw (← c.self.view_is) c.in-Undo.is) c.requires.sound shows in
+    rw (c.pid_or_0-in-Undo.ensures, c.base_row-in-Undo.ensures) may
 
 pub returns-in-Link-clause-may : goal.returns-in-Link-clause-may
 returns-in-Link-clause-may c = λ actor k shows.
@@ -15,4 +30,4 @@ returns-in-Clear-clause-may c = λ actor k shows.
 pub returns-in-Place-clause-may : goal.returns-in-Place-clause-may
 returns-in-Place-clause-may c = λ actor k shows.
     let may = may_place actor c.args.self.now c.args.spares.now k (rw (← c.self.view_is) c.in-Place.is) c.requires.sound shows in
-    rw (c.last_row.ensures) may
+    rw (c.record_row.ensures) may

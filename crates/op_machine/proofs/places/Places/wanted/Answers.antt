@@ -10,9 +10,9 @@ returns-in-Change-clause-may g c task k r h =
     record {
       within = rw (← shows.limits) step.within;
       may = step.may task.actor k shows.shows;
-      frees = rw step.wanted (freely task.limits task.actor k change.plan c.args.spares.now change.state);
-      useful = rw step.wanted (usefully k change.plan c.args.spares.now change.state shows.useful shows.shows.stands);
-      halved = rw step.wanted (halved k change.plan c.args.spares.now change.state shows.useful shows.shows.stands);
+      frees = rw step.wanted (freely task.limits change.limits task.actor k change.plan c.args.spares.now change.state);
+      useful = rw step.wanted (usefully change.limits k change.plan c.args.spares.now change.state shows.useful shows.shows.stands);
+      halved = rw step.wanted (halved change.limits k change.plan c.args.spares.now change.state shows.useful shows.shows.stands);
     }
 
 pub wanted-requires : goal.wanted-requires

@@ -11,7 +11,7 @@ use Rattle.op_machine.proofs.task.Task.end_changing.Goals.{in-Won+in-After+in-Ro
 
 -- nothing of a kind is free, so there is no room
 lacks_room : (limits : Limits) (k : Knowledge) (kind : Kind) → AllFull limits k.asked kind → LacksRoom limits k
-lacks_room limits k Pid all = inl all
+lacks_room limits k Pid all = inl (λ word. all word (omega arith))
 lacks_room limits k Row all = inr all
 
 pub returns-in-Full-default-clause-stands : goal.returns-in-Full-default-clause-stands

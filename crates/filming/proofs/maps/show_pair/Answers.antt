@@ -1,0 +1,7 @@
+use Rattle.byte_streams.proofs.Showing.{shows_then}
+use Rattle.filming.proofs.maps.show_pair.Goals as goal
+
+pub returns : goal.returns
+returns g c =
+    rw (c.as_slice.ensures.bytes, c.as_slice-2.ensures.bytes)
+    at (shows_then (shows_then (shows_then c.show_token.ensures c.show.ensures) c.show_token-2.ensures) c.show-2.ensures)

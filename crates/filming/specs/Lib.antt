@@ -1,0 +1,3 @@
+pub mod Films
+pub mod Maps
+pub mod Pages

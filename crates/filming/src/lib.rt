@@ -1,0 +1,16 @@
+//! The program over a core that films: lines in, one page out, with a picture for each step.
+//!
+//! Look first at `film`: it runs the lines as `bw_shell` does, over a writer that drops what it is shown, and takes the same turns again on
+//! another core. After each turn that takes a step it writes a frame: the step by name, how it changed the map, the picture of the core
+//! as it then stands, and the map (`IsWholeFilm`). What moves from frame to frame is a script, the same for all films, of which nothing is proved (`page`).
+//!
+//! Called by `bwtree`. It decides nothing of the pictures: that is the business of `tree_picture` and `drawing`.
+#![tactic(auto)]
+
+mod frames;
+mod maps;
+mod page;
+mod run;
+mod turns;
+
+pub use run::film;

@@ -1,0 +1,155 @@
+//! Changes of large trees step by step: where a taking begins, and which rows are wide enough.
+
+use crate::changes::{Case, Free, Planned, goes};
+use bw_model::{Limits, Widths};
+use change_machine::{End, Spares};
+
+/// Whether a change of a large tree goes as the case says, over this row, where these numbers may be free.
+fn goes_in_large((pids, rows): (u64, u64), head: u32, free: Free, case: &Case) -> bool {
+    let Ok(limits) = Limits::large(1, pids, rows, 1) else {
+        return false;
+    };
+    if head == 0 || u64::from(head) >= limits.rows {
+        return false;
+    }
+    goes(&limits, &mut Spares::new(), head, free, case)
+}
+
+/// PIDs and rows of a large tree, the newest row of page 1, which numbers may be free, and the change.
+///
+/// Of row 7 the product with 2,654,435,761 is 3 beyond a multiple of 4, and so is that of row 315,567 the last one before a multiple of 2^20.
+const IN_LARGE: [((u64, u64), u32, Free, Case); 4] = [
+    // Takes a row of word 0, once the words from the third on have none.
+    (
+        (64, 256),
+        7,
+        Free::First,
+        (
+            Planned::Install,
+            (0, 2, true),
+            "rows 3 rows 0 row 3 3=7 1:7>3",
+            (End::Won, None, &[]),
+        ),
+    ),
+    // Is full once each word from word 0 on has none.
+    (
+        (64, 256),
+        7,
+        Free::First,
+        (
+            Planned::Install,
+            (0, 0, true),
+            "rows 3 rows 0 rows 1 rows 2 rows 3",
+            (End::Full(Kind::Row), None, &[]),
+        ),
+    ),
+    // Takes a row of the word at which it begins.
+    (
+        (64, 256),
+        7,
+        Free::Last,
+        (
+            Planned::Install,
+            (0, 2, true),
+            "rows 3 row 254 254=7 1:7>254",
+            (End::Won, None, &[]),
+        ),
+    ),
+    // Takes the last PID and the last row of the greatest limits.
+    (
+        (4_194_304, 67_108_864),
+        315_567,
+        Free::Last,
+        (
+            Planned::Split,
+            (1, 2, true),
+            "pids 65535 pid 4194303 rows 1048575 row 67108862 rows 1048575 row 67108863 67108863=0 4194303:0>67108863 67108862=315567 1:315567>67108862",
+            (End::Won, None, &[]),
+        ),
+    ),
+];
+
+#[test]
+fn takes_scattered_numbers_in_a_large_tree(rt: HostRuntime) {
+    for (size, head, free, case) in &IN_LARGE {
+        assert!(rt; goes_in_large(*size, *head, *free, case), "{head}");
+    }
+}
+
+/// Whether a change goes as the case says in a large tree with a word of rows of each width, over row 7, where these numbers may be free.
+fn goes_by_width(free: Free, case: &Case) -> bool {
+    let widths = Widths {
+        narrow_rows: 64,
+        wide_from: 128,
+        narrow_words: 8,
+        page_words: 24,
+    };
+    let Ok(limits) = Limits::with_widths(1, 128, 192, 1, widths) else {
+        return false;
+    };
+    if limits.rows <= 7 {
+        return false;
+    }
+    goes(&limits, &mut Spares::new(), 7, free, case)
+}
+
+/// Which numbers may be free, and the change. The products of 1 and of 7 with 2,654,435,761 are odd, so the second word of PIDs is read first.
+const BY_WIDTH: [(Free, Case); 5] = [
+    // A record with one key is placed in a narrow row.
+    (
+        Free::First,
+        (
+            Planned::Install,
+            (0, 2, true),
+            "rows 0 row 3 3=7 1:7>3",
+            (End::Won, None, &[]),
+        ),
+    ),
+    // It is placed in a wider one, if no other is free.
+    (
+        Free::Last,
+        (
+            Planned::Install,
+            (0, 2, true),
+            "rows 0 rows 1 rows 2 row 190 190=7 1:7>190",
+            (End::Won, None, &[]),
+        ),
+    ),
+    // A base isn't placed in a narrow row.
+    (
+        Free::First,
+        (
+            Planned::Root,
+            (1, 2, true),
+            "pids 1 pids 0 pid 5 rows 1 rows 2",
+            (End::Full(Kind::Row), Some(5), &[]),
+        ),
+    ),
+    // It is placed in a wide one, if there is no row for pages.
+    (
+        Free::Last,
+        (
+            Planned::Root,
+            (1, 1, true),
+            "pids 1 pid 127 rows 1 rows 2 row 191 191=0 127:0>191 0:1>127",
+            (End::Won, None, &[]),
+        ),
+    ),
+    // Of two rows the base has the last one, which is to be wider.
+    (
+        Free::Last,
+        (
+            Planned::Split,
+            (1, 2, true),
+            "pids 1 pid 127 rows 0 rows 1 rows 2 row 190 rows 1 rows 2 row 191 191=0 127:0>191 190=7 1:7>190",
+            (End::Won, None, &[]),
+        ),
+    ),
+];
+
+#[test]
+fn takes_rows_that_are_wide_enough(rt: HostRuntime) {
+    for (free, case) in &BY_WIDTH {
+        assert!(rt; goes_by_width(*free, case));
+    }
+}

@@ -1,0 +1,151 @@
+//! Films: a frame for each step, and what ends them early.
+
+use crate::breaking::Breaking;
+use crate::choppy::Choppy;
+use crate::parts::count;
+use crate::picture_runs::drawn;
+use bw_model::Limits;
+use byte_streams::{Reader, Writer};
+use filming::film;
+use std::alloc::{AllocError, Global};
+use std::io::ErrorKind;
+use std::test::Fail;
+
+/// What is written of these lines, and the status.
+fn filmed(alloc: Global, limits: Limits, lines: &[u8]) -> (u8, Vec<u8>) {
+    let mut input = Reader::new(lines);
+    let mut output = Writer::new(Vec::new(alloc));
+    let status = film(alloc, limits, &mut input, &mut output);
+    (status, output.inner)
+}
+
+const INSERT: &[u8] = b"begin 0 insert k02 <\nfinish 0\n";
+
+/// How often each text stands in the film of that insert, which takes ten steps; the ninth exchanges the slot.
+const SHOWN: [(&[u8], usize); 9] = [
+    (b"<section id=\"", 10),
+    (b"<svg ", 10),
+    (
+        b"<section id=\"1\">\n<h2>1: actor 0: read the epoch</h2>\n",
+        1,
+    ),
+    (
+        b"<h2>5: actor 0: read row 1</h2>\n<p>The map is unchanged by this step.</p>\n<svg ",
+        1,
+    ),
+    (
+        b"<h2>9: actor 0: exchange slot 1 from 1 to 2: won, put</h2>\n<p class=\"changed\">This step changes the map: k02 has the value &lt; now.</p>\n<svg ",
+        1,
+    ),
+    (
+        b"<section id=\"10\">\n<h2>10: actor 0: leave; done: inserted</h2>\n",
+        1,
+    ),
+    (b"<p>The map is unchanged by this step.</p>", 9),
+    (
+        b"<h3>The map: pairs: 0</h3>\n<pre class=\"map\"></pre>\n</section>\n",
+        8,
+    ),
+    (
+        b"<h3>The map: pairs: 1</h3>\n<pre class=\"map\">k02 &lt;\n</pre>\n</section>\n",
+        2,
+    ),
+];
+
+#[test]
+fn each_step_has_a_frame(rt: HostRuntime) -> Result<(), Fail> {
+    let limits = Limits::new(2, 64, 256, 1)?;
+    let (status, text) = filmed(rt.alloc(), limits, INSERT);
+    assert!(rt; status == 0);
+    for (number, (part, times)) in SHOWN.iter().enumerate() {
+        assert!(rt; count(text.as_slice(), part) == *times, "text {number}");
+    }
+    Ok(())
+}
+
+// The last frame has the picture that is drawn of the same lines, and no other frame has it.
+#[test]
+fn the_last_frame_is_the_picture(rt: HostRuntime) -> Result<(), Fail> {
+    let limits = Limits::new(2, 64, 256, 1)?;
+    let (_, text) = filmed(rt.alloc(), limits, INSERT);
+    let picture = drawn(rt.alloc(), limits, INSERT);
+    assert!(rt; picture.is_some_and(|picture| count(text.as_slice(), picture.as_slice()) == 1));
+    Ok(())
+}
+
+// A refused line is the last frame.
+#[test]
+fn a_refused_line_ends_a_film(rt: HostRuntime) -> Result<(), Fail> {
+    let limits = Limits::new(2, 64, 256, 1)?;
+    let lines = b"begin 0 get a\nturn 0 2\nturn 1 1\nturn 0 1\n";
+    let (status, text) = filmed(rt.alloc(), limits, lines);
+    assert!(rt; status == 1);
+    assert!(rt; count(text.as_slice(), b"<section id=\"") == 3);
+    let last =
+        b"</section>\n<section id=\"refused\">\n<h2>refused line 3: 6\n</h2>\n</section>\n</main>\n";
+    assert!(rt; count(text.as_slice(), last) == 1);
+    Ok(())
+}
+
+/// So many lookups in an empty tree, of six steps each, and three steps of one more.
+fn lookups(alloc: Global, many: u32) -> Result<Vec<u8>, AllocError> {
+    let mut lines = Vec::new(alloc);
+    for _ in 0..many {
+        lines.extend_from_slice(b"begin 0 get a\nfinish 0\n")?;
+    }
+    lines.extend_from_slice(b"begin 0 get a\nturn 0 3\n")?;
+    Ok(lines)
+}
+
+// 2,001 steps are one too many.
+#[test]
+fn long_films_are_refused(rt: HostRuntime) -> Result<(), Fail> {
+    let limits = Limits::new(2, 64, 256, 1)?;
+    let lines = lookups(rt.alloc(), 333)?;
+    let (status, text) = filmed(rt.alloc(), limits, lines.as_slice());
+    let told =
+        b"refused: a film has a frame for each step, 2000 at most, and these lines take 2001\n";
+    assert!(rt; status == 1 && text.as_slice() == told.as_slice());
+    Ok(())
+}
+
+// A failed write leaves a beginning.
+#[test]
+fn failed_writes_leave_a_beginning(rt: HostRuntime) -> Result<(), Fail> {
+    let limits = Limits::new(2, 64, 256, 1)?;
+    let (_, all) = filmed(rt.alloc(), limits, INSERT);
+    for before_fault in [0, 1, 9] {
+        let mut input = Reader::new(INSERT);
+        let mut output = Writer::new(Breaking::taking(rt.alloc(), 1000, before_fault));
+        let status = film(rt.alloc(), limits, &mut input, &mut output);
+        let held = output.inner.held.as_slice();
+        assert!(rt; status == 1 && all.as_slice().starts_with(held) && held.len() < all.len());
+    }
+    Ok(())
+}
+
+// After a failed read nothing is written.
+#[test]
+fn failed_reads_leave_nothing(rt: HostRuntime) -> Result<(), Fail> {
+    let limits = Limits::new(2, 64, 256, 1)?;
+    let mut input = Reader::new(Choppy {
+        bytes: INSERT,
+        size: 7,
+        before_fault: 4,
+        fault: ErrorKind::Other,
+    });
+    let mut output = Writer::new(Vec::new(rt.alloc()));
+    let status = film(rt.alloc(), limits, &mut input, &mut output);
+    assert!(rt; status == 1 && output.inner.is_empty());
+    Ok(())
+}
+
+// A film of no steps has no frames.
+#[test]
+fn films_of_nothing(rt: HostRuntime) -> Result<(), Fail> {
+    let limits = Limits::new(2, 64, 256, 1)?;
+    let (status, text) = filmed(rt.alloc(), limits, b"begin 0 get a\n");
+    assert!(rt; status == 0 && count(text.as_slice(), b"<section") == 0);
+    assert!(rt; count(text.as_slice(), b"</nav>\n<main>\n</main>\n<script>\n") == 1);
+    Ok(())
+}

@@ -1,0 +1,12 @@
+use Rattle.std.proofs.Common.{sym}
+use Rattle.tree_words.proofs.RowWidths.{narrow_is, page_is, wide_is}
+use Rattle.tree_words.proofs.places.rows_width.Goals as goal
+
+pub returns-then-row-limits-clause-width : goal.returns-then-row-limits-clause-width
+returns-then-row-limits-clause-width c = sym (wide_is c.args.limits.now c.args.row c.if-row-limits.true)
+
+pub returns-then-row-limits-2-clause-width : goal.returns-then-row-limits-2-clause-width
+returns-then-row-limits-2-clause-width c = sym (narrow_is c.args.limits.now c.args.row c.if-row-limits-2.true)
+
+pub returns-clause-width : goal.returns-clause-width
+returns-clause-width c = sym (page_is c.args.limits.now c.args.row c.if-row-limits-2.false c.if-row-limits.false)
