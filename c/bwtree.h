@@ -203,7 +203,7 @@ BWTREE_INLINE uint32_t bwtree_limits_for_many_keys(uint64_t actors, uint64_t key
 }
 
 /* Limits for a large tree of pairs whose keys and values mostly have at most so many bytes, of 16 and 8 in some 131 bytes a key; longer pairs are taken, too, as
- * far as wide records suffice, one for each 32 pages. Where values are empty, say 1. OK with `limits`; BAD_LIMITS, of more than 64 bytes, too. */
+ * far as wide records suffice, one for each 32 pages. OK with `limits`; BAD_LIMITS, of more than 64 bytes, too. */
 BWTREE_INLINE uint32_t bwtree_limits_for_pairs(uint64_t actors, uint64_t keys, uint64_t key_bytes, uint64_t value_bytes, bwtree_limits *limits) {
     if (!limits) return BWTREE_NULL;
     return bwtree_raw_limits_for_pairs(actors, keys, key_bytes, value_bytes, limits);

@@ -2,7 +2,7 @@
 
 use crate::changes::{Case, Free, Planned, goes};
 use bw_model::{Limits, Widths};
-use change_machine::{End, Spares};
+use change_machine::{End, Kind, Spares};
 
 /// Whether a change of a large tree goes as the case says, over this row, where these numbers may be free.
 fn goes_in_large((pids, rows): (u64, u64), head: u32, free: Free, case: &Case) -> bool {

@@ -41,9 +41,13 @@ wide_rows_for pids = in_whole_words (pids / 32)
 abbrev pub large_rows_for : ℕ → ℕ → ℕ
 large_rows_for actors pids = narrow_rows_for actors pids + page_rows_for actors pids + wide_rows_for pids
 
--- how many words of eight bytes a text takes that has so many bytes, and a key behind its first eight
+-- how many words of eight bytes a text takes that has so many bytes, a value, which takes at least one, as a child's PID does, and a key behind its
+-- first eight
 abbrev pub text_words_for : ℕ → ℕ
 text_words_for bytes = (bytes + 7) / 8
+
+abbrev pub value_words_for : ℕ → ℕ
+value_words_for bytes = 1 + (bytes - 1) / 8
 
 abbrev pub tail_words_for : ℕ → ℕ
 tail_words_for bytes = (bytes - 8 + 7) / 8
@@ -54,11 +58,11 @@ in_whole_lines words = (words + 7) / 8 * 8
 
 -- A row for deltas has room for a put of a pair whose key and value have so many bytes, and so for any other record of such a key but a base and a merge.
 abbrev pub narrow_words_for : ℕ → ℕ → ℕ
-narrow_words_for key value = in_whole_lines (4 + tail_words_for key + text_words_for value)
+narrow_words_for key value = in_whole_lines (4 + tail_words_for key + value_words_for value)
 
 -- A row for bases has room for 16 such pairs, as many as a base has but after a merge, with two bounds of such keys.
 abbrev pub page_words_for : ℕ → ℕ → ℕ
-page_words_for key value = in_whole_lines (2 + 2 * text_words_for key + 16 * (2 + tail_words_for key + text_words_for value))
+page_words_for key value = in_whole_lines (2 + 2 * text_words_for key + 16 * (2 + tail_words_for key + value_words_for value))
 
 -- Limits of a large tree are proposed for so many actors and keys: those that the rule makes are limits of a large tree.
 abbrev pub AreProposedLarge : ℕ → ℕ → Type 0

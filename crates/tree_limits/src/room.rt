@@ -3,7 +3,7 @@ ghost use Rattle.std.specs.Prelude.{◌≡◌, ◌≤◌, ◌+◌, ◌^◌, ◌�
 ghost use Rattle.tree_limits.specs.declared.limits.TheConstants.{MAX_ACTORS, MAX_LARGE_ACTORS, MAX_LARGE_PIDS, MAX_PIDS, WORD_BITS};
 ghost use Rattle.tree_limits.specs.declared.room.TheConstants.{MAX_BYTES};
 ghost use Rattle.tree_limits.specs.Room.{AreProposed, AreProposedLarge, AreProposedPairs, IsMostKeys, in_whole_lines, in_whole_words, large_pids_for, large_rows_for, pages_for, pids_for, rows_for};
-ghost use Rattle.tree_limits.specs.Room.{narrow_rows_for, narrow_words_for, page_rows_for, page_words_for, tail_words_for, text_words_for, wide_rows_for};
+ghost use Rattle.tree_limits.specs.Room.{narrow_rows_for, narrow_words_for, page_rows_for, page_words_for, tail_words_for, text_words_for, value_words_for, wide_rows_for};
 
 use crate::limits::{
     BadLimits, Limits, MAX_ACTORS, MAX_LARGE_ACTORS, MAX_LARGE_PIDS, MAX_PIDS, MAX_ROWS, WORD_BITS,
@@ -219,7 +219,7 @@ fn narrow_words_for(key_bytes: u64, value_bytes: u64) -> u64
     requires value { value_bytes ≤ MAX_BYTES }
     ensures { result ≡ narrow_words_for key_bytes value_bytes }
 {
-    in_whole_lines(4 + tail_words_for(key_bytes) + text_words_for(value_bytes))
+    in_whole_lines(4 + tail_words_for(key_bytes) + value_words_for(value_bytes))
 }
 
 /// How many words a base of pairs of such lengths takes that has no more items than a page that isn't split.
@@ -228,7 +228,7 @@ fn page_words_for(key_bytes: u64, value_bytes: u64) -> u64
     requires value { value_bytes ≤ MAX_BYTES }
     ensures { result ≡ page_words_for key_bytes value_bytes }
 {
-    let item_words = 2 + tail_words_for(key_bytes) + text_words_for(value_bytes);
+    let item_words = 2 + tail_words_for(key_bytes) + value_words_for(value_bytes);
     in_whole_lines(2 + 2 * text_words_for(key_bytes) + PAGE_ITEMS * item_words)
 }
 
@@ -239,6 +239,15 @@ fn text_words_for(bytes: u64) -> u64
     ensures few { result ≤ 8 }
 {
     bytes.div_ceil(WORD_BYTES)
+}
+
+/// How many words a value of so many bytes takes: at least one, as a child's PID does.
+fn value_words_for(bytes: u64) -> u64
+    requires { bytes ≤ MAX_BYTES }
+    ensures words { result ≡ value_words_for bytes }
+    ensures few { result ≤ 8 }
+{
+    1 + bytes.saturating_sub(1) / WORD_BYTES
 }
 
 /// How many words a key of so many bytes takes behind its first one.

@@ -44,6 +44,15 @@ module _ (limits : Limits) where
   unfolding rows_width
   wide_is row low = let o = ordered in rw (not_below row limits.narrow_rows (omega (arith, low, o)), not_below row limits.wide_from low) refl
 
+  pub all_wide : (row : ℕ) → limits.wide_from ≡ 0 → rows_width limits row ≡ row_size * row
+  all_wide row none =
+      let is = wide_is row (omega (arith, none)) in
+      let o = ordered in
+      let no_narrow : limits.narrow_rows ≡ 0 = omega (arith, o, none) in
+      let e : limits.wide_from - limits.narrow_rows ≡ 0 = omega (arith, none) in
+      let all : row - limits.wide_from ≡ row = omega (arith, none) in
+      is ∙ rw (e, all, no_narrow) (omega arith)
+
   -- the rows below the first one for pages, and below the first wide one
   at_pages : rows_width limits limits.narrow_rows ≡ limits.narrow_words * limits.narrow_rows
   at_pages = go (ltb limits.narrow_rows limits.wide_from) refl

@@ -60,6 +60,9 @@ fn rows_width(limits: &Limits, row: u64) -> usize
     ensures width { result ≡ rows_width limits.now row }
     ensures few { result ≤ 34359738368 }
 {
+    if limits.wide_from == 0 {
+        return (WIDE_WORDS * row) as usize;
+    }
     if row >= limits.wide_from {
         let pages = limits.wide_from - limits.narrow_rows;
         let before = limits.narrow_words * limits.narrow_rows + limits.page_words * pages;

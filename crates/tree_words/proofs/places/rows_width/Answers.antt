@@ -1,5 +1,5 @@
 use Rattle.std.proofs.Common.{sym}
-use Rattle.tree_words.proofs.RowWidths.{narrow_is, page_is, wide_is}
+use Rattle.tree_words.proofs.RowWidths.{all_wide, narrow_is, page_is, wide_is}
 use Rattle.tree_words.proofs.places.rows_width.Goals as goal
 
 pub returns-then-row-limits-clause-width : goal.returns-then-row-limits-clause-width
