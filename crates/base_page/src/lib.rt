@@ -7,10 +7,12 @@
 //! knows no record, no row and no other page: its right is a number to it.
 #![tactic(auto)]
 
+mod held;
 mod item;
 mod items;
 mod page;
 
+pub use held::{held_count, is_held};
 pub use item::{Content, Item};
 pub use items::{Items, MAX_HELD, MAX_ITEMS};
 pub use page::{Direction, Page};

@@ -53,7 +53,7 @@ pub(crate) enum Found {
 
 impl Kind {
     /// How many numbers of the kind there are.
-    fn count(self, limits: &Limits) -> u64
+    pub fn count(self, limits: &Limits) -> u64
         ensures { result ≡ count_of limits.now self }
     {
         match self {

@@ -19,7 +19,7 @@ mod terms;
 use crate::built::{self, Held};
 use crate::plans::grown::{at, based, delete};
 use crate::plans::index_pages::index_from;
-use base_page::{Content, Items, Page};
+use base_page::{Content, Items, MAX_ITEMS, Page};
 use bw_model::{Key, Value};
 use deltas::{Hold, Record, Term};
 use std::process::Abort;
@@ -70,7 +70,7 @@ pub(crate) fn leaf(low: Key, count: u8) -> Page
     let mut page = Page::new(0, low, None, None, Items::new());
     for i in 0..count {
         let at = key(&[b'x', i]);
-        if page.covers(&at) && page.has_room(1) {
+        if page.covers(&at) && page.items().as_slice().len() < MAX_ITEMS {
             page.put(at, Content::Value(Value::default()));
         }
     }

@@ -3,10 +3,10 @@ ghost use Rattle.std.specs.Prelude.{◌≡◌, ◌≤◌, ◌<◌, ◌↔◌, Is
 ghost use Rattle.std.specs.List.{All};
 ghost use Rattle.bw_model.specs.Bytes.{is_under};
 ghost use Rattle.base_page.specs.Pages.{AreItems, IsOfLevel};
-ghost use Rattle.base_page.specs.Rules.{IsRuled, held_count, is_held};
+ghost use Rattle.base_page.specs.Rules.{IsRuled};
 ghost use Rattle.record_slots.specs.Rules.{are_within, are_apart_after, are_terms, starts_at};
 
-use base_page::{Content, Item, Items, MAX_HELD};
+use base_page::{Item, Items, MAX_HELD, held_count, is_held};
 use bw_model::Key;
 
 /// Whether a page of these parts keeps the rules.
@@ -77,20 +77,6 @@ fn starts_at(low: &Key, items: &[Item]) -> bool
     }
 }
 
-/// How many of the items are held.
-fn held_count(items: &[Item]) -> usize
-    requires { length items.now ≤ 24 }
-    ensures { result ≡ held_count items.now }
-{
-    let mut held = 0;
-    for item in items {
-        if is_held(&item.content) {
-            held += 1;
-        }
-    }
-    held
-}
-
 /// Whether of two neighbours at most one is held.
 fn are_apart(items: &[Item]) -> bool
     ensures { result ≡ are_apart_after false items.now }
@@ -104,11 +90,4 @@ fn are_apart(items: &[Item]) -> bool
         last = held;
     }
     true
-}
-
-/// Whether it is a held child.
-fn is_held(content: &Content) -> bool
-    ensures { result ≡ is_held content.now }
-{
-    matches!(content, Content::Child { held: true, .. })
 }

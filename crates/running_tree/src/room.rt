@@ -56,7 +56,7 @@ impl<A: Allocator> BwSeat<A> {
         ensures counted { HasCounted self.old.limits self.old.actor kind (count_of self.old.limits kind) self.old.seen self.new.seen result }
     {
         let mut count = 0;
-        for word in 0..limit_of(kind, &self.limits) / 64 {
+        for word in 0..kind.count(&self.limits) / 64 {
             count += self.watch_bits(words, kind, word as u32);
         }
         count
@@ -80,16 +80,6 @@ impl<A: Allocator> BwSeat<A> {
             &step,
         )
         .count_ones()
-    }
-}
-
-/// How many numbers of the kind there are.
-fn limit_of(kind: Kind, limits: &Limits) -> u64
-    ensures { result ≡ count_of limits.now kind }
-{
-    match kind {
-        Kind::Pid => limits.pids,
-        Kind::Row => limits.rows,
     }
 }
 

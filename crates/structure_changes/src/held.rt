@@ -2,14 +2,13 @@
 ghost use Rattle.std.specs.Prelude.{◌≡◌, Some};
 ghost use Rattle.std.specs.Bool.{Decides};
 ghost use Rattle.base_page.specs.declared.item.Content.TheVariants.{Child};
-ghost use Rattle.base_page.specs.Rules.{held_count, is_held};
 ghost use Rattle.traces.specs.chain.Chains.{content_in, low_in};
 ghost use Rattle.row_chain.specs.Placed.{IsReadChain};
 ghost use Rattle.structure_changes.specs.Reads.{IsReadPage};
 ghost use Rattle.structure_changes.specs.Sizes.{HasNoneHeld};
 
 use crate::PageInHand;
-use base_page::{Content, Item};
+use base_page::{Content, held_count};
 use row_chain::Chain;
 use row_search::{KeyWords, Rows};
 use std::alloc::Allocator;
@@ -38,29 +37,6 @@ pub(crate) fn has_term<R: Rows, A: Allocator>(
         ) => child == page.pid() && mark == held,
         _ => false,
     }
-}
-
-/// Whether the content is a held term.
-pub(crate) fn is_held(content: &Content) -> bool
-    ensures { result ≡ is_held content.now }
-{
-    match content {
-        Content::Value(_) => false,
-        Content::Child { held, .. } => *held,
-    }
-}
-
-/// How many of the items are held terms.
-pub(crate) fn held_count(items: &[Item]) -> usize
-    ensures { result ≡ held_count items.now }
-{
-    let mut count = 0;
-    for item in items {
-        if is_held(&item.content) {
-            count += 1;
-        }
-    }
-    count
 }
 
 /// Whether no term of the page is held; on a leaf there is none.

@@ -6,9 +6,9 @@ ghost use Rattle.structure_changes.specs.Holds.{CanHold, HasFreeNeighbours, IsHo
 ghost use Rattle.structure_changes.specs.Reads.{IsReadPage};
 
 use crate::PageInHand;
-use crate::held::{has_term, held_count, is_held};
+use crate::held::has_term;
 use crate::sizes::MANY_DELTAS;
-use base_page::{Item, MAX_HELD};
+use base_page::{Item, MAX_HELD, held_count, is_held};
 use bw_model::Key;
 use deltas::Hold;
 use row_search::Rows;

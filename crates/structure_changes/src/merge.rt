@@ -4,9 +4,9 @@ ghost use Rattle.structure_changes.specs.Merges.{CanMerge, IsMergePlan};
 ghost use Rattle.structure_changes.specs.Reads.{IsReadPage};
 
 use crate::PageInHand;
-use crate::held::held_count;
 use crate::neighbours::is_next_to;
 use crate::sizes::{MANY_DELTAS, MANY_ITEMS};
+use base_page::held_count;
 use bw_model::Key;
 use deltas::Merge;
 use row_search::Rows;

@@ -5,9 +5,8 @@ ghost use Rattle.structure_changes.specs.Reads.{IsReadPage};
 ghost use Rattle.structure_changes.specs.Splits.{CanSplit, IsSplitPlace, IsSplitPlan, split_to};
 
 use crate::PageInHand;
-use crate::held::is_held;
 use crate::sizes::{MANY_DELTAS, MANY_ITEMS};
-use base_page::{Items, Page};
+use base_page::{Items, Page, is_held};
 use deltas::Split;
 use row_search::Rows;
 use std::alloc::Allocator;

@@ -1,12 +1,11 @@
 //! What a page says of a key.
-ghost use Rattle.std.specs.Prelude.{◌≡◌, ◌+◌, ◌-◌, ◌<◌, ◌≤◌, ◌↔◌, ◌⊎◌, IsTrue, MatchOption, Some, length, not, option_copied, slice_index_or};
+ghost use Rattle.std.specs.Prelude.{◌≡◌, ◌-◌, ◌<◌, ◌≤◌, ◌⊎◌, MatchOption, Some, length, not, option_copied, slice_index_or};
 ghost use Rattle.bw_model.specs.Bytes.{is_below, is_in_range};
 ghost use Rattle.base_page.specs.Pages.{child_in, content_at, value_in, IsPage};
 ghost use Rattle.base_page.specs.Places.{IsGreatestChild, HasNoChild};
 ghost use Rattle.base_page.specs.declared.item.Item.{Item};
-ghost use Rattle.base_page.specs.declared.items.TheConstants.{MAX_ITEMS};
 
-use crate::{Content, MAX_ITEMS, Page};
+use crate::{Content, Page};
 use bw_model::{Key, Value};
 
 impl Page {
@@ -21,13 +20,6 @@ impl Page {
             None => true,
             Some(high) => key.cmp(high).is_lt(),
         }
-    }
-
-    /// Whether `count` more items have room.
-    pub fn has_room(&self, count: usize) -> bool
-        ensures { IsTrue result ↔ (length self.now.items + count ≤ MAX_ITEMS) }
-    {
-        count <= MAX_ITEMS - self.items.len()
     }
 
     /// What the page has at the key.
