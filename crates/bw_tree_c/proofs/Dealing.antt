@@ -11,7 +11,7 @@ use Rattle.running_tree.specs.Seats.{Seat}
 use Rattle.bw_tree_c.specs.Handles.{IsReceipt}
 use Rattle.bw_tree_c.specs.Opened.{HasAllAuthors, IsFirstNote}
 use Rattle.bw_tree_c.specs.declared.receipt.Receipt.{Receipt}
-use Rattle.bw_tree_c.specs.declared.shared.Shared.{Shared}
+use Rattle.bw_tree_c.specs.declared.handle.shared.Shared.{Shared}
 use Rattle.bw_tree_c.specs.Hands.{AreSlotsOf, HasLater, IsHandOf, IsLeftOf, IsSlotOf, SeatHand, first_opened, opened_of}
 use Rattle.bw_tree_c.proofs.Hands.{is_last, pushed_at, stays}
 use Rattle.bw_tree_c.proofs.Later.{later_self}

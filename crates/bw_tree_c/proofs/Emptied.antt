@@ -18,10 +18,10 @@ use Rattle.bw_tree_c.specs.Left.{ArePairsLeft, IsLeft, IsLeftAt}
 use Rattle.bw_tree_c.specs.Places.{HasObserved}
 use Rattle.bw_tree_c.specs.Seats.{IsLater}
 use Rattle.bw_tree_c.specs.Shown.{ShowFirst}
-use Rattle.bw_tree_c.specs.declared.bytes.Pair.{Pair}
-use Rattle.bw_tree_c.specs.declared.left.LeftPairs.{LeftPairs}
+use Rattle.bw_tree_c.specs.declared.c_types.Pair.{Pair}
+use Rattle.bw_tree_c.specs.declared.closing.waiting.LeftPairs.{LeftPairs}
 use Rattle.bw_tree_c.specs.declared.receipt.Receipt.{Receipt}
-use Rattle.bw_tree_c.specs.declared.shared.Shared.{Shared}
+use Rattle.bw_tree_c.specs.declared.handle.shared.Shared.{Shared}
 use Rattle.bw_tree_c.proofs.Places.{may_write, wrote_nothing, wrote_only}
 
 -- All seats of a handle were in a hand, and the log has the event.

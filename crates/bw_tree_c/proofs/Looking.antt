@@ -15,7 +15,7 @@ use Rattle.bw_tree_c.specs.Hands.{SeatHand}
 use Rattle.bw_tree_c.specs.Places.{HasObserved}
 use Rattle.bw_tree_c.specs.Seats.{IsLater}
 use Rattle.bw_tree_c.specs.declared.receipt.Receipt.{Receipt}
-use Rattle.bw_tree_c.specs.declared.shared.Shared.{Shared}
+use Rattle.bw_tree_c.specs.declared.handle.shared.Shared.{Shared}
 use Rattle.bw_tree_c.proofs.Places.{wrote_nothing}
 
 stage_most : (opened : List Seat) (log : List (Event Seat)) → IsLog IsLater opened log → stage_of log ≤ 2

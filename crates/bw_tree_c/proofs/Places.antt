@@ -18,7 +18,7 @@ use Rattle.bw_tree_c.specs.Seats.{IsLater}
 use Rattle.bw_tree_c.specs.declared.place.Place.{Place}
 use Rattle.bw_tree_c.specs.declared.receipt.Receipt.{Receipt}
 use Rattle.bw_tree_c.specs.declared.receipt.Told.{Told}
-use Rattle.bw_tree_c.specs.declared.shared.Shared.{Shared}
+use Rattle.bw_tree_c.specs.declared.handle.shared.Shared.{Shared}
 use Rattle.bw_tree_c.proofs.Later.{later_on}
 
 abbrev pub first_or : Seat → List Seat → Seat

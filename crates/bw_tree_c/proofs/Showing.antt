@@ -2,7 +2,7 @@
 use Rattle.std.proofs.Common.{◌≡◌, ◌<◌, ◌+◌, ℕ, zero, suc, List, [], ◌∷◌, Some, arith, length, refl, set, subst, sym, ◌∙◌}
 use Rattle.std.specs.Prelude.{slice_get}
 use Rattle.std.proofs.lemmas.Option.{same_Some}
-use Rattle.bw_tree_c.specs.declared.bytes.Pair.{Pair}
+use Rattle.bw_tree_c.specs.declared.c_types.Pair.{Pair}
 use Rattle.bw_tree_c.specs.Shown.{ShowFirst, ShowsPair}
 
 pub none_shown : (pairs : List (List ℕ × List ℕ)) (ats : List Pair) → ShowFirst 0 pairs ats

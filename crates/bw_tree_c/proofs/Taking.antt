@@ -18,10 +18,10 @@ use Rattle.bw_tree_c.specs.Closing.{IsLeftFor}
 use Rattle.bw_tree_c.specs.Handles.{MayCall, kind_of}
 use Rattle.bw_tree_c.specs.Places.{HasObserved}
 use Rattle.bw_tree_c.specs.Seats.{IsLater}
-use Rattle.bw_tree_c.specs.declared.ending.Out.{Out}
-use Rattle.bw_tree_c.specs.declared.left.LeftPairs.{LeftPairs}
+use Rattle.bw_tree_c.specs.declared.closing.seats.Out.{Out}
+use Rattle.bw_tree_c.specs.declared.closing.waiting.LeftPairs.{LeftPairs}
 use Rattle.bw_tree_c.specs.declared.receipt.Receipt.{Receipt}
-use Rattle.bw_tree_c.specs.declared.shared.Shared.{Shared}
+use Rattle.bw_tree_c.specs.declared.handle.shared.Shared.{Shared}
 use Rattle.bw_tree_c.proofs.Emptied.{left_for}
 use Rattle.bw_tree_c.proofs.Hands.{is_last, pushed_at, some_case}
 use Rattle.bw_tree_c.proofs.Places.{may_write}

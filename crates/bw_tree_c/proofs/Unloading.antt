@@ -5,8 +5,8 @@ use Rattle.running_tree.specs.Loaded.{IsStopped}
 use Rattle.running_tree.specs.declared.called.Called.TheVariants as called
 use Rattle.running_tree.specs.declared.filling.TheConstants.{LOAD_BUDGET}
 use Rattle.bw_tree_c.specs.Loaded.{IsUnloaded, given_pair}
-use Rattle.bw_tree_c.specs.declared.answers.TheConstants.{FULL, SPENT}
-use Rattle.bw_tree_c.specs.declared.bytes.Pair.{Pair}
+use Rattle.bw_tree_c.specs.declared.statuses.TheConstants.{FULL, SPENT}
+use Rattle.bw_tree_c.specs.declared.c_types.Pair.{Pair}
 use Rattle.tree_limits.specs.declared.limits.Limits.{Limits}
 
 module _ (limits : Limits) (given : List Pair) where

@@ -5,8 +5,8 @@ use Rattle.call_log.specs.Logs.{seats_after}
 use Rattle.bw_tree_c.specs.Hands.{SeatHand, opened_of}
 use Rattle.bw_tree_c.specs.Left.{ArePairsLeft, IsLeft, WaitsIn}
 use Rattle.bw_tree_c.specs.Receipts.{HasViewOf}
-use Rattle.bw_tree_c.specs.declared.left.LeftPairs.{LeftPairs}
-use Rattle.bw_tree_c.specs.declared.left.Waiting.{Waiting}
+use Rattle.bw_tree_c.specs.declared.closing.waiting.LeftPairs.{LeftPairs}
+use Rattle.bw_tree_c.specs.declared.closing.waiting.Waiting.{Waiting}
 
 pub waits : (slot : SeatHand) (left : LeftPairs) (waiting : Waiting) → IsLeft slot left → waiting.pairs ≡ left.pairs → waiting.hand.table_id ≡ left.hand.table_id
     → waiting.hand.views ≡ left.hand.me.0 ∷ [] → WaitsIn slot waiting

@@ -4,12 +4,12 @@ use Rattle.bw_model.specs.declared.command.Command.{Command}
 use Rattle.seats.specs.Replies.{many}
 use Rattle.bw_tree_c.specs.Handles.{OnSeat}
 use Rattle.bw_tree_c.specs.Running.{IsRunToValue, IsRunFurther, IsRunToPage, IsTidied, IsWatched, TellsIdle}
-use Rattle.bw_tree_c.specs.declared.bytes.Bytes.{Bytes}
-use Rattle.bw_tree_c.specs.declared.bytes.FreeRoom.{FreeRoom}
-use Rattle.bw_tree_c.specs.declared.bytes.Page.{Page}
+use Rattle.bw_tree_c.specs.declared.c_types.Bytes.{Bytes}
+use Rattle.bw_tree_c.specs.declared.c_types.FreeRoom.{FreeRoom}
+use Rattle.bw_tree_c.specs.declared.c_types.Page.{Page}
 use Rattle.bw_tree_c.specs.declared.receipt.Receipt.{Receipt}
 use Rattle.bw_tree_c.specs.declared.receipt.Told.{Told}
-use Rattle.bw_tree_c.specs.declared.shared.Shared.{Shared}
+use Rattle.bw_tree_c.specs.declared.handle.shared.Shared.{Shared}
 
 -- a command whose reply may have a value, with a budget of steps
 abbrev pub ComesWithin : Option Shared → ℕ → Command → ℕ → Receipt → Told → Bytes → Bytes → Type 0

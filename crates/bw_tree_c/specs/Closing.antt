@@ -14,10 +14,10 @@ use Rattle.bw_tree_c.specs.Handles.{HasSeenLog, HaveAdded, IsBehind, IsReceipt, 
 use Rattle.bw_tree_c.specs.Left.{ArePairsLeft, IsLeftAt}
 use Rattle.bw_tree_c.specs.Seats.{IsLater}
 use Rattle.bw_tree_c.specs.Shown.{ShowFirst}
-use Rattle.bw_tree_c.specs.declared.bytes.Pair.{Pair}
-use Rattle.bw_tree_c.specs.declared.left.LeftPairs.{LeftPairs}
+use Rattle.bw_tree_c.specs.declared.c_types.Pair.{Pair}
+use Rattle.bw_tree_c.specs.declared.closing.waiting.LeftPairs.{LeftPairs}
 use Rattle.bw_tree_c.specs.declared.receipt.Receipt.{Receipt}
-use Rattle.bw_tree_c.specs.declared.shared.Shared.{Shared}
+use Rattle.bw_tree_c.specs.declared.handle.shared.Shared.{Shared}
 
 -- The log of the handle is as far as this stage, and has all that the caller had seen: 0 while the tree is open, 1 once it is closed and its pairs wait, and 2 once nothing waits.
 -- The caller's authors, which the receipt has, wrote nothing more.

@@ -16,7 +16,7 @@ use Rattle.bw_tree_c.specs.declared.receipt.Receipt.{Receipt}
 use Rattle.bw_tree_c.specs.declared.receipt.Told.{Told}
 use Rattle.bw_tree_c.specs.declared.refusal.Refusal.{Refusal}
 use Rattle.bw_tree_c.specs.declared.refusal.Refusal.TheVariants.{Closed, NoSeat}
-use Rattle.bw_tree_c.specs.declared.shared.Shared.{Shared}
+use Rattle.bw_tree_c.specs.declared.handle.shared.Shared.{Shared}
 
 -- The slot of this number.
 abbrev pub HasSlot : Option Shared → ℕ → SeatHand → Type 0

@@ -14,8 +14,8 @@ use Rattle.running_tree.specs.Trees.{AreClosed, IsSeatOf, Tree}
 use Rattle.seats.specs.Idle.{AreIdle}
 use Rattle.bw_tree_c.specs.Hands.{HasBelow, HasLater, SeatHand, opened_of}
 use Rattle.bw_tree_c.specs.Seats.{IsLater}
-use Rattle.bw_tree_c.specs.declared.left.LeftPairs.{LeftPairs}
-use Rattle.bw_tree_c.specs.declared.left.Waiting.{Waiting}
+use Rattle.bw_tree_c.specs.declared.closing.waiting.LeftPairs.{LeftPairs}
+use Rattle.bw_tree_c.specs.declared.closing.waiting.Waiting.{Waiting}
 
 -- All seats are of these limits.
 abbrev pub AreOfLimits : Limits → List Seat → Type 0

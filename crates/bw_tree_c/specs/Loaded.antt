@@ -10,10 +10,10 @@ use Rattle.running_tree.specs.Loaded.{AreLoaded, IsStopped, KeysAscend}
 use Rattle.running_tree.specs.Seats.{Seat}
 use Rattle.running_tree.specs.Trees.{Tree}
 use Rattle.bw_tree_c.specs.Shown.{ShowsLimits, bytes_in}
-use Rattle.bw_tree_c.specs.declared.answers.TheConstants.{BAD_LIMITS, BAD_ORDER, FULL, NO_MEMORY, OK, OPEN, SPENT, TOO_LONG}
-use Rattle.bw_tree_c.specs.declared.bytes.Pair.{Pair}
-use Rattle.bw_tree_c.specs.declared.bytes.TreeLimits.{TreeLimits}
-use Rattle.bw_tree_c.specs.declared.shared.Shared.{Shared}
+use Rattle.bw_tree_c.specs.declared.statuses.TheConstants.{BAD_LIMITS, BAD_ORDER, FULL, NO_MEMORY, OK, OPEN, SPENT, TOO_LONG}
+use Rattle.bw_tree_c.specs.declared.c_types.Pair.{Pair}
+use Rattle.bw_tree_c.specs.declared.c_types.TreeLimits.{TreeLimits}
+use Rattle.bw_tree_c.specs.declared.handle.shared.Shared.{Shared}
 
 -- the pair that is given
 abbrev pub given_pair : Pair → List ℕ × List ℕ

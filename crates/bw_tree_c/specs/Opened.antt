@@ -9,8 +9,8 @@ use Rattle.running_tree.specs.Seats.{Seat}
 use Rattle.running_tree.specs.Trees.{AreFresh, Tree}
 use Rattle.bw_tree_c.specs.Hands.{SeatHand}
 use Rattle.bw_tree_c.specs.Shown.{ShowsLimits}
-use Rattle.bw_tree_c.specs.declared.bytes.TreeLimits.{TreeLimits}
-use Rattle.bw_tree_c.specs.declared.shared.Shared.{Shared}
+use Rattle.bw_tree_c.specs.declared.c_types.TreeLimits.{TreeLimits}
+use Rattle.bw_tree_c.specs.declared.handle.shared.Shared.{Shared}
 
 -- The seats are those of one tree of these limits, one for each actor, in order, and have seen nothing.
 pub record IsOpenedAt (asked : Limits) (seats : List Seat) : Type 0 where

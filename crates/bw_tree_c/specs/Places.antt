@@ -12,7 +12,7 @@ use Rattle.bw_tree_c.specs.Hands.{HasLater, IsHandOf, SeatHand, opened_of}
 use Rattle.bw_tree_c.specs.Seats.{IsLater}
 use Rattle.bw_tree_c.specs.declared.place.Place.{Place}
 use Rattle.bw_tree_c.specs.declared.receipt.Receipt.{Receipt}
-use Rattle.bw_tree_c.specs.declared.shared.Shared.{Shared}
+use Rattle.bw_tree_c.specs.declared.handle.shared.Shared.{Shared}
 
 -- The place has the slot's seat, as the log has it.
 pub record IsKin (slot : SeatHand) (place : Place) : Type 0 where

@@ -12,10 +12,10 @@ use Rattle.seats.specs.Replies.{many}
 use Rattle.bw_tree_c.specs.Shown.{ShowsRoom}
 use Rattle.bw_tree_c.specs.Statuses.{status_of_called}
 use Rattle.bw_tree_c.specs.Told.{ShowsPageOf, ShowsValueOf}
-use Rattle.bw_tree_c.specs.declared.answers.TheConstants.{OK, UNFINISHED, IDLE}
-use Rattle.bw_tree_c.specs.declared.bytes.Bytes.{Bytes}
-use Rattle.bw_tree_c.specs.declared.bytes.FreeRoom.{FreeRoom}
-use Rattle.bw_tree_c.specs.declared.bytes.Page.{Page}
+use Rattle.bw_tree_c.specs.declared.statuses.TheConstants.{OK, UNFINISHED, IDLE}
+use Rattle.bw_tree_c.specs.declared.c_types.Bytes.{Bytes}
+use Rattle.bw_tree_c.specs.declared.c_types.FreeRoom.{FreeRoom}
+use Rattle.bw_tree_c.specs.declared.c_types.Page.{Page}
 
 -- A command was called with a budget of steps, in one history; its status and the rest are told.
 pub record WasCalled (seat : Seat) (command : Command) (budget answer : ℕ) (tells : Called → Type 0) (next : Seat) : Type 0 where

@@ -3,11 +3,11 @@ use Rattle.std.specs.Prelude.{slice_get, ◌<◌, ◌≡◌, ◌⊎◌, ℕ, Lis
 use Rattle.running_tree.specs.declared.room.Room.{Room}
 use Rattle.tree_limits.specs.Limits.{AreLargeLimits, AreLimits, AreWidths}
 use Rattle.tree_limits.specs.declared.limits.Limits.{Limits}
-use Rattle.bw_tree_c.specs.declared.bytes.Bytes.{Bytes}
-use Rattle.bw_tree_c.specs.declared.bytes.FreeRoom.{FreeRoom}
-use Rattle.bw_tree_c.specs.declared.bytes.Page.{Page}
-use Rattle.bw_tree_c.specs.declared.bytes.Pair.{Pair}
-use Rattle.bw_tree_c.specs.declared.bytes.TreeLimits.{TreeLimits}
+use Rattle.bw_tree_c.specs.declared.c_types.Bytes.{Bytes}
+use Rattle.bw_tree_c.specs.declared.c_types.FreeRoom.{FreeRoom}
+use Rattle.bw_tree_c.specs.declared.c_types.Page.{Page}
+use Rattle.bw_tree_c.specs.declared.c_types.Pair.{Pair}
+use Rattle.bw_tree_c.specs.declared.c_types.TreeLimits.{TreeLimits}
 
 -- the bytes that C may read
 abbrev pub bytes_in : Bytes → List ℕ

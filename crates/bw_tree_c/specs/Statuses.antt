@@ -4,7 +4,7 @@ use Rattle.bw_model.specs.declared.command.Reply.{Reply}
 use Rattle.bw_model.specs.declared.command.Reply.TheVariants as reply
 use Rattle.running_tree.specs.declared.called.Called.{Called}
 use Rattle.running_tree.specs.declared.called.Called.TheVariants.{Done, Spent}
-use Rattle.bw_tree_c.specs.declared.answers.TheConstants.{OK, ABSENT, EXISTS, REPLACED, DIFFERS, FULL, SPENT, CLOSED, NO_MEMORY, NO_SEAT, BUSY, UNFINISHED}
+use Rattle.bw_tree_c.specs.declared.statuses.TheConstants.{OK, ABSENT, EXISTS, REPLACED, DIFFERS, FULL, SPENT, CLOSED, NO_MEMORY, NO_SEAT, BUSY, UNFINISHED}
 use Rattle.bw_tree_c.specs.declared.refusal.Refusal.{Refusal}
 use Rattle.bw_tree_c.specs.declared.refusal.Refusal.TheVariants.{Busy, Closed, NoMemory, NoSeat, Unfinished}
 

@@ -4,8 +4,8 @@ use Rattle.bw_model.specs.declared.command.Reply.{Reply}
 use Rattle.bw_model.specs.declared.command.Reply.TheVariants as reply
 use Rattle.running_tree.specs.declared.called.Called.{Called}
 use Rattle.running_tree.specs.declared.called.Called.TheVariants.{Done, Spent}
-use Rattle.bw_tree_c.specs.declared.bytes.Bytes.{Bytes}
-use Rattle.bw_tree_c.specs.declared.bytes.Page.{Page}
+use Rattle.bw_tree_c.specs.declared.c_types.Bytes.{Bytes}
+use Rattle.bw_tree_c.specs.declared.c_types.Page.{Page}
 use Rattle.bw_tree_c.specs.Shown.{ShowsBytes, ShowsWholePage}
 
 -- the value that a reply has, if it has one

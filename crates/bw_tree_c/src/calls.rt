@@ -5,12 +5,12 @@ ghost use Rattle.bw_model.specs.declared.short_bytes.TheConstants.{MAX_LENGTH};
 ghost use Rattle.bw_tree_c.specs.Calls.{ComesToValue, ComesTidied, ComesWithin};
 ghost use Rattle.bw_tree_c.specs.Handles.{MayCall};
 
-use crate::answers::{CLOSED, SPENT, TOO_LONG};
-use crate::bytes::Bytes;
+use crate::c_types::Bytes;
+use crate::handle::shared::Shared;
 use crate::handle::{Taken, TreeHandle, take_in};
 use crate::receipt::{Receipt, Told};
-use crate::shared::Shared;
 use crate::slot::finish;
+use crate::statuses::{CLOSED, SPENT, TOO_LONG};
 use bw_model::{Command, Key, Value};
 use seats::BUDGET;
 

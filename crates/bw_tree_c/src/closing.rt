@@ -3,14 +3,18 @@ ghost use Rattle.std.specs.Prelude.{◌≡◌, ◌≢◌, ◌⊎◌, None};
 ghost use Rattle.bw_tree_c.specs.Closing.{CanEmpty, CanForget, HasClosed, IsClosedBy, IsForgotten};
 ghost use Rattle.bw_tree_c.specs.Handles.{MayCall};
 
-use crate::answers::{BUSY, CLOSED, OK};
+pub(crate) mod pairs;
+mod seats;
+pub(crate) mod waiting;
+
+use crate::closing::waiting::{leave_left, take_left};
 use crate::handle::TreeHandle;
-use crate::handle_log::SeatHand;
-use crate::left::{leave_left, take_left};
+use crate::handle::log::SeatHand;
+use crate::handle::shared::Shared;
 use crate::receipt::{Receipt, Told};
 use crate::refusal::Refusal;
-use crate::shared::Shared;
 use crate::slot::close_all;
+use crate::statuses::{BUSY, CLOSED, OK};
 use call_log::{copied, emptied, looked, observed};
 
 /// Closes the tree, and frees it, unless a call is inside a seat.

@@ -4,10 +4,14 @@ ghost use Rattle.call_log.specs.declared.log.Kind.TheVariants.{Open};
 ghost use Rattle.bw_tree_c.specs.Handles.{IsOpenToAll, IsRefused, kind_of};
 ghost use Rattle.bw_tree_c.specs.Places.{IsKin};
 
-use crate::kept::Kept;
+mod kept;
+pub(crate) mod log;
+pub(crate) mod shared;
+
+use crate::handle::kept::Kept;
+use crate::handle::shared::Shared;
 use crate::place::Place;
 use crate::refusal::Refusal;
-use crate::shared::Shared;
 use crate::slot::{Slot, take};
 
 /// The handle of a tree: never opened, as where all its bytes are zero, or opened. All threads share it.

@@ -14,28 +14,20 @@
 //! static library may link neither.
 #![tactic(auto)]
 
-mod answers;
-mod asking;
-mod bytes;
+mod box_pointer;
+mod c_types;
 mod calls;
 mod closing;
-mod ending;
-mod given;
-mod handing;
 mod handle;
-mod handle_log;
-mod kept;
-mod left;
 mod loading;
-mod loose;
 mod opening;
 mod pages;
 mod place;
+mod queries;
 mod receipt;
 mod refusal;
 mod running;
-mod seeing;
-mod shared;
 mod slot;
+mod statuses;
 #[cfg(test)]
 mod tests;

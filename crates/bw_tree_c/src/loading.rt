@@ -9,14 +9,13 @@ ghost use Rattle.bw_tree_c.specs.Loaded.{AreShort, HasOpenedWith, IsLoadedWith, 
 ghost use Rattle.bw_tree_c.specs.Opened.{IsFirstNote};
 ghost use Rattle.bw_tree_c.specs.Shown.{AreOpenable};
 
-use crate::answers::{BAD_LIMITS, BAD_ORDER, FULL, NO_MEMORY, OK, OPEN, SPENT, TOO_LONG};
-use crate::bytes::{Pair, TreeLimits};
-use crate::given::pairs_of;
+use crate::c_types::{Pair, TreeLimits, pairs_of};
 use crate::handle::TreeHandle;
-use crate::handle_log::SeatHand;
+use crate::handle::log::SeatHand;
+use crate::handle::shared::Shared;
 use crate::opening::shared_with_seats;
 use crate::receipt::Told;
-use crate::shared::Shared;
+use crate::statuses::{BAD_LIMITS, BAD_ORDER, FULL, NO_MEMORY, OK, OPEN, SPENT, TOO_LONG};
 use bw_model::Limits;
 use running_tree::{Called, LoadError};
 use seats::opened_from;

@@ -2,7 +2,7 @@
 ghost use Rattle.std.specs.Arc.{arc_value};
 ghost use Rattle.running_tree.specs.Trees.{IsSeatOf};
 
-use crate::handle_log::SeatHand;
+use crate::handle::log::SeatHand;
 use bw_model::Reply;
 use running_tree::{BwSeat, Tree};
 use std::sync::Arc;

@@ -4,11 +4,13 @@ ghost use base.Stored.{coded_list};
 ghost use Rattle.atomic_table.specs.Seated.{TableId, table_id_coded, badge_owns};
 ghost use Rattle.call_log.specs.declared.log.Knows.{Knows as KnowsOf};
 ghost use Rattle.running_tree.specs.Seats.{Seat};
+ghost use Rattle.bw_tree_c.specs.Places.{HasObserved};
 ghost use Rattle.bw_tree_c.specs.Receipts.{HasViewOf, knows_row};
 
-use crate::handle_log::SeatHand;
+use crate::handle::log::SeatHand;
+use crate::handle::shared::Shared;
 use atomic_table::Badge;
-use call_log::Knows;
+use call_log::{Knows, looked};
 use running_tree::BwSeat;
 use std::marker::Model;
 
@@ -109,5 +111,15 @@ impl Told {
             status,
             receipt: Receipt::of(hand),
         }
+    }
+}
+
+impl Shared {
+    /// What has seen all that a receipt has, if that is of this handle's log.
+    pub(crate) fn seen_by(&self, since: Receipt) -> SeatHand
+        ensures { HasObserved self.now since result }
+    {
+        let (_, note) = looked(&self.log.shared);
+        since.or(note)
     }
 }

@@ -2,7 +2,7 @@
 ghost use Rattle.std.specs.Prelude.{◌≡◌};
 ghost use Rattle.bw_tree_c.specs.Statuses.{status_of_refusal};
 
-use crate::answers::{BUSY, CLOSED, NO_MEMORY, NO_SEAT, UNFINISHED};
+use crate::statuses::{BUSY, CLOSED, NO_MEMORY, NO_SEAT, UNFINISHED};
 
 /// Why a call doesn't run.
 #[derive(Clone, Copy)]

@@ -5,11 +5,11 @@ ghost use Rattle.bw_tree_c.specs.Places.{CanWriteSeat, IsWritten};
 ghost use Rattle.bw_tree_c.specs.Running.{IsRunToValue, IsRunFurther, IsRunToPage, IsTidied, IsWatched, TellsIdle};
 ghost use Rattle.bw_tree_c.specs.Seats.{IsLater};
 
-use crate::answers::{IDLE, OK, UNFINISHED, status_of_called, tell_page, tell_value};
-use crate::bytes::{Bytes, FreeRoom, Page};
-use crate::handle_log::SeatHand;
+use crate::c_types::{Bytes, FreeRoom, Page};
+use crate::handle::log::SeatHand;
+use crate::handle::shared::Shared;
 use crate::place::Place;
-use crate::shared::Shared;
+use crate::statuses::{IDLE, OK, UNFINISHED, status_of_called, tell_page, tell_value};
 use bw_model::{Command, Key};
 use call_log::written;
 use seats::{BUDGET, called_in, resumed_in};

@@ -9,12 +9,12 @@ ghost use Rattle.bw_tree_c.specs.Handles.{MayCall, kind_of};
 ghost use Rattle.bw_tree_c.specs.Places.{CanFinish, IsFinished, IsKin};
 ghost use Rattle.bw_tree_c.specs.Refused.{IsPassing};
 
-use crate::handle_log::SeatHand;
-use crate::loose::Loose;
+use crate::box_pointer::BoxPointer;
+use crate::handle::log::SeatHand;
+use crate::handle::shared::Shared;
 use crate::place::Place;
 use crate::receipt::{Receipt, Told};
 use crate::refusal::Refusal;
-use crate::shared::Shared;
 use bw_model::Reply;
 use call_log::joined;
 use counted_slot::{Counted, Fits, TAKEN};
@@ -33,7 +33,7 @@ const CLOSED: u64 = 2 << 32;
 
 /// A seat in its slot, which nobody uses.
 pub struct AtHome {
-    place: Loose<Place, Global>,
+    place: BoxPointer<Place, Global>,
 }
 
 impl AtHome {
@@ -92,7 +92,7 @@ fn put(slot: &Slot, word: u64, place: Box<Place>)
         claim.done();
         return;
     }
-    let place = Loose::of(place);
+    let place = BoxPointer::of(place);
     let _ = claim.put(Some(AtHome { place }), HOME);
 }
 

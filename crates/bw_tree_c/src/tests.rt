@@ -2,26 +2,26 @@
 ghost use Rattle.std.specs.Prelude.{◌≡◌};
 ghost use Rattle.bw_tree_c.specs.Seats.{IsLater};
 
-use crate::answers::{
-    ABSENT, BAD_LIMITS, BAD_ORDER, BUSY, CLOSED, DIFFERS, EXISTS, IDLE, NO_ROOM, NO_SEAT, OK, OPEN,
-    REPLACED, SPENT, TOO_LONG, UNFINISHED,
-};
-use crate::asking::{bwtree_raw_is_idle, bwtree_raw_room};
-use crate::bytes::{Bytes, FreeRoom, Page, Pair, TreeLimits};
+use crate::c_types::{Bytes, FreeRoom, Page, Pair, TreeLimits};
 use crate::calls::{
     bwtree_raw_add, bwtree_raw_delete, bwtree_raw_delete_if, bwtree_raw_get, bwtree_raw_get_within,
     bwtree_raw_insert, bwtree_raw_swap, bwtree_raw_tidy, bwtree_raw_upsert,
     bwtree_raw_upsert_within,
 };
 use crate::closing::bwtree_raw_close;
-use crate::handing::bwtree_raw_close_pairs;
+use crate::closing::pairs::bwtree_raw_close_pairs;
 use crate::handle::{Taken, TreeHandle, take_in};
 use crate::loading::bwtree_raw_open_from;
 use crate::opening::{bwtree_raw_limits_for_keys, bwtree_raw_open, bwtree_raw_vacate};
 use crate::pages::{bwtree_raw_back, bwtree_raw_page, bwtree_raw_resume};
 use crate::place::Place;
+use crate::queries::{bwtree_raw_is_idle, bwtree_raw_room};
 use crate::receipt::Receipt;
 use crate::slot::finish;
+use crate::statuses::{
+    ABSENT, BAD_LIMITS, BAD_ORDER, BUSY, CLOSED, DIFFERS, EXISTS, IDLE, NO_ROOM, NO_SEAT, OK, OPEN,
+    REPLACED, SPENT, TOO_LONG, UNFINISHED,
+};
 use bw_model::{Command, Key};
 use seats::called;
 use std::alloc::Global;

@@ -1,13 +1,13 @@
 //! Limits of large trees: what is proposed, and what openings answer.
 
 use super::{no_bytes, no_limits, nothing};
-use crate::answers::{ABSENT, BAD_LIMITS, NO_SEAT, OK};
 use crate::calls::bwtree_raw_get;
 use crate::closing::bwtree_raw_close;
 use crate::handle::TreeHandle;
 use crate::opening::{
     bwtree_raw_limits_for_many_keys, bwtree_raw_limits_for_pairs, bwtree_raw_open,
 };
+use crate::statuses::{ABSENT, BAD_LIMITS, NO_SEAT, OK};
 use std::alloc::Global;
 
 /// What openings of large trees answer, and of limits of neither kind.

@@ -1,0 +1,64 @@
+//! What is asked of a seat and its tree, without a step.
+ghost use Rattle.std.specs.Prelude.{Some};
+ghost use Rattle.bw_tree_c.specs.Calls.{ComesIdle, ComesWatched};
+ghost use Rattle.bw_tree_c.specs.Handles.{MayCall};
+
+use crate::c_types::FreeRoom;
+use crate::handle::shared::Shared;
+use crate::handle::{Taken, TreeHandle, take_in};
+use crate::receipt::{Receipt, Told};
+use crate::slot::finish;
+use crate::statuses::CLOSED;
+
+/// Whether a call may begin on the seat.
+#[unsafe(no_mangle)]
+pub extern "C" fn bwtree_raw_is_idle(tree: &TreeHandle, seat: u32, since: Receipt) -> Told
+    ensures { ComesIdle tree.now.kept.value seat since result }
+{
+    match tree.shared() {
+        Some(shared) => is_idle_in(shared, seat, since),
+        None => Told::refused(CLOSED, since),
+    }
+}
+
+/// Whether a call may begin on a seat of a handle.
+fn is_idle_in(shared: &'static Shared, seat: u32, since: Receipt) -> Told
+    requires { MayCall shared.now since }
+    ensures { ComesIdle (Some shared.now) seat since result }
+{
+    let Taken { slot, mut place } = match take_in(shared, seat) {
+        Ok(taken) => taken,
+        Err(refusal) => return Told::refused(refusal.status(), since),
+    };
+    let status = place.tell_idle();
+    finish(shared, slot, place, status, since)
+}
+
+/// How many PIDs and rows are free.
+#[unsafe(no_mangle)]
+pub extern "C" fn bwtree_raw_room(
+    tree: &TreeHandle,
+    seat: u32,
+    room: &mut FreeRoom,
+    since: Receipt,
+) -> Told
+    ensures { ComesWatched tree.now.kept.value seat since result room.old room.new }
+{
+    match tree.shared() {
+        Some(shared) => room_in(shared, seat, room, since),
+        None => Told::refused(CLOSED, since),
+    }
+}
+
+/// How many PIDs and rows of a handle's tree are free.
+fn room_in(shared: &'static Shared, seat: u32, room: &mut FreeRoom, since: Receipt) -> Told
+    requires { MayCall shared.now since }
+    ensures { ComesWatched (Some shared.now) seat since result room.old room.new }
+{
+    let Taken { slot, mut place } = match take_in(shared, seat) {
+        Ok(taken) => taken,
+        Err(refusal) => return Told::refused(refusal.status(), since),
+    };
+    let status = place.watch_room(room);
+    finish(shared, slot, place, status, since)
+}
