@@ -12,7 +12,7 @@ use Rattle.call_log.specs.Steps.{CanEnd, HasEnded, HasLoggedClosing, HasLoggedEm
 use Rattle.call_log.proofs.Logs.{assoc, began_more, by_both, first_of_both, second_of_both}
 use Rattle.running_tree.specs.Seats.{Seat}
 use Rattle.bw_tree_c.specs.Closing.{CanEmpty, CanForget, HandsOver, HasMore, IsClosedBy, IsForgotten, IsLeftFor}
-use Rattle.bw_tree_c.specs.Handles.{MayCall, WroteOnly, kind_of}
+use Rattle.bw_tree_c.specs.Handles.{MayCall, WroteOnly}
 use Rattle.bw_tree_c.specs.Hands.{HasBelow, SeatHand, opened_of}
 use Rattle.bw_tree_c.specs.Left.{ArePairsLeft, IsLeft, IsLeftAt}
 use Rattle.bw_tree_c.specs.Places.{HasObserved}
@@ -37,11 +37,11 @@ module _ (opened : List Seat) (event : Event Seat) (stage : ℕ) (left : List Se
   all = subst (λ o. seats_after o (ended.log ++ event ∷ []) ≡ old.me.0.here) is ended.all
 
   pub now : new.me ≡ (
-    record { first = 0; here = left; stage = stage; kind = old.me.0.kind; authors = old.me.0.authors; logs = known opened (ended.log ++ event ∷ []) ∷ [] },
+    record { first = 0; here = left; stage = stage; authors = old.me.0.authors; logs = known opened (ended.log ++ event ∷ []) ∷ [] },
     [],
   )
   now = ended.now ∙ (λ i. (
-    record { first = 0; here = left; stage = stage; kind = old.me.0.kind; authors = old.me.0.authors; logs = known (is i) (ended.log ++ event ∷ []) ∷ [] },
+    record { first = 0; here = left; stage = stage; authors = old.me.0.authors; logs = known (is i) (ended.log ++ event ∷ []) ∷ [] },
     none i,
   ))
 
@@ -70,7 +70,7 @@ module _ (shared : Shared) (hand : SeatHand) (can : CanForget shared hand) where
     first = ap (λ m. m.0.first) can.me;
     some = subst (λ n. 0 < n) can.count can.some;
     all = ap (λ m. length m.0.here) can.me ∙ can.count;
-    may = subst (λ m. MayWrite m.0.kind m.0.authors) (sym can.me) can.may;
+    may = subst (λ m. MayWrite m.0.authors) (sym can.me) can.may;
     before = subst (λ n. n < 2) (sym (ap (λ m. m.0.stage) can.me)) can.before;
   }
 
@@ -134,7 +134,7 @@ module _ (shared : Shared) (since : Receipt) (may : MayCall shared since) (hand 
 
 -- What has the seats of all slots can close the tree.
 pub can_empty : (shared : Shared) (many : ℕ) (hand : SeatHand) → many ≡ length shared.slots.items
-    → HasBelow shared.log.shared.table_id shared.log.shared.key.items (kind_of shared) many hand → CanEmpty shared hand
+    → HasBelow shared.log.shared.table_id shared.log.shared.key.items many hand → CanEmpty shared hand
 can_empty shared many hand is it = record {
   log = it.has.log;
   rest = it.has.rest;
@@ -150,7 +150,7 @@ can_empty shared many hand is it = record {
 -- The seats of a hand are of a tree that is closed now, and left these pairs.
 module _ (shared : Shared) (since : Receipt) (may : MayCall shared since) (hand other heard : SeatHand) (log : List (Event Seat)) (rest : List (Known Seat)) {seats : List Seat}
     (has : hand.me ≡ (
-      record { first = 0; here = seats; stage = 0; kind = kind_of shared; authors = Nobody; logs = known shared.log.shared.key.items log ∷ rest },
+      record { first = 0; here = seats; stage = 0; authors = Nobody; logs = known shared.log.shared.key.items log ∷ rest },
       [],
     ))
     (observes : HasObserved shared since other) (hears : heard.me ≡ (observing hand.me.0 other.me.0, hand.me.1)) (left : LeftPairs) (closed : HasLoggedClosing IsLater heard.me left.hand.me) where
@@ -164,7 +164,6 @@ module _ (shared : Shared) (since : Receipt) (may : MayCall shared since) (hand 
       let logs : heard.me.0.logs ≡ other.me.0.logs ++ known items log ∷ rest = ap (λ m. m.0.logs) hears ∙ ap (λ m. other.me.0.logs ++ m.0.logs) has in
       let here : heard.me.0.here ≡ hand.me.0.here = ap (λ m. m.0.here) hears in
       let theirs : heard.me.0.authors ≡ other.me.0.authors = ap (λ m. m.0.authors) hears in
-      let its_kind : heard.me.0.kind ≡ kind_of shared = ap (λ m. m.0.kind) hears ∙ ap (λ m. m.0.kind) has in
       let after : seats_after items whole ≡ heard.me.0.here = all items event 1 heard.me.0.here log other.me.0.logs rest heard left.hand none logs closed in
       let after' : seats_after items whole ≡ hand.me.0.here = after ∙ here in record {
         authors = heard.me.0.authors;
@@ -172,7 +171,7 @@ module _ (shared : Shared) (since : Receipt) (may : MayCall shared since) (hand 
           log = whole;
           table = table;
           me = now items event 1 heard.me.0.here log other.me.0.logs rest heard left.hand none logs closed ∙ (λ i. (
-            record { first = 0; here = sym after i; stage = 1; kind = its_kind i; authors = heard.me.0.authors; logs = known items whole ∷ [] },
+            record { first = 0; here = sym after i; stage = 1; authors = heard.me.0.authors; logs = known items whole ∷ [] },
             [],
           ));
           legal = legal items event 1 heard.me.0.here log other.me.0.logs rest heard left.hand none logs closed;
@@ -181,7 +180,7 @@ module _ (shared : Shared) (since : Receipt) (may : MayCall shared since) (hand 
           some = some;
           pairs = subst (λ xs. ArePairsLeft xs left.pairs.items) (sym after') pairs;
         };
-        may = subst (MayWrite (kind_of shared)) (sym theirs) (may_write shared since may other observes);
+        may = subst MayWrite (sym theirs) (may_write shared since may other observes);
         behind = λ was seen is. began_more closed.log seen (event ∷ []) (subst (λ (v : Knows Seat). ExtendsAll items closed.log v.logs) (observes.sees was seen is)
             (first_of_both items closed.log other.me.0.logs hand.me.0.logs (subst (λ m. ExtendsAll items closed.log m.0.logs) hears
             (behind items event 1 heard.me.0.here log other.me.0.logs rest heard left.hand none logs closed)))).0.1;
@@ -192,11 +191,11 @@ module _ (shared : Shared) (since : Receipt) (may : MayCall shared since) (hand 
 
 -- What a tree left waits in its slot, and comes out of it.
 pub left_out : (shared : Shared) (left : LeftPairs) → IsLeft shared.left left
-    → IsLeftAt shared.log.shared.table_id shared.log.shared.key.items (kind_of shared) Nobody left
-left_out shared left it = subst (λ t. IsLeftAt t shared.log.shared.key.items (kind_of shared) Nobody left) shared.leaves.table
-    (subst (λ o. IsLeftAt shared.left.table_id o (kind_of shared) Nobody left) shared.leaves.opened it)
+    → IsLeftAt shared.log.shared.table_id shared.log.shared.key.items Nobody left
+left_out shared left it = subst (λ t. IsLeftAt t shared.log.shared.key.items Nobody left) shared.leaves.table
+    (subst (λ o. IsLeftAt shared.left.table_id o Nobody left) shared.leaves.opened it)
 
-module _ (shared : Shared) (left : LeftPairs) (it : IsLeftAt shared.log.shared.table_id shared.log.shared.key.items (kind_of shared) Nobody left) where
+module _ (shared : Shared) (left : LeftPairs) (it : IsLeftAt shared.log.shared.table_id shared.log.shared.key.items Nobody left) where
   pub can_forget : CanEmpty shared left.hand
   can_forget = record {
     log = it.log;
@@ -243,7 +242,6 @@ module _ (shared : Shared) (left : LeftPairs) (it : IsLeftAt shared.log.shared.t
         first = 0;
         here = seats_after seats it.log;
         stage = 1;
-        kind = kind_of shared;
         authors = other.me.0.authors;
         logs = other.me.0.logs ++ known seats it.log ∷ [];
       },
@@ -252,7 +250,7 @@ module _ (shared : Shared) (left : LeftPairs) (it : IsLeftAt shared.log.shared.t
     heard_is = hears ∙ ap (λ m. (observing m.0 other.me.0, m.1)) it.me
 
     again_is : again.me ≡ (
-      record { first = 0; here = seats_after seats it.log; stage = 1; kind = kind_of shared; authors = other.me.0.authors; logs = known seats it.log ∷ [] },
+      record { first = 0; here = seats_after seats it.log; stage = 1; authors = other.me.0.authors; logs = known seats it.log ∷ [] },
       [],
     )
     again_is = recalled.now ∙ (λ i. (
@@ -260,7 +258,6 @@ module _ (shared : Shared) (left : LeftPairs) (it : IsLeftAt shared.log.shared.t
         first = (heard_is i).0.first;
         here = (heard_is i).0.here;
         stage = (heard_is i).0.stage;
-        kind = (heard_is i).0.kind;
         authors = (heard_is i).0.authors;
         logs = known (opened_is i) (log_is i) ∷ [];
       },
@@ -288,12 +285,12 @@ module _ (shared : Shared) (left : LeftPairs) (it : IsLeftAt shared.log.shared.t
     }
 
 -- Pairs that are put where they wait give their hand's authors away.
-module _ (shared : Shared) (authors : Authors) (left : LeftPairs) (it : IsLeftAt shared.log.shared.table_id shared.log.shared.key.items (kind_of shared) authors left)
+module _ (shared : Shared) (authors : Authors) (left : LeftPairs) (it : IsLeftAt shared.log.shared.table_id shared.log.shared.key.items authors left)
     (kept note : SeatHand) (put : LeftPairs) (same : kept.table_id ≡ left.hand.table_id) (me : kept.me ≡ (mute left.hand.me.0, left.hand.me.1))
     (put_hand : put.hand ≡ kept) (put_pairs : put.pairs ≡ left.pairs) where
   pub left_in : IsLeft shared.left put
-  left_in = subst (λ t. IsLeftAt t (opened_of shared.left) (kind_of shared) Nobody put) (sym shared.leaves.table)
-      (subst (λ o. IsLeftAt shared.log.shared.table_id o (kind_of shared) Nobody put) (sym shared.leaves.opened) (record {
+  left_in = subst (λ t. IsLeftAt t (opened_of shared.left) Nobody put) (sym shared.leaves.table)
+      (subst (λ o. IsLeftAt shared.log.shared.table_id o Nobody put) (sym shared.leaves.opened) (record {
         log = it.log;
         table = ap (λ (h : SeatHand). h.table_id) put_hand ∙ same ∙ it.table;
         me = ap (λ (h : SeatHand). h.me) put_hand ∙ me ∙ ap (λ m. (mute m.0, m.1)) it.me;

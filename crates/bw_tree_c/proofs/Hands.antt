@@ -4,7 +4,6 @@ use Rattle.std.specs.Prelude.{MatchOption, Option, slice_get}
 use Rattle.std.proofs.lemmas.List.{length-append}
 use Rattle.std.proofs.lemmas.Option.{same_Some}
 use Rattle.atomic_table.specs.Seated.{TableId}
-use Rattle.call_log.specs.declared.log.Kind.{Kind}
 use Rattle.call_log.specs.Rule.{known}
 use Rattle.call_log.specs.Steps.{Adjoins, both}
 use Rattle.running_tree.specs.Seats.{Seat}
@@ -36,11 +35,11 @@ pushed_at P [] last all one (suc n) x e = cc
 pushed_at P (first ∷ xs) last all one zero x e = all zero x e
 pushed_at P (first ∷ xs) last all one (suc n) x e = pushed_at (λ m y. P (suc m) y) xs last (λ m y h. all (suc m) y h) one n x e
 
-module _ (table : TableId) (opened : List Seat) (kind : Option Kind) (slots others : List SeatHand) (slot : SeatHand) (is : slots ≡ others ++ slot ∷ []) (own : AreSlotsOf table opened kind slots) where
-  pub others_of : AreSlotsOf table opened kind others
+module _ (table : TableId) (opened : List Seat) (slots others : List SeatHand) (slot : SeatHand) (is : slots ≡ others ++ slot ∷ []) (own : AreSlotsOf table opened slots) where
+  pub others_of : AreSlotsOf table opened others
   others_of n it at = own n it (subst (λ xs. slice_get xs n ≡ Some it) (sym is) (stays others (slot ∷ []) n it at))
 
-  pub last_of : IsSlotOf table opened kind (length others) slot
+  pub last_of : IsSlotOf table opened (length others) slot
   last_of = own (length others) slot (subst (λ xs. slice_get xs (length others) ≡ Some slot) (sym is) (is_last others slot))
 
   pub one_more : length slots ≡ length others + 1
@@ -48,11 +47,10 @@ module _ (table : TableId) (opened : List Seat) (kind : Option Kind) (slots othe
 
   module _ (place : Place) (kin : IsKin slot place) where
     -- the hand of the last slot
-    pub last_hand : IsHandOf table opened kind (length others) place.seat place.hand
-    last_hand = subst (λ n. IsHandOf table opened kind n place.seat place.hand) last_of.number
-        (subst (λ k. IsHandOf table opened k slot.me.0.first place.seat place.hand) last_of.of_kind
-        (subst (λ o. IsHandOf table o slot.me.0.kind slot.me.0.first place.seat place.hand) last_of.opened
-        (subst (λ t. IsHandOf t (opened_of slot) slot.me.0.kind slot.me.0.first place.seat place.hand) last_of.table kin.hand)))
+    pub last_hand : IsHandOf table opened (length others) place.seat place.hand
+    last_hand = subst (λ n. IsHandOf table opened n place.seat place.hand) last_of.number
+        (subst (λ o. IsHandOf table o slot.me.0.first place.seat place.hand) last_of.opened
+        (subst (λ t. IsHandOf t (opened_of slot) slot.me.0.first place.seat place.hand) last_of.table kin.hand))
 
     pub one_here : (hand : SeatHand) → hand ≡ place.hand → hand.me.0.here ≡ place.seat ∷ []
     one_here hand same = ap (λ x. x.me.0.here) same ∙ ap (λ m. m.0.here) last_hand.me
@@ -63,21 +61,21 @@ module _ (table : TableId) (opened : List Seat) (kind : Option Kind) (slots othe
     pub first_is : place.hand.me.0.first ≡ length others
     first_is = ap (λ m. m.0.first) last_hand.me
 
-    pub some_hand : (hand : SeatHand) → hand ≡ place.hand → (seat : Seat) × IsHandOf table opened kind hand.me.0.first seat hand
+    pub some_hand : (hand : SeatHand) → hand ≡ place.hand → (seat : Seat) × IsHandOf table opened hand.me.0.first seat hand
     some_hand hand same = (
       place.seat,
-      subst (λ h. IsHandOf table opened kind h.me.0.first place.seat h) (sym same)
-          (subst (λ n. IsHandOf table opened kind n place.seat place.hand) (sym first_is) last_hand),
+      subst (λ h. IsHandOf table opened h.me.0.first place.seat h) (sym same)
+          (subst (λ n. IsHandOf table opened n place.seat place.hand) (sym first_is) last_hand),
     )
 
-    pub below_it : (hand : SeatHand) → hand ≡ place.hand → (others' : Option SeatHand) → MatchOption others' (length others ≡ 0) (HasBelow table opened kind (length others))
-        → MatchOption others' (hand.me.0.first ≡ 0) (HasBelow table opened kind hand.me.0.first)
-    below_it hand same others' h = subst (λ n. MatchOption others' (n ≡ 0) (HasBelow table opened kind n)) (sym (ap (λ x. x.me.0.first) same ∙ first_is)) h
+    pub below_it : (hand : SeatHand) → hand ≡ place.hand → (others' : Option SeatHand) → MatchOption others' (length others ≡ 0) (HasBelow table opened (length others))
+        → MatchOption others' (hand.me.0.first ≡ 0) (HasBelow table opened hand.me.0.first)
+    below_it hand same others' h = subst (λ n. MatchOption others' (n ≡ 0) (HasBelow table opened n)) (sym (ap (λ x. x.me.0.first) same ∙ first_is)) h
 
-    pub all_of_them : (hand all : SeatHand) → hand ≡ place.hand → HasBelow table opened kind (hand.me.0.first + 1) all → HasBelow table opened kind (length slots) all
-    all_of_them hand all same h = subst (λ n. HasBelow table opened kind n all) (ap (λ n. n + 1) (ap (λ x. x.me.0.first) same ∙ first_is) ∙ sym one_more) h
+    pub all_of_them : (hand all : SeatHand) → hand ≡ place.hand → HasBelow table opened (hand.me.0.first + 1) all → HasBelow table opened (length slots) all
+    all_of_them hand all same h = subst (λ n. HasBelow table opened n all) (ap (λ n. n + 1) (ap (λ x. x.me.0.first) same ∙ first_is) ∙ sym one_more) h
 
-module _ (table : TableId) (opened : List Seat) (kind : Option Kind) (n : ℕ) (all hand : SeatHand) (below : HasBelow table opened kind n all) (seat : Seat) (it : IsHandOf table opened kind n seat hand) where
+module _ (table : TableId) (opened : List Seat) (n : ℕ) (all hand : SeatHand) (below : HasBelow table opened n all) (seat : Seat) (it : IsHandOf table opened n seat hand) where
   pub behind : Adjoins all.me.0 hand.me.0
   behind = (
     let a = ap (λ m. m.0.first) it.me in let b = below.count in let c = ap (λ m. m.0.first) below.has.me in let d = ap (λ m. length m.0.here) below.has.me in
@@ -85,7 +83,7 @@ module _ (table : TableId) (opened : List Seat) (kind : Option Kind) (n : ℕ) (
     ap (λ m. m.0.stage) it.me ∙ sym (ap (λ m. m.0.stage) below.has.me),
   )
 
-  pub joined_below : (new : SeatHand) → new.table_id ≡ all.table_id → new.me ≡ (both all.me.0 hand.me.0, all.me.1) → HasBelow table opened kind (n + 1) new
+  pub joined_below : (new : SeatHand) → new.table_id ≡ all.table_id → new.me ≡ (both all.me.0 hand.me.0, all.me.1) → HasBelow table opened (n + 1) new
   joined_below new table_is me = record {
     seats = below.seats ++ seat ∷ [];
     has = record {
@@ -98,10 +96,10 @@ module _ (table : TableId) (opened : List Seat) (kind : Option Kind) (n : ℕ) (
     some = omega arith;
   }
 
-pub alone_below : (table : TableId) (opened : List Seat) (kind : Option Kind) (n : ℕ) (hand : SeatHand) (seat : Seat) → n ≡ 0 → IsHandOf table opened kind n seat hand → HasBelow table opened kind (n + 1) hand
-alone_below table opened kind n hand seat none it = record {
+pub alone_below : (table : TableId) (opened : List Seat) (n : ℕ) (hand : SeatHand) (seat : Seat) → n ≡ 0 → IsHandOf table opened n seat hand → HasBelow table opened (n + 1) hand
+alone_below table opened n hand seat none it = record {
   seats = seat ∷ [];
-  has = subst (λ k. IsHandOf table opened kind k seat hand) none it;
+  has = subst (λ k. IsHandOf table opened k seat hand) none it;
   count = sym (ap (λ k. k + 1) none);
   some = omega arith;
 }

@@ -52,7 +52,6 @@ module _ (shared : Shared) (since : Receipt) (other note heard again : SeatHand)
       first = (heard_is i).0.first;
       here = (heard_is i).0.here;
       stage = (heard_is i).0.stage;
-      kind = (heard_is i).0.kind;
       authors = (heard_is i).0.authors;
       logs = known (opened_is i) recalled.log ∷ [];
     },

@@ -1,9 +1,8 @@
 -- Seats that are taken out of their slots, written of, and given back.
-use Rattle.std.proofs.Common.{◌≡◌, ◌++◌, ◌∷◌, ◌∙◌, ℕ, List, [], Option, Some, ap, append-nil, inl, inr, refl, subst, sym, ⊎_elim}
+use Rattle.std.proofs.Common.{◌≡◌, ◌++◌, ◌∷◌, ◌∙◌, ℕ, List, [], Option, Some, ap, append-nil, inr, refl, subst, sym}
 use Rattle.std.specs.Prelude.{slice_get}
 use Rattle.call_log.specs.declared.log.Event.{Event}
 use Rattle.call_log.specs.declared.log.Event.TheVariants.{Called}
-use Rattle.call_log.specs.declared.log.Kind.{Kind}
 use Rattle.call_log.specs.declared.log.Known.{Known}
 use Rattle.call_log.specs.declared.log.Knows.{Knows}
 use Rattle.call_log.specs.Logs.{IsSigned, MayWrite, by, first_author}
@@ -11,7 +10,7 @@ use Rattle.call_log.specs.Rule.{ExtendsAll}
 use Rattle.call_log.specs.Steps.{HaveSeenOwn}
 use Rattle.call_log.proofs.Logs.{by_both}
 use Rattle.running_tree.specs.Seats.{Seat}
-use Rattle.bw_tree_c.specs.Handles.{HasSeenLog, MayCall, OnSeat, WroteOnly, kind_of}
+use Rattle.bw_tree_c.specs.Handles.{HasSeenLog, MayCall, OnSeat, WroteOnly}
 use Rattle.bw_tree_c.specs.Hands.{HasLater, IsHandOf, IsSlotOf, SeatHand, opened_of}
 use Rattle.bw_tree_c.specs.Places.{CanFinish, CanWriteSeat, HasObserved, IsFinished, IsKin, IsWritten}
 use Rattle.bw_tree_c.specs.Seats.{IsLater}
@@ -26,23 +25,22 @@ first_or seat [] = seat
 first_or seat (x ∷ xs) = x
 
 -- a hand of a slot is one of the handle that the slot is of
-pub hand_in : (shared : Shared) (slot : SeatHand) (kind : Option Kind) (number : ℕ) (seat : Seat) (hand : SeatHand) → slot.table_id ≡ shared.log.shared.table_id
-    → opened_of slot ≡ shared.log.shared.key.items → IsHandOf slot.table_id (opened_of slot) kind number seat hand
-    → IsHandOf shared.log.shared.table_id shared.log.shared.key.items kind number seat hand
-hand_in shared slot kind number seat hand table is it =
-    subst (λ t. IsHandOf t shared.log.shared.key.items kind number seat hand) table (subst (λ o. IsHandOf slot.table_id o kind number seat hand) is it)
+pub hand_in : (shared : Shared) (slot : SeatHand) (number : ℕ) (seat : Seat) (hand : SeatHand) → slot.table_id ≡ shared.log.shared.table_id
+    → opened_of slot ≡ shared.log.shared.key.items → IsHandOf slot.table_id (opened_of slot) number seat hand
+    → IsHandOf shared.log.shared.table_id shared.log.shared.key.items number seat hand
+hand_in shared slot number seat hand table is it =
+    subst (λ t. IsHandOf t shared.log.shared.key.items number seat hand) table (subst (λ o. IsHandOf slot.table_id o number seat hand) is it)
 
-pub hand_out : (shared : Shared) (slot : SeatHand) (kind : Option Kind) (number : ℕ) (seat : Seat) (hand : SeatHand) → slot.table_id ≡ shared.log.shared.table_id
-    → opened_of slot ≡ shared.log.shared.key.items → IsHandOf shared.log.shared.table_id shared.log.shared.key.items kind number seat hand
-    → IsHandOf slot.table_id (opened_of slot) kind number seat hand
-hand_out shared slot kind number seat hand table is it =
-    subst (λ t. IsHandOf t (opened_of slot) kind number seat hand) (sym table) (subst (λ o. IsHandOf shared.log.shared.table_id o kind number seat hand) (sym is) it)
+pub hand_out : (shared : Shared) (slot : SeatHand) (number : ℕ) (seat : Seat) (hand : SeatHand) → slot.table_id ≡ shared.log.shared.table_id
+    → opened_of slot ≡ shared.log.shared.key.items → IsHandOf shared.log.shared.table_id shared.log.shared.key.items number seat hand
+    → IsHandOf slot.table_id (opened_of slot) number seat hand
+hand_out shared slot number seat hand table is it =
+    subst (λ t. IsHandOf t (opened_of slot) number seat hand) (sym table) (subst (λ o. IsHandOf shared.log.shared.table_id o number seat hand) (sym is) it)
 
 -- Whoever has what the caller had may write, and knows all that the caller's authors wrote.
 module _ (shared : Shared) (since : Receipt) where
-  pub may_write : MayCall shared since → (other : SeatHand) → HasObserved shared since other → MayWrite (kind_of shared) other.me.0.authors
-  may_write may other observes = ⊎_elim (λ e. inl e)
-      (λ it. inr (subst (λ (v : Knows Seat). IsSigned (first_author v.authors)) (sym (observes.sees it.authors it.log it.seen)) it.some)) may
+  pub may_write : MayCall shared since → (other : SeatHand) → HasObserved shared since other → MayWrite other.me.0.authors
+  may_write may other observes = subst (λ (v : Knows Seat). IsSigned (first_author v.authors)) (sym (observes.sees may.authors may.log may.seen)) may.some
 
   module _ (other : SeatHand) (observes : HasObserved shared since other) (log : List (Event Seat)) (rest : List (Known Seat)) (own : HaveSeenOwn other.me.0.authors log (other.me.0.logs ++ rest)) where
     pub wrote_only : (events : List (Event Seat)) → WroteOnly shared since other.me.0.authors events (log ++ events)
@@ -59,16 +57,14 @@ module _ (shared : Shared) (since : Receipt) where
 
 -- A place whose seat went on is written of.
 module _ (shared : Shared) (slot : SeatHand) (place lent : Place) (lends : lent ≡ place) (can : CanFinish shared slot place) where
-  lent_hand : IsHandOf slot.table_id (opened_of slot) slot.me.0.kind slot.me.0.first can.before lent.hand
-  lent_hand = subst (λ p. IsHandOf slot.table_id (opened_of slot) slot.me.0.kind slot.me.0.first can.before p.hand) (sym lends) can.hand
+  lent_hand : IsHandOf slot.table_id (opened_of slot) slot.me.0.first can.before lent.hand
+  lent_hand = subst (λ p. IsHandOf slot.table_id (opened_of slot) slot.me.0.first can.before p.hand) (sym lends) can.hand
 
   pub can_write : (since : Receipt) → MayCall shared since → (heard : SeatHand) → HasObserved shared since heard → CanWriteSeat shared lent heard
   can_write since may heard hears = record {
-    kind = kind_of shared;
     number = slot.me.0.first;
     before = can.before;
-    has = subst (λ k. IsHandOf shared.log.shared.table_id shared.log.shared.key.items k slot.me.0.first can.before lent.hand) can.of_kind
-        (hand_in shared slot slot.me.0.kind slot.me.0.first can.before lent.hand can.table can.opened lent_hand);
+    has = hand_in shared slot slot.me.0.first can.before lent.hand can.table can.opened lent_hand;
     may = may_write shared since may heard hears;
     goes = subst (λ p. IsLater can.before p.seat) (sym lends) can.has;
   }
@@ -76,16 +72,12 @@ module _ (shared : Shared) (slot : SeatHand) (place lent : Place) (lends : lent 
   number_is : lent.hand.me.0.first ≡ slot.me.0.first
   number_is = ap (λ m. m.0.first) lent_hand.me
 
-  kind_is : lent.hand.me.0.kind ≡ slot.me.0.kind
-  kind_is = ap (λ m. m.0.kind) lent_hand.me
-
   module _ (since : Receipt) (heard : SeatHand) (hears : HasObserved shared since heard) (next : Place) (note : SeatHand) (wrote : IsWritten shared heard lent next note) where
     pub kin_after : next.seat ≡ lent.seat → IsKin slot next
     kin_after is = record {
-      hand = subst (λ s. IsHandOf slot.table_id (opened_of slot) slot.me.0.kind slot.me.0.first s next.hand) (sym is)
-          (subst (λ n. IsHandOf slot.table_id (opened_of slot) slot.me.0.kind n lent.seat next.hand) number_is
-          (subst (λ k. IsHandOf slot.table_id (opened_of slot) k lent.hand.me.0.first lent.seat next.hand) kind_is
-          (hand_out shared slot lent.hand.me.0.kind lent.hand.me.0.first lent.seat next.hand can.table can.opened wrote.has)));
+      hand = subst (λ s. IsHandOf slot.table_id (opened_of slot) slot.me.0.first s next.hand) (sym is)
+          (subst (λ n. IsHandOf slot.table_id (opened_of slot) n lent.seat next.hand) number_is
+          (hand_out shared slot lent.hand.me.0.first lent.seat next.hand can.table can.opened wrote.has));
       later = record {
         first = can.later.first;
         at = can.later.at;
@@ -116,19 +108,18 @@ module _ (shared : Shared) (slot : SeatHand) (place lent : Place) (lends : lent 
 
 -- A place is taken out of its slot and lent, and its seat goes on.
 module _ (shared : Shared) (number : ℕ) (slot : SeatHand) (at : slice_get shared.slots.items number ≡ Some slot) where
-  is_slot : IsSlotOf shared.log.shared.table_id shared.log.shared.key.items (kind_of shared) number slot
+  is_slot : IsSlotOf shared.log.shared.table_id shared.log.shared.key.items number slot
   is_slot = shared.own number slot at
 
   module _ (place lent ran : Place) (kin : IsKin slot place) (lends : lent ≡ place) (has : IsLater lent.seat ran.seat) (same : ran.hand ≡ lent.hand) where
-    ran_hand : IsHandOf slot.table_id (opened_of slot) slot.me.0.kind slot.me.0.first lent.seat ran.hand
-    ran_hand = subst (IsHandOf slot.table_id (opened_of slot) slot.me.0.kind slot.me.0.first lent.seat) (sym same)
-        (subst (λ p. IsHandOf slot.table_id (opened_of slot) slot.me.0.kind slot.me.0.first p.seat p.hand) (sym lends) kin.hand)
+    ran_hand : IsHandOf slot.table_id (opened_of slot) slot.me.0.first lent.seat ran.hand
+    ran_hand = subst (IsHandOf slot.table_id (opened_of slot) slot.me.0.first lent.seat) (sym same)
+        (subst (λ p. IsHandOf slot.table_id (opened_of slot) slot.me.0.first p.seat p.hand) (sym lends) kin.hand)
 
     pub can_finish : CanFinish shared slot ran
     can_finish = record {
       table = is_slot.table;
       opened = is_slot.opened;
-      of_kind = is_slot.of_kind;
       before = lent.seat;
       hand = ran_hand;
       later = subst (λ p. HasLater (opened_of slot) slot.me.0.first p.seat) (sym lends) kin.later;

@@ -4,7 +4,6 @@ use Rattle.std.specs.Prelude.{MatchOption, Option, slice_get}
 use Rattle.std.specs.Arc.{arc_value}
 use Rattle.std.proofs.lemmas.Option.{same_Some}
 use Rattle.atomic_table.specs.Seated.{TableId}
-use Rattle.call_log.specs.declared.log.Kind.{Kind}
 use Rattle.call_log.specs.Logs.{MayWrite}
 use Rattle.call_log.specs.Steps.{CanEnd, HasLoggedClosing, observing}
 use Rattle.tree_limits.specs.declared.limits.Limits.{Limits}
@@ -15,7 +14,7 @@ use Rattle.seats.proofs.Pushed.{all_pushed, one_longer}
 use Rattle.bw_tree_c.specs.Hands.{HasBelow, HasLater, SeatHand, here_of}
 use Rattle.bw_tree_c.specs.Left.{ArePairsLeft, AreTaken, HaveOneTree}
 use Rattle.bw_tree_c.specs.Closing.{IsLeftFor}
-use Rattle.bw_tree_c.specs.Handles.{MayCall, kind_of}
+use Rattle.bw_tree_c.specs.Handles.{MayCall}
 use Rattle.bw_tree_c.specs.Places.{HasObserved}
 use Rattle.bw_tree_c.specs.Seats.{IsLater}
 use Rattle.bw_tree_c.specs.declared.closing.seats.Out.{Out}
@@ -38,16 +37,16 @@ some_there [] n x e = cc
 some_there (y ∷ xs) n x e = omega arith
 
 -- the seats of the slots before one
-pub record AreHad (table : TableId) (opened : List Seat) (kind : Option Kind) (many : ℕ) (seats : List Seat) (o : Option SeatHand) : Type 0 where
+pub record AreHad (table : TableId) (opened : List Seat) (many : ℕ) (seats : List Seat) (o : Option SeatHand) : Type 0 where
   pub long : length seats ≡ many
   pub idle : AreIdle seats
   pub later : (n : ℕ) (seat : Seat) → slice_get seats n ≡ Some seat → HasLater opened n seat
-  pub below : MatchOption o (many ≡ 0) (HasBelow table opened kind many)
+  pub below : MatchOption o (many ≡ 0) (HasBelow table opened many)
   pub here : here_of o ≡ seats
 
-module _ (table : TableId) (opened : List Seat) (kind : Option Kind) (many : ℕ) (seats : List Seat) where
-  none_had : many ≡ 0 → [] ≡ seats → AreHad table opened kind many seats None
-  none_had none is = subst (λ xs. AreHad table opened kind many xs None) is (record {
+module _ (table : TableId) (opened : List Seat) (many : ℕ) (seats : List Seat) where
+  none_had : many ≡ 0 → [] ≡ seats → AreHad table opened many seats None
+  none_had none is = subst (λ xs. AreHad table opened many xs None) is (record {
     long = sym none;
     idle = λ n seat e. cc;
     later = λ n seat e. cc;
@@ -55,7 +54,7 @@ module _ (table : TableId) (opened : List Seat) (kind : Option Kind) (many : ℕ
     here = refl;
   })
 
-  some_had : (tree : Tree) (hand : SeatHand) → AreTaken table opened kind many tree seats hand → AreHad table opened kind many seats (Some hand)
+  some_had : (tree : Tree) (hand : SeatHand) → AreTaken table opened many tree seats hand → AreHad table opened many seats (Some hand)
   some_had tree hand t = record {
     long = ap length (sym t.here ∙ ap (λ m. m.0.here) t.all.has.me) ∙ t.all.count;
     idle = t.idle;
@@ -64,26 +63,26 @@ module _ (table : TableId) (opened : List Seat) (kind : Option Kind) (many : ℕ
     here = t.here;
   }
 
-  pub had : (found : Option Out) (o : Option SeatHand) → MatchOption found ((many ≡ 0) × (seats ≡ [])) (λ out. AreTaken table opened kind many (arc_value out.share) seats out.hand)
-      → MatchOption found (o ≡ None) (λ out. o ≡ Some out.hand) → AreHad table opened kind many seats o
-  had None o h is = subst (AreHad table opened kind many seats) (sym is) (none_had h.0 (sym h.1))
-  had (Some out) o h is = subst (AreHad table opened kind many seats) (sym is) (some_had (arc_value out.share) out.hand h)
+  pub had : (found : Option Out) (o : Option SeatHand) → MatchOption found ((many ≡ 0) × (seats ≡ [])) (λ out. AreTaken table opened many (arc_value out.share) seats out.hand)
+      → MatchOption found (o ≡ None) (λ out. o ≡ Some out.hand) → AreHad table opened many seats o
+  had None o h is = subst (AreHad table opened many seats) (sym is) (none_had h.0 (sym h.1))
+  had (Some out) o h is = subst (AreHad table opened many seats) (sym is) (some_had (arc_value out.share) out.hand h)
 
-  pub long_of : (found : Option Out) → MatchOption found ((many ≡ 0) × (seats ≡ [])) (λ out. AreTaken table opened kind many (arc_value out.share) seats out.hand) → length seats ≡ many
+  pub long_of : (found : Option Out) → MatchOption found ((many ≡ 0) × (seats ≡ [])) (λ out. AreTaken table opened many (arc_value out.share) seats out.hand) → length seats ≡ many
   long_of None h = ap length h.1 ∙ sym h.0
   long_of (Some out) h = (some_had (arc_value out.share) out.hand h).long
 
   pub taken_of : (found : Option Out) (out : Out) (tree : Tree) (hand : SeatHand) → found ≡ Some out → arc_value out.share ≡ tree → out.hand ≡ hand
-      → MatchOption found ((many ≡ 0) × (seats ≡ [])) (λ o. AreTaken table opened kind many (arc_value o.share) seats o.hand) → AreTaken table opened kind many tree seats hand
-  taken_of found out tree hand is same_tree same_hand h = subst (AreTaken table opened kind many tree seats) same_hand
-      (subst (λ t. AreTaken table opened kind many t seats out.hand) same_tree
-      (some_case ((many ≡ 0) × (seats ≡ [])) (λ (o : Out). AreTaken table opened kind many (arc_value o.share) seats o.hand) found out is h))
+      → MatchOption found ((many ≡ 0) × (seats ≡ [])) (λ o. AreTaken table opened many (arc_value o.share) seats o.hand) → AreTaken table opened many tree seats hand
+  taken_of found out tree hand is same_tree same_hand h = subst (AreTaken table opened many tree seats) same_hand
+      (subst (λ t. AreTaken table opened many t seats out.hand) same_tree
+      (some_case ((many ≡ 0) × (seats ≡ [])) (λ (o : Out). AreTaken table opened many (arc_value o.share) seats o.hand) found out is h))
 
   -- one slot more
-  pub taken_one : (o : Option SeatHand) → AreHad table opened kind many seats o → (count : ℕ) (tree : Tree) (new : List Seat) (seat : Seat) (hand all : SeatHand) → new ≡ seats ++ seat ∷ []
-      → HasLater opened many seat → IsSeatOf tree seat → unfinished_command seat ≡ None → hand.me.0.here ≡ seat ∷ [] → HasBelow table opened kind count all
-      → all.me.0.here ≡ here_of o ++ hand.me.0.here → AreTaken table opened kind count tree new all
-  taken_one o h count tree new seat hand all is later own rests one below here = subst (λ xs. AreTaken table opened kind count tree xs all) (sym is) (record {
+  pub taken_one : (o : Option SeatHand) → AreHad table opened many seats o → (count : ℕ) (tree : Tree) (new : List Seat) (seat : Seat) (hand all : SeatHand) → new ≡ seats ++ seat ∷ []
+      → HasLater opened many seat → IsSeatOf tree seat → unfinished_command seat ≡ None → hand.me.0.here ≡ seat ∷ [] → HasBelow table opened count all
+      → all.me.0.here ≡ here_of o ++ hand.me.0.here → AreTaken table opened count tree new all
+  taken_one o h count tree new seat hand all is later own rests one below here = subst (λ xs. AreTaken table opened count tree xs all) (sym is) (record {
     all = below;
     here = here ∙ (λ i. h.here i ++ one i);
     idle = all_pushed (λ s. unfinished_command s ≡ None) seats seat h.idle rests;
@@ -92,8 +91,8 @@ module _ (table : TableId) (opened : List Seat) (kind : Option Kind) (many : ℕ
   })
 
 -- all seats of a handle were taken out
-module _ (limits : Limits) (table : TableId) (opened : List Seat) (kind : Option Kind) (count : ℕ) (tree : Tree) (seats : List Seat) (hand : SeatHand) (one : HaveOneTree limits opened)
-    (taken : AreTaken table opened kind count tree seats hand) (many : count ≡ length opened) where
+module _ (limits : Limits) (table : TableId) (opened : List Seat) (count : ℕ) (tree : Tree) (seats : List Seat) (hand : SeatHand) (one : HaveOneTree limits opened)
+    (taken : AreTaken table opened count tree seats hand) (many : count ≡ length opened) where
   first_limits : (n : ℕ) (seat : Seat) → slice_get seats n ≡ Some seat → seat.limits ≡ limits
   first_limits n seat at = let it = taken.later n seat at in it.later.same.limits ∙ one.each n it.first it.at
 
@@ -129,15 +128,15 @@ module _ (limits : Limits) (table : TableId) (opened : List Seat) (kind : Option
 
 -- They were taken out for a call, and the log has that the tree is closed.
 module _ (shared : Shared) (count : ℕ) (tree : Tree) (seats : List Seat) (hand : SeatHand)
-    (taken : AreTaken shared.log.shared.table_id shared.log.shared.key.items (kind_of shared) count tree seats hand) (many : count ≡ length shared.log.shared.key.items) where
+    (taken : AreTaken shared.log.shared.table_id shared.log.shared.key.items count tree seats hand) (many : count ≡ length shared.log.shared.key.items) where
   abbrev items : List Seat
   items = shared.log.shared.key.items
 
   some_items : 0 < length items
-  some_items = some shared.limits shared.log.shared.table_id items (kind_of shared) count tree seats hand shared.one taken many
+  some_items = some shared.limits shared.log.shared.table_id items count tree seats hand shared.one taken many
 
   long_items : length hand.me.0.here ≡ length items
-  long_items = ap length taken.here ∙ long shared.limits shared.log.shared.table_id items (kind_of shared) count tree seats hand shared.one taken many
+  long_items = ap length taken.here ∙ long shared.limits shared.log.shared.table_id items count tree seats hand shared.one taken many
 
   module _ (since : Receipt) (may : MayCall shared since) (other heard : SeatHand) (observes : HasObserved shared since other)
       (hears : heard.me ≡ (observing hand.me.0 other.me.0, hand.me.1)) where
@@ -146,8 +145,7 @@ module _ (shared : Shared) (count : ℕ) (tree : Tree) (seats : List Seat) (hand
       first = ap (λ m. m.0.first) hears ∙ ap (λ m. m.0.first) taken.all.has.me;
       some = some_items;
       all = ap (λ m. length m.0.here) hears ∙ long_items;
-      may = subst (λ m. MayWrite m.0.kind m.0.authors) (sym hears)
-          (subst (λ m. MayWrite m.0.kind other.me.0.authors) (sym taken.all.has.me) (may_write shared since may other observes));
+      may = subst (λ m. MayWrite m.0.authors) (sym hears) (may_write shared since may other observes);
       before = subst (λ n. n < 1) (sym (ap (λ m. m.0.stage) hears ∙ ap (λ m. m.0.stage) taken.all.has.me)) (omega arith);
     }
 
@@ -155,4 +153,4 @@ module _ (shared : Shared) (count : ℕ) (tree : Tree) (seats : List Seat) (hand
         → AreClosed tree.limits seats left.pairs.items → IsLeftFor shared since left
     leaves left same same_heard closed pairs = left_for shared since may hand other heard taken.all.has.log taken.all.has.rest taken.all.has.me observes hears left closed
         (same ∙ same_heard ∙ taken.all.has.table) long_items some_items
-        (are_left shared.limits shared.log.shared.table_id items (kind_of shared) count tree seats hand shared.one taken many left.pairs.items pairs)
+        (are_left shared.limits shared.log.shared.table_id items count tree seats hand shared.one taken many left.pairs.items pairs)

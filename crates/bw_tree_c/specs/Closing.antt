@@ -10,7 +10,7 @@ use Rattle.call_log.specs.Rule.{ExtendsAll, known}
 use Rattle.call_log.specs.Steps.{HaveSeenOwn}
 use Rattle.running_tree.specs.Seats.{Seat}
 use Rattle.bw_tree_c.specs.Hands.{SeatHand}
-use Rattle.bw_tree_c.specs.Handles.{HasSeenLog, HaveAdded, IsBehind, IsReceipt, IsSince, WroteOnly, kind_of}
+use Rattle.bw_tree_c.specs.Handles.{HasSeenLog, HaveAdded, IsBehind, IsReceipt, IsSince, WroteOnly}
 use Rattle.bw_tree_c.specs.Left.{ArePairsLeft, IsLeftAt}
 use Rattle.bw_tree_c.specs.Seats.{IsLater}
 use Rattle.bw_tree_c.specs.Shown.{ShowFirst}
@@ -52,7 +52,7 @@ pub record CanEmpty (shared : Shared) (hand : SeatHand) : Type 0 where
   pub before : stage < 2
   pub some : 0 < length seats
   pub table : hand.table_id ≡ shared.log.shared.table_id
-  pub me : hand.me ≡ (record { first = 0; here = seats; stage = stage; kind = kind_of shared; authors = Nobody; logs = known shared.log.shared.key.items log ∷ rest }, [])
+  pub me : hand.me ≡ (record { first = 0; here = seats; stage = stage; authors = Nobody; logs = known shared.log.shared.key.items log ∷ rest }, [])
   pub count : length seats ≡ length shared.log.shared.key.items
 
 -- The hand has all seats of the handle, and may write that nothing waits.
@@ -65,9 +65,9 @@ pub record CanForget (shared : Shared) (hand : SeatHand) : Type 0 where
   pub authors : Authors
   pub before : stage < 2
   pub some : 0 < length seats
-  pub may : MayWrite (kind_of shared) authors
+  pub may : MayWrite authors
   pub table : hand.table_id ≡ shared.log.shared.table_id
-  pub me : hand.me ≡ (record { first = 0; here = seats; stage = stage; kind = kind_of shared; authors = authors; logs = front ++ known shared.log.shared.key.items log ∷ rest }, [])
+  pub me : hand.me ≡ (record { first = 0; here = seats; stage = stage; authors = authors; logs = front ++ known shared.log.shared.key.items log ∷ rest }, [])
   pub count : length seats ≡ length shared.log.shared.key.items
 
 -- It is written, by the hand's first author, that nothing waits, and that is behind all that the hand had seen; the receipt has the hand's authors, who had written
@@ -83,8 +83,8 @@ pub record IsForgotten (shared : Shared) (hand : SeatHand) (it : Receipt) : Type
 -- The pairs are those that a closed tree left. Their hand has what the caller had, and the caller's authors wrote no more than that the tree is closed, if this call closed it.
 pub record IsLeftFor (shared : Shared) (since : Receipt) (left : LeftPairs) : Type 0 where
   pub authors : Authors
-  pub at : IsLeftAt shared.log.shared.table_id shared.log.shared.key.items (kind_of shared) authors left
-  pub may : MayWrite (kind_of shared) authors
+  pub at : IsLeftAt shared.log.shared.table_id shared.log.shared.key.items authors left
+  pub may : MayWrite authors
   pub behind : IsBehind shared since at.log
   pub only : WroteOnly shared since authors [] at.log ⊎ WroteOnly shared since authors (Closed (first_author authors) ∷ []) at.log
 

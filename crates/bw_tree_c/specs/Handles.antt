@@ -3,8 +3,6 @@ use Rattle.std.specs.Prelude.{◌≡◌, ◌⊎◌, ◌++◌, ◌∷◌, [], ℕ
 use Rattle.call_log.specs.declared.log.Authors.{Authors}
 use Rattle.call_log.specs.declared.log.Event.{Event}
 use Rattle.call_log.specs.declared.log.Event.TheVariants.{Called}
-use Rattle.call_log.specs.declared.log.Kind.{Kind}
-use Rattle.call_log.specs.declared.log.Kind.TheVariants.{Open}
 use Rattle.call_log.specs.Logs.{BeganAs, IsLog, IsSigned, WroteNoMore, first_author}
 use Rattle.call_log.specs.Rule.{known, receipt}
 use Rattle.running_tree.specs.Seats.{Seat}
@@ -58,24 +56,17 @@ abbrev pub HaveAdded : Option Shared → Receipt → Authors → List (Event Sea
 HaveAdded None since authors events log = ⊤
 HaveAdded (Some shared) since authors events log = WroteOnly shared since authors events log
 
--- what is known of the kind of the handle's log
-abbrev pub kind_of : Shared → Option Kind
-kind_of shared = shared.left.me.0.kind
-
--- The receipt is a seat at the log of the handle, and has an author.
-pub record HasSomeAuthor (shared : Shared) (it : Receipt) : Type 0 where
+-- A call with this receipt may be written into the log of the handle: it is a seat there, and has an author.
+pub record MayCall (shared : Shared) (it : Receipt) : Type 0 where
   pub authors : Authors
   pub log : List (Event Seat)
   pub seen : HasSeenLog shared authors log it
   pub some : IsSigned (first_author authors)
 
--- A call with this receipt may be written: the log is open to all, or the receipt has an author.
-abbrev pub MayCall : Shared → Receipt → Type 0
-MayCall shared since = (kind_of shared ≡ Some Open) ⊎ HasSomeAuthor shared since
-
--- The log of the handle, if it keeps a tree, is open to all.
-abbrev pub IsOpenToAll : Option Shared → Type 0
-IsOpenToAll kept = (shared : Shared) → kept ≡ Some shared → kind_of shared ≡ Some Open
+-- The same of a handle that may keep no tree: then nothing is written.
+abbrev pub MayCallOn : Option Shared → Receipt → Type 0
+MayCallOn None it = ⊤
+MayCallOn (Some shared) it = MayCall shared it
 
 -- The call is refused, and gives the caller's receipt back, so nothing was written as any of its authors; the rest is as it was.
 pub record IsRefusedCall (kept : Option Shared) (number : ℕ) (since : Receipt) (told : Told) (others : Type 0) : Type 0 where

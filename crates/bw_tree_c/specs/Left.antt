@@ -4,7 +4,6 @@ use Rattle.atomic_table.specs.Seated.{TableId}
 use Rattle.call_log.specs.declared.log.Authors.{Authors}
 use Rattle.call_log.specs.declared.log.Authors.TheVariants.{Nobody}
 use Rattle.call_log.specs.declared.log.Event.{Event}
-use Rattle.call_log.specs.declared.log.Kind.{Kind}
 use Rattle.call_log.specs.declared.log.Knows.{Knows}
 use Rattle.call_log.specs.Logs.{IsLog, seats_after, stage_of}
 use Rattle.call_log.specs.Rule.{known}
@@ -36,10 +35,10 @@ pub record ArePairsLeft (seats : List Seat) (pairs : List (List ℕ × List ℕ)
 
 -- The pairs are those that the log of the handle says: the tree is closed, with the seats as the last calls on them left them, and the pairs wait. Their hand
 -- has these authors.
-pub record IsLeftAt (which : TableId) (opened : List Seat) (kind : Option Kind) (authors : Authors) (left : LeftPairs) : Type 0 where
+pub record IsLeftAt (which : TableId) (opened : List Seat) (authors : Authors) (left : LeftPairs) : Type 0 where
   pub log : List (Event Seat)
   pub table : left.hand.table_id ≡ which
-  pub me : left.hand.me ≡ (record { first = 0; here = seats_after opened log; stage = 1; kind = kind; authors = authors; logs = known opened log ∷ [] }, [])
+  pub me : left.hand.me ≡ (record { first = 0; here = seats_after opened log; stage = 1; authors = authors; logs = known opened log ∷ [] }, [])
   pub legal : IsLog IsLater opened log
   pub stage : stage_of log ≡ 1
   pub count : length (seats_after opened log) ≡ length opened
@@ -47,7 +46,7 @@ pub record IsLeftAt (which : TableId) (opened : List Seat) (kind : Option Kind) 
   pub pairs : ArePairsLeft (seats_after opened log) left.pairs.items
 
 abbrev pub IsLeft : SeatHand → LeftPairs → Type 0
-IsLeft slot left = IsLeftAt slot.table_id (opened_of slot) slot.me.0.kind Nobody left
+IsLeft slot left = IsLeftAt slot.table_id (opened_of slot) Nobody left
 
 -- What waits in the slot is what the tree of the slot's handle left, once its receipt is a hand again.
 pub record WaitsIn (slot : SeatHand) (waiting : Waiting) : Type 0 where
@@ -57,8 +56,8 @@ pub record WaitsIn (slot : SeatHand) (waiting : Waiting) : Type 0 where
   pub left : (hand : SeatHand) → hand.table_id ≡ slot.table_id → hand.me ≡ (view, []) → IsLeft slot (record { pairs = waiting.pairs; hand = hand })
 
 -- Seats that were taken out of slots: the hand has them, none has an operation, and each has gone on since the tree was opened.
-pub record AreTaken (table : TableId) (opened : List Seat) (kind : Option Kind) (count : ℕ) (tree : Tree) (seats : List Seat) (hand : SeatHand) : Type 0 where
-  pub all : HasBelow table opened kind count hand
+pub record AreTaken (table : TableId) (opened : List Seat) (count : ℕ) (tree : Tree) (seats : List Seat) (hand : SeatHand) : Type 0 where
+  pub all : HasBelow table opened count hand
   pub here : hand.me.0.here ≡ seats
   pub idle : AreIdle seats
   pub later : (n : ℕ) (seat : Seat) → slice_get seats n ≡ Some seat → HasLater opened n seat

@@ -7,7 +7,7 @@ use Rattle.call_log.specs.Hands.{CanWrite, HasWritten}
 use Rattle.call_log.specs.Logs.{first_author}
 use Rattle.call_log.specs.Rule.{known, receipt}
 use Rattle.running_tree.specs.Seats.{Seat}
-use Rattle.bw_tree_c.specs.Handles.{HasSeenLog, IsBehind, WroteOnly, kind_of}
+use Rattle.bw_tree_c.specs.Handles.{HasSeenLog, IsBehind, WroteOnly}
 use Rattle.bw_tree_c.specs.Hands.{HasLater, IsHandOf, SeatHand, opened_of}
 use Rattle.bw_tree_c.specs.Seats.{IsLater}
 use Rattle.bw_tree_c.specs.declared.place.Place.{Place}
@@ -16,16 +16,15 @@ use Rattle.bw_tree_c.specs.declared.handle.shared.Shared.{Shared}
 
 -- The place has the slot's seat, as the log has it.
 pub record IsKin (slot : SeatHand) (place : Place) : Type 0 where
-  pub hand : IsHandOf slot.table_id (opened_of slot) slot.me.0.kind slot.me.0.first place.seat place.hand
+  pub hand : IsHandOf slot.table_id (opened_of slot) slot.me.0.first place.seat place.hand
   pub later : HasLater (opened_of slot) slot.me.0.first place.seat
 
 -- The slot is the handle's, and the place has its seat, which went on from the one that the log has.
 pub record CanFinish (shared : Shared) (slot : SeatHand) (place : Place) : Type 0 where
   pub table : slot.table_id ≡ shared.log.shared.table_id
   pub opened : opened_of slot ≡ shared.log.shared.key.items
-  pub of_kind : slot.me.0.kind ≡ kind_of shared
   pub before : Seat
-  pub hand : IsHandOf slot.table_id (opened_of slot) slot.me.0.kind slot.me.0.first before place.hand
+  pub hand : IsHandOf slot.table_id (opened_of slot) slot.me.0.first before place.hand
   pub later : HasLater (opened_of slot) slot.me.0.first before
   pub has : IsLater before place.seat
 

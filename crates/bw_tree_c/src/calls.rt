@@ -3,7 +3,7 @@ ghost use Rattle.std.specs.Prelude.{◌≡◌, ◌<◌, ◌≤◌, ◌⊎◌, So
 ghost use Rattle.bw_model.specs.declared.command.Command.TheVariants as command;
 ghost use Rattle.bw_model.specs.declared.short_bytes.TheConstants.{MAX_LENGTH};
 ghost use Rattle.bw_tree_c.specs.Calls.{ComesToValue, ComesTidied, ComesWithin};
-ghost use Rattle.bw_tree_c.specs.Handles.{MayCall};
+ghost use Rattle.bw_tree_c.specs.Handles.{MayCall, MayCallOn};
 
 use crate::c_types::Bytes;
 use crate::handle::shared::Shared;
@@ -17,27 +17,31 @@ use seats::BUDGET;
 impl TreeHandle {
     /// Runs a command on a seat, for at most so many steps.
     fn run(&self, seat: u32, command: Command, budget: u32, old: &mut Bytes, since: Receipt) -> Told
-        requires { 1 ≤ budget }
-        ensures { ComesWithin self.now.kept.value seat command budget since result old.old old.new }
+        requires may { MayCallOn self.now.kept.value since }
+        requires some { 1 ≤ budget }
+        ensures called { ComesWithin self.now.kept.value seat command budget since result old.old old.new }
+        ensures may { MayCallOn self.now.kept.value result.receipt }
     {
         match self.shared() {
             Some(shared) => run_in(shared, seat, command, budget, old, since),
-            None => Told::refused(CLOSED, since),
+            None => self.refused(CLOSED, since),
         }
     }
 
     /// Does upkeep on a seat.
     fn tidy(&self, seat: u32, key: Key, since: Receipt) -> Told
-        ensures { ComesTidied self.now.kept.value seat (command.Tidy key) since result }
+        requires may { MayCallOn self.now.kept.value since }
+        ensures called { ComesTidied self.now.kept.value seat (command.Tidy key) since result }
+        ensures may { MayCallOn self.now.kept.value result.receipt }
     {
         match self.shared() {
             Some(shared) => tidy_in(shared, seat, key, since),
-            None => Told::refused(CLOSED, since),
+            None => self.refused(CLOSED, since),
         }
     }
 }
 
-/// Runs a command on a seat of a handle. Unless the log is open to all, it can be written as the caller's author alone.
+/// Runs a command on a seat of a handle.
 fn run_in(
     shared: &'static Shared,
     seat: u32,
@@ -80,11 +84,13 @@ pub extern "C" fn bwtree_raw_get(
     value: &mut Bytes,
     since: Receipt,
 ) -> Told
+    requires may { MayCallOn tree.now.kept.value since }
     ensures long { MAX_LENGTH < length key.now → (result.status ≡ TOO_LONG) × (value.new ≡ value.old) × (result.receipt ≡ since) }
     ensures called { length key.now ≤ MAX_LENGTH → ComesToValue tree.now.kept.value seat (command.Get key.now) since result value.old value.new }
+    ensures may { MayCallOn tree.now.kept.value result.receipt }
 {
     let Ok(key) = Key::from_slice(key) else {
-        return Told::refused(TOO_LONG, since);
+        return tree.refused(TOO_LONG, since);
     };
     tree.run(seat, Command::Get(key), BUDGET, value, since)
 }
@@ -99,15 +105,17 @@ pub extern "C" fn bwtree_raw_get_within(
     value: &mut Bytes,
     since: Receipt,
 ) -> Told
+    requires may { MayCallOn tree.now.kept.value since }
     ensures long { MAX_LENGTH < length key.now → (result.status ≡ TOO_LONG) × (value.new ≡ value.old) × (result.receipt ≡ since) }
     ensures none { length key.now ≤ MAX_LENGTH → budget ≡ 0 → (result.status ≡ SPENT) × (value.new ≡ value.old) × (result.receipt ≡ since) }
     ensures called { length key.now ≤ MAX_LENGTH → 1 ≤ budget → ComesWithin tree.now.kept.value seat (command.Get key.now) budget since result value.old value.new }
+    ensures may { MayCallOn tree.now.kept.value result.receipt }
 {
     let Ok(key) = Key::from_slice(key) else {
-        return Told::refused(TOO_LONG, since);
+        return tree.refused(TOO_LONG, since);
     };
     if budget == 0 {
-        return Told::refused(SPENT, since);
+        return tree.refused(SPENT, since);
     }
     tree.run(seat, Command::Get(key), budget, value, since)
 }
@@ -122,11 +130,13 @@ pub extern "C" fn bwtree_raw_insert(
     old: &mut Bytes,
     since: Receipt,
 ) -> Told
+    requires may { MayCallOn tree.now.kept.value since }
     ensures long { (MAX_LENGTH < length key.now) ⊎ (MAX_LENGTH < length value.now) → (result.status ≡ TOO_LONG) × (old.new ≡ old.old) × (result.receipt ≡ since) }
     ensures called { length key.now ≤ MAX_LENGTH → length value.now ≤ MAX_LENGTH → ComesToValue tree.now.kept.value seat (command.Insert key.now value.now) since result old.old old.new }
+    ensures may { MayCallOn tree.now.kept.value result.receipt }
 {
     let (Ok(key), Ok(value)) = (Key::from_slice(key), Value::from_slice(value)) else {
-        return Told::refused(TOO_LONG, since);
+        return tree.refused(TOO_LONG, since);
     };
     tree.run(seat, Command::Insert(key, value), BUDGET, old, since)
 }
@@ -141,11 +151,13 @@ pub extern "C" fn bwtree_raw_upsert(
     old: &mut Bytes,
     since: Receipt,
 ) -> Told
+    requires may { MayCallOn tree.now.kept.value since }
     ensures long { (MAX_LENGTH < length key.now) ⊎ (MAX_LENGTH < length value.now) → (result.status ≡ TOO_LONG) × (old.new ≡ old.old) × (result.receipt ≡ since) }
     ensures called { length key.now ≤ MAX_LENGTH → length value.now ≤ MAX_LENGTH → ComesToValue tree.now.kept.value seat (command.Upsert key.now value.now) since result old.old old.new }
+    ensures may { MayCallOn tree.now.kept.value result.receipt }
 {
     let (Ok(key), Ok(value)) = (Key::from_slice(key), Value::from_slice(value)) else {
-        return Told::refused(TOO_LONG, since);
+        return tree.refused(TOO_LONG, since);
     };
     tree.run(seat, Command::Upsert(key, value), BUDGET, old, since)
 }
@@ -161,16 +173,18 @@ pub extern "C" fn bwtree_raw_upsert_within(
     old: &mut Bytes,
     since: Receipt,
 ) -> Told
+    requires may { MayCallOn tree.now.kept.value since }
     ensures long { (MAX_LENGTH < length key.now) ⊎ (MAX_LENGTH < length value.now) → (result.status ≡ TOO_LONG) × (old.new ≡ old.old) × (result.receipt ≡ since) }
     ensures none { length key.now ≤ MAX_LENGTH → length value.now ≤ MAX_LENGTH → budget ≡ 0 → (result.status ≡ SPENT) × (old.new ≡ old.old) × (result.receipt ≡ since) }
     ensures called { length key.now ≤ MAX_LENGTH → length value.now ≤ MAX_LENGTH → 1 ≤ budget
         → ComesWithin tree.now.kept.value seat (command.Upsert key.now value.now) budget since result old.old old.new }
+    ensures may { MayCallOn tree.now.kept.value result.receipt }
 {
     let (Ok(key), Ok(value)) = (Key::from_slice(key), Value::from_slice(value)) else {
-        return Told::refused(TOO_LONG, since);
+        return tree.refused(TOO_LONG, since);
     };
     if budget == 0 {
-        return Told::refused(SPENT, since);
+        return tree.refused(SPENT, since);
     }
     tree.run(seat, Command::Upsert(key, value), budget, old, since)
 }
@@ -184,11 +198,13 @@ pub extern "C" fn bwtree_raw_delete(
     old: &mut Bytes,
     since: Receipt,
 ) -> Told
+    requires may { MayCallOn tree.now.kept.value since }
     ensures long { MAX_LENGTH < length key.now → (result.status ≡ TOO_LONG) × (old.new ≡ old.old) × (result.receipt ≡ since) }
     ensures called { length key.now ≤ MAX_LENGTH → ComesToValue tree.now.kept.value seat (command.Delete key.now) since result old.old old.new }
+    ensures may { MayCallOn tree.now.kept.value result.receipt }
 {
     let Ok(key) = Key::from_slice(key) else {
-        return Told::refused(TOO_LONG, since);
+        return tree.refused(TOO_LONG, since);
     };
     tree.run(seat, Command::Delete(key), BUDGET, old, since)
 }
@@ -203,12 +219,14 @@ pub extern "C" fn bwtree_raw_delete_if(
     old: &mut Bytes,
     since: Receipt,
 ) -> Told
+    requires may { MayCallOn tree.now.kept.value since }
     ensures long { (MAX_LENGTH < length key.now) ⊎ (MAX_LENGTH < length expected.now) → (result.status ≡ TOO_LONG) × (old.new ≡ old.old) × (result.receipt ≡ since) }
     ensures called { length key.now ≤ MAX_LENGTH → length expected.now ≤ MAX_LENGTH
         → ComesToValue tree.now.kept.value seat (command.DeleteIf key.now expected.now) since result old.old old.new }
+    ensures may { MayCallOn tree.now.kept.value result.receipt }
 {
     let (Ok(key), Ok(expected)) = (Key::from_slice(key), Value::from_slice(expected)) else {
-        return Told::refused(TOO_LONG, since);
+        return tree.refused(TOO_LONG, since);
     };
     tree.run(seat, Command::DeleteIf(key, expected), BUDGET, old, since)
 }
@@ -224,16 +242,18 @@ pub extern "C" fn bwtree_raw_swap(
     old: &mut Bytes,
     since: Receipt,
 ) -> Told
+    requires may { MayCallOn tree.now.kept.value since }
     ensures long { (MAX_LENGTH < length key.now) ⊎ (MAX_LENGTH < length expected.now) ⊎ (MAX_LENGTH < length value.now)
         → (result.status ≡ TOO_LONG) × (old.new ≡ old.old) × (result.receipt ≡ since) }
     ensures called { length key.now ≤ MAX_LENGTH → length expected.now ≤ MAX_LENGTH → length value.now ≤ MAX_LENGTH
         → ComesToValue tree.now.kept.value seat (command.Swap key.now expected.now value.now) since result old.old old.new }
+    ensures may { MayCallOn tree.now.kept.value result.receipt }
 {
     let Ok(key) = Key::from_slice(key) else {
-        return Told::refused(TOO_LONG, since);
+        return tree.refused(TOO_LONG, since);
     };
     let (Ok(expected), Ok(value)) = (Value::from_slice(expected), Value::from_slice(value)) else {
-        return Told::refused(TOO_LONG, since);
+        return tree.refused(TOO_LONG, since);
     };
     tree.run(
         seat,
@@ -254,11 +274,13 @@ pub extern "C" fn bwtree_raw_add(
     old: &mut Bytes,
     since: Receipt,
 ) -> Told
+    requires may { MayCallOn tree.now.kept.value since }
     ensures long { MAX_LENGTH < length key.now → (result.status ≡ TOO_LONG) × (old.new ≡ old.old) × (result.receipt ≡ since) }
     ensures called { length key.now ≤ MAX_LENGTH → ComesToValue tree.now.kept.value seat (command.Add key.now number) since result old.old old.new }
+    ensures may { MayCallOn tree.now.kept.value result.receipt }
 {
     let Ok(key) = Key::from_slice(key) else {
-        return Told::refused(TOO_LONG, since);
+        return tree.refused(TOO_LONG, since);
     };
     tree.run(seat, Command::Add(key, number), BUDGET, old, since)
 }
@@ -266,11 +288,13 @@ pub extern "C" fn bwtree_raw_add(
 /// Does what upkeep is due at the leaf that has the key.
 #[unsafe(no_mangle)]
 pub extern "C" fn bwtree_raw_tidy(tree: &TreeHandle, seat: u32, key: &[u8], since: Receipt) -> Told
+    requires may { MayCallOn tree.now.kept.value since }
     ensures long { MAX_LENGTH < length key.now → (result.status ≡ TOO_LONG) × (result.receipt ≡ since) }
     ensures called { length key.now ≤ MAX_LENGTH → ComesTidied tree.now.kept.value seat (command.Tidy key.now) since result }
+    ensures may { MayCallOn tree.now.kept.value result.receipt }
 {
     let Ok(key) = Key::from_slice(key) else {
-        return Told::refused(TOO_LONG, since);
+        return tree.refused(TOO_LONG, since);
     };
     tree.tidy(seat, key, since)
 }

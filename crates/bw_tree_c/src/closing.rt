@@ -1,7 +1,7 @@
 //! A tree is closed.
 ghost use Rattle.std.specs.Prelude.{◌≡◌, ◌≢◌, ◌⊎◌, None};
 ghost use Rattle.bw_tree_c.specs.Closing.{CanEmpty, CanForget, HasClosed, IsClosedBy, IsForgotten};
-ghost use Rattle.bw_tree_c.specs.Handles.{MayCall};
+ghost use Rattle.bw_tree_c.specs.Handles.{MayCall, MayCallOn};
 
 pub(crate) mod pairs;
 mod seats;
@@ -20,19 +20,21 @@ use call_log::{copied, emptied, looked, observed};
 /// Closes the tree, and frees it, unless a call is inside a seat.
 #[unsafe(no_mangle)]
 pub extern "C" fn bwtree_raw_close(tree: &TreeHandle, since: Receipt) -> Told
+    requires may { MayCallOn tree.now.kept.value since }
     ensures never { tree.now.kept.value ≡ None → result.status ≡ CLOSED }
     ensures told { (result.status ≡ OK) ⊎ (result.status ≡ CLOSED) ⊎ (result.status ≡ BUSY) }
     ensures ok { result.status ≡ OK → HasClosed tree.now.kept.value since result.receipt }
     ensures back { result.status ≢ OK → result.receipt ≡ since }
+    ensures may { MayCallOn tree.now.kept.value result.receipt }
 {
     let Some(shared) = tree.shared() else {
-        return Told::refused(CLOSED, since);
+        return tree.refused(CLOSED, since);
     };
     shared.close(since)
 }
 
 impl Shared {
-    /// Closes the tree. Unless the log is open to all, that can be written as the caller's author alone.
+    /// Closes the tree.
     fn close(&self, since: Receipt) -> Told
         requires { MayCall self.now since }
         ensures told { (result.status ≡ OK) ⊎ (result.status ≡ CLOSED) ⊎ (result.status ≡ BUSY) }

@@ -1,7 +1,6 @@
 //! The handle of a tree, which lies in the C program's memory.
 ghost use Rattle.std.specs.Prelude.{◌≡◌, ◌↔◌, None, Some, IfErr, IfOk, IfSome, IsSome, MatchOption, slice_get};
-ghost use Rattle.call_log.specs.declared.log.Kind.TheVariants.{Open};
-ghost use Rattle.bw_tree_c.specs.Handles.{IsOpenToAll, IsRefused, kind_of};
+ghost use Rattle.bw_tree_c.specs.Handles.{IsRefused, MayCall, MayCallOn};
 ghost use Rattle.bw_tree_c.specs.Places.{IsKin};
 
 mod kept;
@@ -11,6 +10,7 @@ pub(crate) mod shared;
 use crate::handle::kept::Kept;
 use crate::handle::shared::Shared;
 use crate::place::Place;
+use crate::receipt::{Receipt, Told};
 use crate::refusal::Refusal;
 use crate::slot::{Slot, take};
 
@@ -21,7 +21,6 @@ pub struct TreeHandle {
     held: u64,
     pub(crate) kept: Kept,
     ghost there: { (held ≡ 1) ↔ IsSome kept.value },
-    ghost open: { IsOpenToAll kept.value },
 }
 
 impl TreeHandle {
@@ -37,7 +36,6 @@ impl TreeHandle {
 
     /// The handle of an opened tree. That its type is `Send` and `Sync` is proved: threads of a C program share it.
     pub(crate) fn of(shared: Box<Shared>) -> TreeHandle
-        requires { kind_of shared.value ≡ Some Open }
         ensures { result.kept.value ≡ Some shared.value }
     {
         let shared: &'static Shared = Box::leak(shared);
@@ -47,10 +45,20 @@ impl TreeHandle {
         })
     }
 
+    /// The status of a call that did nothing, and the caller's own receipt.
+    pub(crate) fn refused(&self, status: u32, since: Receipt) -> Told
+        requires may { MayCallOn self.now.kept.value since }
+        ensures status { result.status ≡ status }
+        ensures back { result.receipt ≡ since }
+        ensures may { MayCallOn self.now.kept.value result.receipt }
+    {
+        Told::refused(status, since)
+    }
+
     /// What is shared, if the tree was opened.
     pub(crate) fn shared(&self) -> Option<&'static Shared>
         ensures kept { MatchOption result (self.now.kept.value ≡ None) (λ shared. self.now.kept.value ≡ Some shared.now) }
-        ensures open { IfSome result (λ shared. kind_of shared.now ≡ Some Open) }
+        ensures may { (since : Receipt) → MayCallOn self.now.kept.value since → IfSome result (λ shared. MayCall shared.now since) }
     {
         if self.held == 1 {
             Some(self.kept.get())

@@ -3,8 +3,7 @@ ghost use Rattle.std.specs.Prelude.{◌≡◌, ◌↔◌, ◌⊎◌, [], IfErr, 
 ghost use Rattle.bw_model.specs.declared.command.Reply.TheVariants as reply;
 ghost use Rattle.running_tree.specs.Loaded.{KeysAscend};
 ghost use Rattle.call_log.specs.declared.log.Authors.TheVariants.{AllFrom};
-ghost use Rattle.call_log.specs.declared.log.Kind.TheVariants.{Open};
-ghost use Rattle.bw_tree_c.specs.Handles.{IsReceipt, kind_of};
+ghost use Rattle.bw_tree_c.specs.Handles.{IsReceipt, MayCallOn};
 ghost use Rattle.bw_tree_c.specs.Loaded.{AreShort, HasOpenedWith, IsLoadedWith, IsUnloaded, StopsLoad, TellsUnloaded, given_pair};
 ghost use Rattle.bw_tree_c.specs.Opened.{IsFirstNote};
 ghost use Rattle.bw_tree_c.specs.Shown.{AreOpenable};
@@ -33,6 +32,7 @@ pub extern "C" fn bwtree_raw_open_from(
     ensures told { (result.status ≡ OK) ⊎ (result.status ≡ BAD_LIMITS) ⊎ (result.status ≡ OPEN) ⊎ TellsUnloaded result.status }
     ensures ok { result.status ≡ OK → HasOpenedWith limits.now pairs.now tree.new.kept.value }
     ensures authors { result.status ≡ OK → IsReceipt tree.new.kept.value (AllFrom 0) [] result.receipt }
+    ensures may { result.status ≡ OK → MayCallOn tree.new.kept.value result.receipt }
     ensures open { result.status ≡ OPEN → IsSome tree.old.kept.value }
     ensures over { result.status ≡ OK → tree.old.kept.value ≡ None }
     ensures long { result.status ≡ TOO_LONG → AreShort pairs.now → ⊥ }
@@ -63,7 +63,6 @@ fn shared_with(
     given: &[Pair],
 ) -> Result<(Box<Shared>, SeatHand), u32>
     ensures ok { IfOk result (λ made. IsLoadedWith limits (map given_pair given.now) made.0.value.log.shared.key.items) }
-    ensures open { IfOk result (λ made. kind_of made.0.value ≡ Some Open) }
     ensures authors { IfOk result (λ made. IsFirstNote made.0.value made.1) }
     ensures short { IfOk result (λ made. AreShort given.now) }
     ensures err { IfErr result (IsUnloaded limits given.now) }

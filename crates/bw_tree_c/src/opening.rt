@@ -4,10 +4,9 @@ ghost use Rattle.std.specs.Arc.{arc_value};
 ghost use Rattle.tree_limits.specs.Room.{AreProposed, AreProposedLarge, AreProposedPairs};
 ghost use Rattle.running_tree.specs.Trees.{AreSeatsOf};
 ghost use Rattle.call_log.specs.declared.log.Authors.TheVariants.{AllFrom};
-ghost use Rattle.call_log.specs.declared.log.Kind.TheVariants.{Open};
 ghost use Rattle.call_log.specs.Rule.{all_of};
 ghost use Rattle.bw_tree_c.specs.Closing.{IsInUse, IsVacant};
-ghost use Rattle.bw_tree_c.specs.Handles.{IsReceipt, kind_of};
+ghost use Rattle.bw_tree_c.specs.Handles.{IsReceipt, MayCallOn};
 ghost use Rattle.bw_tree_c.specs.Hands.{AreSlotsOf};
 ghost use Rattle.bw_tree_c.specs.Left.{HaveOneTree};
 ghost use Rattle.bw_tree_c.specs.Opened.{HasAllAuthors, HasOpened, IsFirstNote, IsOpenedAt, ProposesLargeLimits, ProposesLimits, ProposesPairLimits};
@@ -93,6 +92,7 @@ pub extern "C" fn bwtree_raw_open(alloc: Global, limits: &TreeLimits, tree: &mut
     ensures told { (result.status ≡ OK) ⊎ (result.status ≡ BAD_LIMITS) ⊎ (result.status ≡ OPEN) ⊎ (result.status ≡ NO_MEMORY) }
     ensures ok { result.status ≡ OK → HasOpened limits.now tree.new.kept.value }
     ensures authors { result.status ≡ OK → IsReceipt tree.new.kept.value (AllFrom 0) [] result.receipt }
+    ensures may { result.status ≡ OK → MayCallOn tree.new.kept.value result.receipt }
     ensures open { result.status ≡ OPEN → IsSome tree.old.kept.value }
     ensures over { result.status ≡ OK → tree.old.kept.value ≡ None }
     ensures same { (result.status ≡ OK → ⊥) → tree.new ≡ tree.old }
@@ -118,6 +118,7 @@ pub extern "C" fn bwtree_raw_vacate(tree: &mut TreeHandle, since: Receipt) -> To
     ensures vacant { result.status ≡ OK → IsVacant tree.old.kept.value since result.receipt }
     ensures open { result.status ≡ OPEN → IsInUse tree.old.kept.value since result.receipt }
     ensures same { result.status ≡ OPEN → tree.new ≡ tree.old }
+    ensures may { MayCallOn tree.old.kept.value since → MayCallOn tree.new.kept.value result.receipt }
 {
     let told = tree.stage(since);
     if told.status == OK {
@@ -141,7 +142,7 @@ impl TreeHandle {
 }
 
 impl Shared {
-    /// Whether the handle is vacant. Unless the log is open to all, nothing can be written but as the caller's author.
+    /// Whether the handle is vacant.
     fn stage(&self, since: Receipt) -> Told
         ensures told { (result.status ≡ OK) ⊎ (result.status ≡ OPEN) }
         ensures vacant { result.status ≡ OK → IsVacant (Some self.now) since result.receipt }
@@ -157,7 +158,6 @@ impl Shared {
 /// A new tree, with its seats in their slots, and what has all authors.
 fn shared_of(alloc: Global, limits: Limits) -> Option<(Box<Shared>, SeatHand)>
     ensures opened { IfSome result (λ made. IsOpenedAt limits made.0.value.log.shared.key.items) }
-    ensures open { IfSome result (λ made. kind_of made.0.value ≡ Some Open) }
     ensures authors { IfSome result (λ made. IsFirstNote made.0.value made.1) }
 {
     let Ok((tree, seats)) = opened(alloc, limits) else {
@@ -177,7 +177,6 @@ pub(crate) fn shared_with_seats(
     requires own { AreSeatsOf tree seats.items }
     requires one { HaveOneTree limits seats.items }
     ensures items { IfSome result (λ made. made.0.value.log.shared.key.items ≡ seats.items) }
-    ensures open { IfSome result (λ made. kind_of made.0.value ≡ Some Open) }
     ensures authors { IfSome result (λ made. IsFirstNote made.0.value made.1) }
 {
     let Ok(tree) = Arc::new(alloc, tree) else {
@@ -204,9 +203,9 @@ fn slots_of(
     requires own { AreSeatsOf (arc_value tree.now) seats.items }
     requires word { 0 < log.now.shared.table_id.words }
     requires table { hand.old.table_id ≡ log.now.shared.table_id }
-    requires hand { hand.old.me ≡ (all_of Open seats.items, []) }
+    requires hand { hand.old.me ≡ (all_of seats.items, []) }
     ensures count { IfSome result (λ slots. length slots.items ≡ length seats.items) }
-    ensures own { IfSome result (λ slots. AreSlotsOf log.now.shared.table_id seats.items (Some Open) slots.items) }
+    ensures own { IfSome result (λ slots. AreSlotsOf log.now.shared.table_id seats.items slots.items) }
     ensures rest { IfSome result (λ _. HasAllAuthors log.now.shared.table_id seats.items hand.new) }
 {
     let mut slots = Vec::with_capacity(alloc, seats.len()).ok()?;

@@ -3,7 +3,7 @@ ghost use Rattle.std.specs.Prelude.{◌≡◌, ◌<◌, ◌≤◌, Some, length}
 ghost use Rattle.bw_model.specs.declared.command.Command.TheVariants as command;
 ghost use Rattle.bw_model.specs.declared.short_bytes.TheConstants.{MAX_LENGTH};
 ghost use Rattle.bw_tree_c.specs.Calls.{ComesOn, ComesToPage};
-ghost use Rattle.bw_tree_c.specs.Handles.{MayCall};
+ghost use Rattle.bw_tree_c.specs.Handles.{MayCall, MayCallOn};
 
 use crate::c_types::{Bytes, Page};
 use crate::handle::shared::Shared;
@@ -16,11 +16,13 @@ use bw_model::{Command, Key};
 impl TreeHandle {
     /// Runs a command whose reply is a page on a seat.
     fn page(&self, seat: u32, command: Command, page: &mut Page, since: Receipt) -> Told
-        ensures { ComesToPage self.now.kept.value seat command since result page.old page.new }
+        requires may { MayCallOn self.now.kept.value since }
+        ensures called { ComesToPage self.now.kept.value seat command since result page.old page.new }
+        ensures may { MayCallOn self.now.kept.value result.receipt }
     {
         match self.shared() {
             Some(shared) => page_in(shared, seat, command, page, since),
-            None => Told::refused(CLOSED, since),
+            None => self.refused(CLOSED, since),
         }
     }
 }
@@ -73,11 +75,13 @@ pub extern "C" fn bwtree_raw_page(
     page: &mut Page,
     since: Receipt,
 ) -> Told
+    requires may { MayCallOn tree.now.kept.value since }
     ensures long { MAX_LENGTH < length from.now → (result.status ≡ TOO_LONG) × (page.new ≡ page.old) × (result.receipt ≡ since) }
     ensures called { length from.now ≤ MAX_LENGTH → ComesToPage tree.now.kept.value seat (command.Page from.now) since result page.old page.new }
+    ensures may { MayCallOn tree.now.kept.value result.receipt }
 {
     let Ok(from) = Key::from_slice(from) else {
-        return Told::refused(TOO_LONG, since);
+        return tree.refused(TOO_LONG, since);
     };
     tree.page(seat, Command::Page(from), page, since)
 }
@@ -91,11 +95,13 @@ pub extern "C" fn bwtree_raw_back(
     page: &mut Page,
     since: Receipt,
 ) -> Told
+    requires may { MayCallOn tree.now.kept.value since }
     ensures long { MAX_LENGTH < length upto.now → (result.status ≡ TOO_LONG) × (page.new ≡ page.old) × (result.receipt ≡ since) }
     ensures called { length upto.now ≤ MAX_LENGTH → ComesToPage tree.now.kept.value seat (command.Back upto.now) since result page.old page.new }
+    ensures may { MayCallOn tree.now.kept.value result.receipt }
 {
     let Ok(upto) = Key::from_slice(upto) else {
-        return Told::refused(TOO_LONG, since);
+        return tree.refused(TOO_LONG, since);
     };
     tree.page(seat, Command::Back(upto), page, since)
 }
@@ -110,10 +116,12 @@ pub extern "C" fn bwtree_raw_resume(
     page: &mut Page,
     since: Receipt,
 ) -> Told
-    ensures { ComesOn tree.now.kept.value seat budget since result old.old old.new page.old page.new }
+    requires may { MayCallOn tree.now.kept.value since }
+    ensures called { ComesOn tree.now.kept.value seat budget since result old.old old.new page.old page.new }
+    ensures may { MayCallOn tree.now.kept.value result.receipt }
 {
     match tree.shared() {
         Some(shared) => resume_in(shared, seat, budget, old, page, since),
-        None => Told::refused(CLOSED, since),
+        None => tree.refused(CLOSED, since),
     }
 }

@@ -1,7 +1,7 @@
 //! What is asked of a seat and its tree, without a step.
 ghost use Rattle.std.specs.Prelude.{Some};
 ghost use Rattle.bw_tree_c.specs.Calls.{ComesIdle, ComesWatched};
-ghost use Rattle.bw_tree_c.specs.Handles.{MayCall};
+ghost use Rattle.bw_tree_c.specs.Handles.{MayCall, MayCallOn};
 
 use crate::c_types::FreeRoom;
 use crate::handle::shared::Shared;
@@ -13,11 +13,13 @@ use crate::statuses::CLOSED;
 /// Whether a call may begin on the seat.
 #[unsafe(no_mangle)]
 pub extern "C" fn bwtree_raw_is_idle(tree: &TreeHandle, seat: u32, since: Receipt) -> Told
-    ensures { ComesIdle tree.now.kept.value seat since result }
+    requires may { MayCallOn tree.now.kept.value since }
+    ensures called { ComesIdle tree.now.kept.value seat since result }
+    ensures may { MayCallOn tree.now.kept.value result.receipt }
 {
     match tree.shared() {
         Some(shared) => is_idle_in(shared, seat, since),
-        None => Told::refused(CLOSED, since),
+        None => tree.refused(CLOSED, since),
     }
 }
 
@@ -42,11 +44,13 @@ pub extern "C" fn bwtree_raw_room(
     room: &mut FreeRoom,
     since: Receipt,
 ) -> Told
-    ensures { ComesWatched tree.now.kept.value seat since result room.old room.new }
+    requires may { MayCallOn tree.now.kept.value since }
+    ensures called { ComesWatched tree.now.kept.value seat since result room.old room.new }
+    ensures may { MayCallOn tree.now.kept.value result.receipt }
 {
     match tree.shared() {
         Some(shared) => room_in(shared, seat, room, since),
-        None => Told::refused(CLOSED, since),
+        None => tree.refused(CLOSED, since),
     }
 }
 

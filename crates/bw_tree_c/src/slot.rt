@@ -5,7 +5,7 @@ ghost use Rattle.std.specs.Arc.{arc_value};
 ghost use Rattle.running_tree.specs.Trees.{IsSeatOf};
 ghost use Rattle.running_tree.specs.Seats.{Seat};
 ghost use Rattle.bw_tree_c.specs.Hands.{AreSlotsOf, HasBelow, HasLater, IsHandOf, here_of, opened_of};
-ghost use Rattle.bw_tree_c.specs.Handles.{MayCall, kind_of};
+ghost use Rattle.bw_tree_c.specs.Handles.{MayCall};
 ghost use Rattle.bw_tree_c.specs.Places.{CanFinish, IsFinished, IsKin};
 ghost use Rattle.bw_tree_c.specs.Refused.{IsPassing};
 
@@ -125,7 +125,7 @@ pub(crate) fn finish(
 /// A slot with its seat, as it was when the tree was opened.
 pub(crate) fn slot_of(alloc: Global, tree: &Arc<Tree>, seat: BwSeat, hand: SeatHand) -> Option<Slot>
     requires own { IsSeatOf (arc_value tree.now) seat }
-    requires hand { IsHandOf hand.table_id (opened_of hand) hand.me.0.kind hand.me.0.first seat hand }
+    requires hand { IsHandOf hand.table_id (opened_of hand) hand.me.0.first seat hand }
     requires later { HasLater (opened_of hand) hand.me.0.first seat }
     ensures { IfSome result (λ slot. slot ≡ hand) }
 {
@@ -149,10 +149,10 @@ pub(crate) fn slot_of(alloc: Global, tree: &Arc<Tree>, seat: BwSeat, hand: SeatH
 
 /// Closes all slots for good, or none: refused where a seat is away, or the tree is closed. What had the seats at the log comes back as one hand.
 pub(crate) fn close_all(shared: &Shared, slots: &[Slot]) -> Result<Option<SeatHand>, Refusal>
-    requires slots { AreSlotsOf shared.now.log.shared.table_id shared.now.log.shared.key.items (kind_of shared.now) slots.now }
+    requires slots { AreSlotsOf shared.now.log.shared.table_id shared.now.log.shared.key.items slots.now }
     requires word { 0 < shared.now.log.shared.table_id.words }
     ensures all { IfOk result (λ hand. MatchOption hand (length slots.now ≡ 0)
-        (λ all. HasBelow shared.now.log.shared.table_id shared.now.log.shared.key.items (kind_of shared.now) (length slots.now) all)) }
+        (λ all. HasBelow shared.now.log.shared.table_id shared.now.log.shared.key.items (length slots.now) all)) }
     ensures refused { IfErr result IsPassing }
 {
     let Some((slot, others)) = slots.split_last() else {
@@ -188,9 +188,9 @@ fn hand_of(place: Box<Place>) -> SeatHand
 /// What has the seats before one, if there are any, and what has that one, as one hand.
 pub(crate) fn with_others(shared: &Shared, others: Option<SeatHand>, hand: SeatHand) -> SeatHand
     requires word { 0 < shared.now.log.shared.table_id.words }
-    requires others { MatchOption others (hand.me.0.first ≡ 0) (HasBelow shared.now.log.shared.table_id shared.now.log.shared.key.items (kind_of shared.now) hand.me.0.first) }
-    requires hand { (seat : Seat) × IsHandOf shared.now.log.shared.table_id shared.now.log.shared.key.items (kind_of shared.now) hand.me.0.first seat hand }
-    ensures all { HasBelow shared.now.log.shared.table_id shared.now.log.shared.key.items (kind_of shared.now) (hand.me.0.first + 1) result }
+    requires others { MatchOption others (hand.me.0.first ≡ 0) (HasBelow shared.now.log.shared.table_id shared.now.log.shared.key.items hand.me.0.first) }
+    requires hand { (seat : Seat) × IsHandOf shared.now.log.shared.table_id shared.now.log.shared.key.items hand.me.0.first seat hand }
+    ensures all { HasBelow shared.now.log.shared.table_id shared.now.log.shared.key.items (hand.me.0.first + 1) result }
     ensures here { result.me.0.here ≡ here_of others ++ hand.me.0.here }
 {
     match others {

@@ -1,38 +1,25 @@
 //! The exports, called from Rattle: what each answers, in turn.
 ghost use Rattle.std.specs.Prelude.{◌≡◌};
+ghost use Rattle.bw_tree_c.specs.Handles.{MayCallOn};
 ghost use Rattle.bw_tree_c.specs.Seats.{IsLater};
 
 use crate::c_types::{Bytes, FreeRoom, Page, Pair, TreeLimits};
-use crate::calls::{
-    bwtree_raw_add, bwtree_raw_delete, bwtree_raw_delete_if, bwtree_raw_get, bwtree_raw_get_within,
-    bwtree_raw_insert, bwtree_raw_swap, bwtree_raw_tidy, bwtree_raw_upsert,
-    bwtree_raw_upsert_within,
-};
-use crate::closing::bwtree_raw_close;
-use crate::closing::pairs::bwtree_raw_close_pairs;
-use crate::handle::{Taken, TreeHandle, take_in};
-use crate::loading::bwtree_raw_open_from;
-use crate::opening::{bwtree_raw_limits_for_keys, bwtree_raw_open, bwtree_raw_vacate};
-use crate::pages::{bwtree_raw_back, bwtree_raw_page, bwtree_raw_resume};
+use crate::handle::{Taken, take_in};
+use crate::opening::bwtree_raw_limits_for_keys;
 use crate::place::Place;
-use crate::queries::{bwtree_raw_is_idle, bwtree_raw_room};
-use crate::receipt::Receipt;
 use crate::slot::finish;
 use crate::statuses::{
     ABSENT, BAD_LIMITS, BAD_ORDER, BUSY, CLOSED, DIFFERS, EXISTS, IDLE, NO_ROOM, NO_SEAT, OK, OPEN,
     REPLACED, SPENT, TOO_LONG, UNFINISHED,
 };
+use crate::tests::caller::Caller;
 use bw_model::{Command, Key};
 use seats::called;
 use std::alloc::Global;
 use std::test::Fail;
 
+mod caller;
 mod limits;
-
-/// A receipt of nothing.
-fn nothing() -> Receipt {
-    Receipt::of_nothing()
-}
 
 /// No bytes.
 fn no_bytes() -> Bytes {
@@ -100,50 +87,52 @@ fn no_limits() -> TreeLimits {
     }
 }
 
-/// A tree with two seats.
-fn two_seats(alloc: Global) -> TreeHandle {
-    let mut tree = TreeHandle::unopened();
+/// A caller of a tree with two seats.
+fn two_seats(alloc: Global) -> Caller
+    ensures { MayCallOn result.tree.kept.value result.since }
+{
+    let mut caller = Caller::unopened();
     let mut limits = no_limits();
     bwtree_raw_limits_for_keys(2, 100, &mut limits);
-    bwtree_raw_open(alloc, &limits, &mut tree).status;
-    tree
+    caller.open(alloc, &limits);
+    caller
 }
 
 /// What openings and closings answer.
 fn told_of_handles(alloc: Global) -> [u32; 14] {
-    let mut tree = TreeHandle::unopened();
+    let mut caller = Caller::unopened();
     let mut limits = no_limits();
     let mut old = no_bytes();
     [
-        bwtree_raw_get(&tree, 0, b"a", &mut old, nothing()).status,
-        bwtree_raw_open(alloc, &limits, &mut tree).status,
+        caller.get(0, b"a", &mut old),
+        caller.open(alloc, &limits),
         bwtree_raw_limits_for_keys(17, 100, &mut limits),
         bwtree_raw_limits_for_keys(2, 100, &mut limits),
-        bwtree_raw_open(alloc, &limits, &mut tree).status,
-        bwtree_raw_open(alloc, &limits, &mut tree).status,
-        bwtree_raw_vacate(&mut tree, nothing()).status,
-        bwtree_raw_close(&tree, nothing()).status,
-        bwtree_raw_close(&tree, nothing()).status,
-        bwtree_raw_get(&tree, 0, b"a", &mut old, nothing()).status,
-        bwtree_raw_open(alloc, &limits, &mut tree).status,
-        bwtree_raw_vacate(&mut tree, nothing()).status,
-        bwtree_raw_vacate(&mut tree, nothing()).status,
-        bwtree_raw_open(alloc, &limits, &mut tree).status,
+        caller.open(alloc, &limits),
+        caller.open(alloc, &limits),
+        caller.vacate(),
+        caller.close(),
+        caller.close(),
+        caller.get(0, b"a", &mut old),
+        caller.open(alloc, &limits),
+        caller.vacate(),
+        caller.vacate(),
+        caller.open(alloc, &limits),
     ]
 }
 
 /// What calls in few steps answer: with none nothing is begun, and one doesn't suffice.
 fn told_within(alloc: Global) -> [u32; 6] {
-    let tree = two_seats(alloc);
+    let mut caller = two_seats(alloc);
     let mut old = no_bytes();
     let mut page = no_page();
     [
-        bwtree_raw_upsert_within(&tree, 0, 0, b"a", b"x", &mut old, nothing()).status,
-        bwtree_raw_is_idle(&tree, 0, nothing()).status,
-        bwtree_raw_upsert_within(&tree, 0, 1, b"a", b"x", &mut old, nothing()).status,
-        bwtree_raw_get_within(&tree, 0, 9, b"a", &mut old, nothing()).status,
-        bwtree_raw_resume(&tree, 0, 65536, &mut old, &mut page, nothing()).status,
-        bwtree_raw_get_within(&tree, 0, 1000, b"a", &mut old, nothing()).status,
+        caller.upsert_within(0, 0, b"a", b"x", &mut old),
+        caller.is_idle(0),
+        caller.upsert_within(0, 1, b"a", b"x", &mut old),
+        caller.get_within(0, 9, b"a", &mut old),
+        caller.resume(0, 65536, &mut old, &mut page),
+        caller.get_within(0, 1000, b"a", &mut old),
     ]
 }
 
@@ -162,21 +151,23 @@ fn handles_are_opened_and_closed(rt: HostRuntime) {
 }
 
 /// What calls on both seats answer.
-fn told_of_calls(tree: &TreeHandle) -> [u32; 12] {
+fn told_of_calls(caller: &mut Caller) -> [u32; 12]
+    requires { MayCallOn caller.old.tree.kept.value caller.old.since }
+{
     let mut old = no_bytes();
     [
-        bwtree_raw_insert(tree, 0, b"a", b"x", &mut old, nothing()).status,
-        bwtree_raw_insert(tree, 1, b"a", b"y", &mut old, nothing()).status,
-        bwtree_raw_upsert(tree, 1, b"a", b"y", &mut old, nothing()).status,
-        bwtree_raw_swap(tree, 0, b"a", b"x", b"z", &mut old, nothing()).status,
-        bwtree_raw_swap(tree, 0, b"a", b"y", b"z", &mut old, nothing()).status,
-        bwtree_raw_get(tree, 0, b"a", &mut old, nothing()).status,
-        bwtree_raw_delete(tree, 1, b"a", &mut old, nothing()).status,
-        bwtree_raw_get(tree, 0, b"a", &mut old, nothing()).status,
-        bwtree_raw_tidy(tree, 0, b"a", nothing()).status,
-        bwtree_raw_get(tree, 2, b"a", &mut old, nothing()).status,
-        bwtree_raw_get(tree, 0, &[0; 65], &mut old, nothing()).status,
-        bwtree_raw_insert(tree, 0, b"a", &[0; 65], &mut old, nothing()).status,
+        caller.insert(0, b"a", b"x", &mut old),
+        caller.insert(1, b"a", b"y", &mut old),
+        caller.upsert(1, b"a", b"y", &mut old),
+        caller.swap(0, b"a", b"x", b"z", &mut old),
+        caller.swap(0, b"a", b"y", b"z", &mut old),
+        caller.get(0, b"a", &mut old),
+        caller.delete(1, b"a", &mut old),
+        caller.get(0, b"a", &mut old),
+        caller.tidy(0, b"a"),
+        caller.get(2, b"a", &mut old),
+        caller.get(0, &[0; 65], &mut old),
+        caller.insert(0, b"a", &[0; 65], &mut old),
     ]
 }
 
@@ -185,63 +176,69 @@ fn calls_are_told(rt: HostRuntime) {
     let wanted = [
         OK, EXISTS, REPLACED, DIFFERS, OK, OK, OK, ABSENT, OK, NO_SEAT, TOO_LONG, TOO_LONG,
     ];
-    assert!(rt; told_of_calls(&two_seats(rt.alloc())) == wanted);
+    assert!(rt; told_of_calls(&mut two_seats(rt.alloc())) == wanted);
 }
 
 /// What deletions by value answer.
-fn told_of_deletions(tree: &TreeHandle) -> [u32; 7] {
+fn told_of_deletions(caller: &mut Caller) -> [u32; 7]
+    requires { MayCallOn caller.old.tree.kept.value caller.old.since }
+{
     let mut old = no_bytes();
     [
-        bwtree_raw_delete_if(tree, 0, b"a", b"x", &mut old, nothing()).status,
-        bwtree_raw_insert(tree, 0, b"a", b"x", &mut old, nothing()).status,
-        bwtree_raw_delete_if(tree, 1, b"a", b"y", &mut old, nothing()).status,
-        bwtree_raw_delete_if(tree, 1, b"a", b"x", &mut old, nothing()).status,
-        bwtree_raw_get(tree, 0, b"a", &mut old, nothing()).status,
-        bwtree_raw_delete_if(tree, 2, b"a", b"x", &mut old, nothing()).status,
-        bwtree_raw_delete_if(tree, 0, b"a", &[0; 65], &mut old, nothing()).status,
+        caller.delete_if(0, b"a", b"x", &mut old),
+        caller.insert(0, b"a", b"x", &mut old),
+        caller.delete_if(1, b"a", b"y", &mut old),
+        caller.delete_if(1, b"a", b"x", &mut old),
+        caller.get(0, b"a", &mut old),
+        caller.delete_if(2, b"a", b"x", &mut old),
+        caller.delete_if(0, b"a", &[0; 65], &mut old),
     ]
 }
 
 #[test]
 fn values_are_deleted(rt: HostRuntime) {
     let wanted = [ABSENT, OK, DIFFERS, OK, ABSENT, NO_SEAT, TOO_LONG];
-    assert!(rt; told_of_deletions(&two_seats(rt.alloc())) == wanted);
+    assert!(rt; told_of_deletions(&mut two_seats(rt.alloc())) == wanted);
 }
 
 /// What additions answer, and the sum.
-fn told_of_additions(tree: &TreeHandle) -> ([u32; 7], Bytes) {
+fn told_of_additions(caller: &mut Caller) -> ([u32; 7], Bytes)
+    requires { MayCallOn caller.old.tree.kept.value caller.old.since }
+{
     let mut old = no_bytes();
     let mut sum = no_bytes();
     let told = [
-        bwtree_raw_add(tree, 0, b"a", 254, &mut old, nothing()).status,
-        bwtree_raw_add(tree, 1, b"a", 3, &mut old, nothing()).status,
-        bwtree_raw_insert(tree, 0, b"b", b"x", &mut old, nothing()).status,
-        bwtree_raw_add(tree, 0, b"b", 1, &mut old, nothing()).status,
-        bwtree_raw_get(tree, 0, b"a", &mut sum, nothing()).status,
-        bwtree_raw_add(tree, 2, b"a", 1, &mut old, nothing()).status,
-        bwtree_raw_add(tree, 0, &[0; 65], 1, &mut old, nothing()).status,
+        caller.add(0, b"a", 254, &mut old),
+        caller.add(1, b"a", 3, &mut old),
+        caller.insert(0, b"b", b"x", &mut old),
+        caller.add(0, b"b", 1, &mut old),
+        caller.get(0, b"a", &mut sum),
+        caller.add(2, b"a", 1, &mut old),
+        caller.add(0, &[0; 65], 1, &mut old),
     ];
     (told, sum)
 }
 
 #[test]
 fn numbers_are_added(rt: HostRuntime) {
-    let (told, sum) = told_of_additions(&two_seats(rt.alloc()));
+    let (told, sum) = told_of_additions(&mut two_seats(rt.alloc()));
     assert!(rt; told == [OK, REPLACED, OK, DIFFERS, OK, NO_SEAT, TOO_LONG]);
     assert!(rt; sum.length == 8 && sum.bytes.starts_with(&[0, 0, 0, 0, 0, 0, 1, 1]));
 }
 
 /// Whether a page backward shows the lower two of three pairs, and that it is the last one.
-fn shows_two_pairs(tree: &TreeHandle) -> bool {
+fn shows_two_pairs(caller: &mut Caller) -> bool
+    requires { MayCallOn caller.old.tree.kept.value caller.old.since }
+{
     let mut old = no_bytes();
     let mut page = no_page();
     let told = [
-        bwtree_raw_upsert(tree, 0, b"c", b"z", &mut old, nothing()).status,
-        bwtree_raw_upsert(tree, 0, b"a", b"x", &mut old, nothing()).status,
-        bwtree_raw_upsert(tree, 0, b"b", b"y", &mut old, nothing()).status,
-        bwtree_raw_back(tree, 1, b"b", &mut page, nothing()).status,
-        bwtree_raw_back(tree, 2, b"b", &mut page, nothing()).status,
-        bwtree_raw_back(tree, 1, &[0; 65], &mut page, nothing()).status,
+        caller.upsert(0, b"c", b"z", &mut old),
+        caller.upsert(0, b"a", b"x", &mut old),
+        caller.upsert(0, b"b", b"y", &mut old),
+        caller.back(1, b"b", &mut page),
+        caller.back(2, b"b", &mut page),
+        caller.back(1, &[0; 65], &mut page),
     ];
     told == [OK, OK, OK, OK, NO_SEAT, TOO_LONG]
         && page.count == 2
@@ -253,15 +250,17 @@ fn shows_two_pairs(tree: &TreeHandle) -> bool {
 
 #[test]
 fn pages_backward_are_shown(rt: HostRuntime) {
-    assert!(rt; shows_two_pairs(&two_seats(rt.alloc())));
+    assert!(rt; shows_two_pairs(&mut two_seats(rt.alloc())));
 }
 
 /// Whether a page backward that is begun with one step is shown where it is resumed.
-fn resumes_a_page(tree: &TreeHandle) -> Option<bool> {
+fn resumes_a_page(caller: &mut Caller) -> Option<bool>
+    requires { MayCallOn caller.old.tree.kept.value caller.old.since }
+{
     let mut old = no_bytes();
     let mut page = no_page();
-    let set = bwtree_raw_upsert(tree, 1, b"", b"x", &mut old, nothing()).status;
-    let Some(shared) = tree.shared() else {
+    let set = caller.upsert(1, b"", b"x", &mut old);
+    let Some(shared) = caller.tree.shared() else {
         return None;
     };
     let Taken { slot, mut place } = match take_in(shared, 0) {
@@ -269,8 +268,8 @@ fn resumes_a_page(tree: &TreeHandle) -> Option<bool> {
         Err(_) => return None,
     };
     let is_begun = begins(&mut place, Command::Back(Key::default()));
-    let _ = finish(shared, slot, place, OK, nothing());
-    let told = bwtree_raw_resume(tree, 0, 65536, &mut old, &mut page, nothing()).status;
+    caller.since = finish(shared, slot, place, OK, caller.receipt()).receipt;
+    let told = caller.resume(0, 65536, &mut old, &mut page);
     Some(
         is_begun
             && set == OK
@@ -284,13 +283,15 @@ fn resumes_a_page(tree: &TreeHandle) -> Option<bool> {
 
 #[test]
 fn pages_backward_are_resumed(rt: HostRuntime) -> Result<(), Fail> {
-    let tree = two_seats(rt.alloc());
-    assert!(rt; resumes_a_page(&tree).ok_or("no seat")?);
+    let mut caller = two_seats(rt.alloc());
+    assert!(rt; resumes_a_page(&mut caller).ok_or("no seat")?);
     Ok(())
 }
 
 /// Whether a page shows the one pair of a tree, and some room is free.
-fn shows_one_pair(tree: &TreeHandle) -> bool {
+fn shows_one_pair(caller: &mut Caller) -> bool
+    requires { MayCallOn caller.old.tree.kept.value caller.old.since }
+{
     let mut old = no_bytes();
     let mut page = no_page();
     let mut room = FreeRoom {
@@ -298,9 +299,9 @@ fn shows_one_pair(tree: &TreeHandle) -> bool {
         free_rows: 0,
     };
     let told = [
-        bwtree_raw_upsert(tree, 0, b"key", b"value", &mut old, nothing()).status,
-        bwtree_raw_page(tree, 1, b"a", &mut page, nothing()).status,
-        bwtree_raw_room(tree, 1, &mut room, nothing()).status,
+        caller.upsert(0, b"key", b"value", &mut old),
+        caller.page(1, b"a", &mut page),
+        caller.room(1, &mut room),
     ];
     told == [OK, OK, OK]
         && page.count == 1
@@ -314,7 +315,7 @@ fn shows_one_pair(tree: &TreeHandle) -> bool {
 
 #[test]
 fn pages_and_room_are_shown(rt: HostRuntime) {
-    assert!(rt; shows_one_pair(&two_seats(rt.alloc())));
+    assert!(rt; shows_one_pair(&mut two_seats(rt.alloc())));
 }
 
 /// A pair of a key and a value of one byte each.
@@ -329,22 +330,22 @@ fn short_pair(key: u8, value: u8) -> Pair {
 fn told_of_loads(alloc: Global) -> [u32; 8] {
     let mut limits = no_limits();
     let mut old = no_bytes();
-    let mut tree = TreeHandle::unopened();
+    let mut caller = Caller::unopened();
     let mut long = short_pair(b'c', b'z');
     long.value.length = 65;
     let pairs = [short_pair(b'a', b'x'), short_pair(b'b', b'y'), long];
     let turned = [short_pair(b'b', b'y'), short_pair(b'a', b'x')];
-    let bad = bwtree_raw_open_from(alloc, &limits, &pairs, &mut tree).status;
+    let bad = caller.open_from(alloc, &limits, &pairs);
     let told = bwtree_raw_limits_for_keys(2, 10, &mut limits);
     [
         bad,
         told,
-        bwtree_raw_open_from(alloc, &limits, &pairs, &mut tree).status,
-        bwtree_raw_open_from(alloc, &limits, &turned, &mut tree).status,
-        bwtree_raw_open_from(alloc, &limits, &pairs[..2], &mut tree).status,
-        bwtree_raw_open_from(alloc, &limits, &pairs[..1], &mut tree).status,
-        bwtree_raw_get(&tree, 1, b"b", &mut old, nothing()).status,
-        bwtree_raw_insert(&tree, 0, b"a", b"z", &mut old, nothing()).status,
+        caller.open_from(alloc, &limits, &pairs),
+        caller.open_from(alloc, &limits, &turned),
+        caller.open_from(alloc, &limits, &pairs[..2]),
+        caller.open_from(alloc, &limits, &pairs[..1]),
+        caller.get(1, b"b", &mut old),
+        caller.insert(0, b"a", b"z", &mut old),
     ]
 }
 
@@ -355,28 +356,30 @@ fn trees_are_opened_with_pairs(rt: HostRuntime) {
 }
 
 /// What a closing with pairs answers for which there is no room, what comes then, and how many pairs there are.
-fn told_of_pairs(alloc: Global, tree: &mut TreeHandle, pairs: &mut [Pair]) -> ([u32; 9], u64) {
+fn told_of_pairs(alloc: Global, caller: &mut Caller, pairs: &mut [Pair]) -> ([u32; 9], u64)
+    requires { MayCallOn caller.old.tree.kept.value caller.old.since }
+{
     let mut old = no_bytes();
     let mut count = 0;
     let told = [
-        bwtree_raw_close_pairs(alloc, &TreeHandle::unopened(), pairs, &mut count, nothing()).status,
-        bwtree_raw_insert(tree, 0, b"b", b"x", &mut old, nothing()).status,
-        bwtree_raw_insert(tree, 1, b"a", b"y", &mut old, nothing()).status,
-        bwtree_raw_close_pairs(alloc, tree, &mut [], &mut count, nothing()).status,
-        bwtree_raw_get(tree, 0, b"a", &mut old, nothing()).status,
-        bwtree_raw_vacate(tree, nothing()).status,
-        bwtree_raw_close_pairs(alloc, tree, pairs, &mut count, nothing()).status,
-        bwtree_raw_close_pairs(alloc, tree, pairs, &mut count, nothing()).status,
-        bwtree_raw_vacate(tree, nothing()).status,
+        Caller::unopened().close_pairs(alloc, pairs, &mut count),
+        caller.insert(0, b"b", b"x", &mut old),
+        caller.insert(1, b"a", b"y", &mut old),
+        caller.close_pairs(alloc, &mut [], &mut count),
+        caller.get(0, b"a", &mut old),
+        caller.vacate(),
+        caller.close_pairs(alloc, pairs, &mut count),
+        caller.close_pairs(alloc, pairs, &mut count),
+        caller.vacate(),
     ];
     (told, count)
 }
 
 #[test]
 fn trees_are_closed_with_their_pairs(rt: HostRuntime) {
-    let mut tree = two_seats(rt.alloc());
+    let mut caller = two_seats(rt.alloc());
     let mut pairs = [no_pair(), no_pair(), short_pair(b'c', b'z')];
-    let (told, count) = told_of_pairs(rt.alloc(), &mut tree, &mut pairs);
+    let (told, count) = told_of_pairs(rt.alloc(), &mut caller, &mut pairs);
     assert!(rt; told == [CLOSED, OK, OK, NO_ROOM, CLOSED, OPEN, OK, CLOSED, OK] && count == 2);
     assert!(rt; pairs[0].key.bytes[0] == b'a' && pairs[0].value.bytes[0] == b'y');
     assert!(rt; pairs[1].key.bytes[0] == b'b' && pairs[1].value.length == 1);
@@ -384,15 +387,17 @@ fn trees_are_closed_with_their_pairs(rt: HostRuntime) {
 }
 
 /// What closings of pairs that wait answer.
-fn told_of_dropped_pairs(alloc: Global, tree: &mut TreeHandle) -> [u32; 5] {
+fn told_of_dropped_pairs(alloc: Global, caller: &mut Caller) -> [u32; 5]
+    requires { MayCallOn caller.old.tree.kept.value caller.old.since }
+{
     let mut old = no_bytes();
     let mut count = 0;
     [
-        bwtree_raw_insert(tree, 0, b"a", b"x", &mut old, nothing()).status,
-        bwtree_raw_close_pairs(alloc, tree, &mut [], &mut count, nothing()).status,
-        bwtree_raw_close(tree, nothing()).status,
-        bwtree_raw_close(tree, nothing()).status,
-        bwtree_raw_vacate(tree, nothing()).status,
+        caller.insert(0, b"a", b"x", &mut old),
+        caller.close_pairs(alloc, &mut [], &mut count),
+        caller.close(),
+        caller.close(),
+        caller.vacate(),
     ]
 }
 
@@ -411,11 +416,13 @@ fn begins(place: &mut Place, command: Command) -> bool
 }
 
 /// What calls answer while another call is inside seat 0, and after that.
-fn told_of_seats(alloc: Global, tree: &TreeHandle) -> Option<[u32; 13]> {
+fn told_of_seats(alloc: Global, caller: &mut Caller) -> Option<[u32; 13]>
+    requires { MayCallOn caller.old.tree.kept.value caller.old.since }
+{
     let mut old = no_bytes();
     let mut page = no_page();
     let mut count = 0;
-    let Some(shared) = tree.shared() else {
+    let Some(shared) = caller.tree.shared() else {
         return None;
     };
     let Taken { slot, mut place } = match take_in(shared, 0) {
@@ -423,14 +430,14 @@ fn told_of_seats(alloc: Global, tree: &TreeHandle) -> Option<[u32; 13]> {
         Err(_) => return None,
     };
     let inside = [
-        bwtree_raw_get(tree, 0, b"a", &mut old, nothing()).status,
-        bwtree_raw_is_idle(tree, 0, nothing()).status,
-        bwtree_raw_close(tree, nothing()).status,
-        bwtree_raw_close_pairs(alloc, tree, &mut [], &mut count, nothing()).status,
-        bwtree_raw_is_idle(tree, 1, nothing()).status,
+        caller.get(0, b"a", &mut old),
+        caller.is_idle(0),
+        caller.close(),
+        caller.close_pairs(alloc, &mut [], &mut count),
+        caller.is_idle(1),
     ];
     let is_begun = begins(&mut place, Command::Get(Key::default()));
-    let _ = finish(shared, slot, place, OK, nothing());
+    caller.since = finish(shared, slot, place, OK, caller.receipt()).receipt;
     if !is_begun {
         return None;
     }
@@ -441,14 +448,14 @@ fn told_of_seats(alloc: Global, tree: &TreeHandle) -> Option<[u32; 13]> {
         third,
         fourth,
         fifth,
-        bwtree_raw_close_pairs(alloc, tree, &mut [], &mut count, nothing()).status,
-        bwtree_raw_get(tree, 0, b"a", &mut old, nothing()).status,
-        bwtree_raw_is_idle(tree, 0, nothing()).status,
-        bwtree_raw_resume(tree, 0, 0, &mut old, &mut page, nothing()).status,
-        bwtree_raw_resume(tree, 0, 65536, &mut old, &mut page, nothing()).status,
-        bwtree_raw_resume(tree, 0, 1, &mut old, &mut page, nothing()).status,
-        bwtree_raw_is_idle(tree, 0, nothing()).status,
-        bwtree_raw_close(tree, nothing()).status,
+        caller.close_pairs(alloc, &mut [], &mut count),
+        caller.get(0, b"a", &mut old),
+        caller.is_idle(0),
+        caller.resume(0, 0, &mut old, &mut page),
+        caller.resume(0, 65536, &mut old, &mut page),
+        caller.resume(0, 1, &mut old, &mut page),
+        caller.is_idle(0),
+        caller.close(),
     ])
 }
 
@@ -457,7 +464,7 @@ fn seats_are_busy_and_unfinished(rt: HostRuntime) -> Result<(), Fail> {
     let wanted = [
         BUSY, BUSY, BUSY, BUSY, OK, UNFINISHED, UNFINISHED, UNFINISHED, SPENT, ABSENT, IDLE, OK, OK,
     ];
-    let tree = two_seats(rt.alloc());
-    assert!(rt; told_of_seats(rt.alloc(), &tree).ok_or("no seat")? == wanted);
+    let mut caller = two_seats(rt.alloc());
+    assert!(rt; told_of_seats(rt.alloc(), &mut caller).ok_or("no seat")? == wanted);
     Ok(())
 }

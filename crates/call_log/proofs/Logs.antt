@@ -1,13 +1,11 @@
 -- Events that are added to a log.
-use Rattle.std.proofs.Common.{◌≡◌, ◌≢◌, ◌<◌, ◌++◌, ◌∷◌, ◌∙◌, ℕ, zero, suc, Bool, List, [], None, Option, Some, ap, append-nil, arith, false, inl, inr, length, ne_eqb, refl, sym, true}
+use Rattle.std.proofs.Common.{◌≡◌, ◌≢◌, ◌<◌, ◌++◌, ◌∷◌, ◌∙◌, ℕ, zero, suc, Bool, List, [], Option, Some, ap, append-nil, arith, false, inl, inr, length, refl, sym, true}
 use Rattle.std.specs.Prelude.{if◌then◌else◌, slice_get, slice_set}
 use Rattle.std.proofs.lemmas.Option.{same_Some}
 use Rattle.call_log.specs.declared.log.Event.{Event}
 use Rattle.call_log.specs.declared.log.Event.TheVariants.{Called, Closed, Emptied}
-use Rattle.call_log.specs.declared.log.Kind.{Kind}
-use Rattle.call_log.specs.declared.log.Kind.TheVariants.{Open, Signed}
 use Rattle.call_log.specs.declared.log.Known.{Known}
-use Rattle.call_log.specs.Logs.{AreSigned, BeganAs, IsLog, IsOfKind, IsSigned, author_of, by, is_by, seats_after, stage_of}
+use Rattle.call_log.specs.Logs.{AreSigned, BeganAs, IsLog, IsSigned, author_of, by, is_by, seats_after, stage_of}
 use Rattle.call_log.specs.Rule.{ExtendsAll}
 
 module _ {X : Type 0} where
@@ -154,10 +152,6 @@ module _ {X : Type 0} where
   pub by_others : (author : ℕ) (log : List (Event X)) (event : Event X) → is_by author (author_of event) ≡ false → by author (log ++ event ∷ []) ≡ by author log
   by_others author log event is = by_both author log (event ∷ []) ∙ ap (λ l. by author log ++ l) (not_by author event is) ∙ append-nil (by author log)
 
-  signed_more : (log : List (Event X)) (event : Event X) → AreSigned log → IsSigned (author_of event) → AreSigned (log ++ event ∷ [])
+  pub signed_more : (log : List (Event X)) (event : Event X) → AreSigned log → IsSigned (author_of event) → AreSigned (log ++ event ∷ [])
   signed_more [] event all is = (is, tt)
   signed_more (e ∷ log) event all is = (all.0, signed_more log event all.1 is)
-
-  pub signed_on : (kind : Kind) (log : List (Event X)) (event : Event X) → IsOfKind kind log → IsSigned (author_of event) → IsOfKind kind (log ++ event ∷ [])
-  signed_on Open log event all is = tt
-  signed_on Signed log event all is = signed_more log event all is

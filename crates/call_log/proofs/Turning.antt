@@ -10,11 +10,9 @@ use Rattle.call_log.specs.declared.log.Authors.{Authors}
 use Rattle.call_log.specs.declared.log.Authors.TheVariants.{AllFrom, Nobody, One}
 use Rattle.call_log.specs.declared.log.Event.{Event}
 use Rattle.call_log.specs.declared.log.Event.TheVariants.{Called, Closed, Emptied}
-use Rattle.call_log.specs.declared.log.Kind.{Kind}
-use Rattle.call_log.specs.declared.log.Kind.TheVariants.{Open, Signed}
 use Rattle.call_log.specs.declared.log.Known.{Known}
 use Rattle.call_log.specs.declared.log.Knows.{Knows}
-use Rattle.call_log.specs.Logs.{HasAuthor, IsLog, IsOfKind, IsSigned, MayWrite, author_of, first_author, is_by, seats_after, stage_of}
+use Rattle.call_log.specs.Logs.{HasAuthor, IsLog, IsSigned, MayWrite, author_of, first_author, is_by, seats_after, stage_of}
 use Rattle.call_log.specs.Rule.{HasAllBy, Holds, IsTrueView, Owns, known}
 use Rattle.call_log.specs.Steps.{CanCall, CanEnd, HasEnded, HasLogged, HasLoggedClosing, HasLoggedEmptying, HasRecalled, Mine}
 use Rattle.call_log.proofs.Logs.{
@@ -37,7 +35,7 @@ use Rattle.call_log.proofs.Logs.{
   same_list,
   set_hit,
   set_miss,
-  signed_on,
+  signed_more,
 }
 
 -- whom a view doesn't have wrote nothing of what the view's first author wrote
@@ -54,14 +52,13 @@ module _ {X : Type 0} (goes_on : X → X → Type 0) (opened : List X) where
   abbrev pub R : State (Unit {0}) (Knows X) → Type 0
   R = Holds goes_on opened
 
-  pub stays : (log : List (Event X)) (event : Event X) (kind : Kind) (owner writer : ℕ → ℕ) (j : ℕ) (u : Knows X)
+  pub stays : (log : List (Event X)) (event : Event X) (owner writer : ℕ → ℕ) (j : ℕ) (u : Knows X)
       → ((m : ℕ) (x : X) → owner m ≡ j → slice_get (seats_after opened log) m ≡ Some x
       → (slice_get (seats_after opened (log ++ event ∷ [])) m ≡ Some x) × (stage_of (log ++ event ∷ []) ≡ stage_of log))
       → ((a : ℕ) → writer a ≡ j → is_by a (author_of event) ≡ false)
-      → IsTrueView opened log kind owner writer j u → IsTrueView opened (log ++ event ∷ []) kind owner writer j u
-  stays log event kind owner writer j u same other fits = record {
+      → IsTrueView opened log owner writer j u → IsTrueView opened (log ++ event ∷ []) owner writer j u
+  stays log event owner writer j u same other fits = record {
     own = λ n x at. let own = fits.own n x at in let k = same (u.first + n) x own.0 own.1 in (own.0, k.0, k.1 ∙ own.2);
-    of_kind = fits.of_kind;
     alone = λ a has. let mine = fits.alone a has in (mine.0, more_by a log event u.logs (other a mine.0) mine.1);
     seen = all_more opened log (event ∷ []) u.logs fits.seen;
   }
@@ -69,24 +66,20 @@ module _ {X : Type 0} (goes_on : X → X → Type 0) (opened : List X) where
   pub turned : (s : State (Unit {0}) (Knows X)) (h : R s) (id : ℕ) (v w : Knows X) (event : Event X) → get_elem? s.views id ≡ some v → IsLog goes_on opened (h.log ++ event ∷ [])
       → ((m : ℕ) (x : X) → h.owner m ≢ id → slice_get (seats_after opened h.log) m ≡ Some x
       → (slice_get (seats_after opened (h.log ++ event ∷ [])) m ≡ Some x) × (stage_of (h.log ++ event ∷ []) ≡ stage_of h.log))
-      → author_of event ≡ first_author v.authors → MayWrite v.kind v.authors
-      → IsTrueView opened (h.log ++ event ∷ []) h.kind h.owner h.writer id w → (words : List ℕ) → words ≡ stage_of (h.log ++ event ∷ []) ∷ []
+      → author_of event ≡ first_author v.authors → MayWrite v.authors
+      → IsTrueView opened (h.log ++ event ∷ []) h.owner h.writer id w → (words : List ℕ) → words ≡ stage_of (h.log ++ event ∷ []) ∷ []
       → R record { words = words; homes = s.homes; views = set s.views id w }
   turned s h id v w event at legal others mine may fits words is = record {
     log = h.log ++ event ∷ [];
-    kind = h.kind;
     owner = h.owner;
     writer = h.writer;
     legal = legal;
-    of_kind = ⊎_elim
-        (λ e. subst (λ k. IsOfKind k (h.log ++ event ∷ [])) ((h.each id v at).of_kind Open e) tt)
-        (λ is. signed_on h.kind h.log event h.of_kind (subst IsSigned (sym mine) is))
-        may;
+    signed = signed_more h.log event h.signed (subst IsSigned (sym mine) may);
     word = is;
     each = λ j u there. ⊎_elim
-        (λ t. subst (λ z. IsTrueView opened (h.log ++ event ∷ []) h.kind h.owner h.writer j z) t.1
-        (subst (λ k. IsTrueView opened (h.log ++ event ∷ []) h.kind h.owner h.writer k w) (sym t.0) fits))
-        (λ t. stays h.log event h.kind h.owner h.writer j u (λ m x own e. others m x (λ i. t.0 (sym own ∙ i)) e)
+        (λ t. subst (λ z. IsTrueView opened (h.log ++ event ∷ []) h.owner h.writer j z) t.1
+        (subst (λ k. IsTrueView opened (h.log ++ event ∷ []) h.owner h.writer k w) (sym t.0) fits))
+        (λ t. stays h.log event h.owner h.writer j u (λ m x own e. others m x (λ i. t.0 (sym own ∙ i)) e)
         (λ a own. ap (is_by a) mine ∙ others_wrote h.writer id v.authors (λ b has. ((h.each id v at).alone b has).0) a (λ i. t.0 (sym own ∙ i)))
         (h.each j u t.1))
         (at_set s.views id j w u there);
@@ -110,7 +103,7 @@ module _ {X : Type 0} (goes_on : X → X → Type 0) (opened : List X) where
       let now = called_after opened h.log by_me first before after early in
       let base : Owns opened log h.owner id 0 first after =
       (own.0, ap (λ l. slice_get l first) now ∙ set_hit (seats_after opened h.log) first after before own.1, stage ∙ early) in
-      let w : Knows X = record { first = first; here = after ∷ []; stage = 0; kind = me.0.kind; authors = me.0.authors; logs = known opened log ∷ [] } in
+      let w : Knows X = record { first = first; here = after ∷ []; stage = 0; authors = me.0.authors; logs = known opened log ∷ [] } in
       let legal = called_on goes_on opened h.log by_me first before after h.legal early own.1 can.3 in (
         w,
         turned s h id me.0 w event at legal
@@ -119,7 +112,6 @@ module _ {X : Type 0} (goes_on : X → X → Type 0) (opened : List X) where
             (record {
               own = λ n x e. let it = only after n x e in let same : first ≡ first + n = (let z = it.0 in omega (arith, z)) in
                   subst (λ y. Owns opened log h.owner id 0 (first + n) y) it.1 (subst (λ m. Owns opened log h.owner id 0 m after) same base);
-              of_kind = fits.of_kind;
               alone = λ a has. ((fits.alone a has).0, refl);
               seen = ((refl, began_self log), tt);
             })
@@ -134,22 +126,20 @@ module _ {X : Type 0} (goes_on : X → X → Type 0) (opened : List X) where
   pub recalls : (slots id : ℕ) (me : Mine X) → Allows R slots id me 0 (λ n. n) (λ n. HasRecalled goes_on me n)
   recalls slots id me s h _ at _ =
       let fits = h.each id me.0 at in
-      let w : Knows X = record { first = me.0.first; here = me.0.here; stage = me.0.stage; kind = me.0.kind; authors = me.0.authors; logs = known opened h.log ∷ [] } in (
+      let w : Knows X = record { first = me.0.first; here = me.0.here; stage = me.0.stage; authors = me.0.authors; logs = known opened h.log ∷ [] } in (
         w,
         keeps,
         tt,
         record {
           log = h.log;
-          kind = h.kind;
           owner = h.owner;
           writer = h.writer;
           legal = h.legal;
-          of_kind = h.of_kind;
+          signed = h.signed;
           word = set-get_or s.words 0 0 ∙ h.word;
           each = λ j u there. ⊎_elim
-              (λ t. subst (λ z. IsTrueView opened h.log h.kind h.owner h.writer j z) t.1 (subst (λ k. IsTrueView opened h.log h.kind h.owner h.writer k w) (sym t.0) (record {
+              (λ t. subst (λ z. IsTrueView opened h.log h.owner h.writer j z) t.1 (subst (λ k. IsTrueView opened h.log h.owner h.writer k w) (sym t.0) (record {
                 own = fits.own;
-                of_kind = fits.of_kind;
                 alone = λ a has. ((fits.alone a has).0, refl);
                 seen = ((refl, began_self h.log), tt);
               })))
@@ -188,7 +178,7 @@ module _ {X : Type 0} (goes_on : X → X → Type 0) (opened : List X) where
       same_list (seats_after opened h.log) me.0.here (after_length opened h.log ∙ sym can.all) (λ n x e. (own n x e).1) in
       let mine : (m : ℕ) (x : X) → slice_get (seats_after opened h.log) m ≡ Some x → h.owner m ≡ id =
       λ m x e. (own m x (ap (λ l. slice_get l m) (sym here) ∙ e)).0 in
-      let w : Knows X = record { first = 0; here = rest; stage = stage; kind = me.0.kind; authors = me.0.authors; logs = known opened log ∷ [] } in (
+      let w : Knows X = record { first = 0; here = rest; stage = stage; authors = me.0.authors; logs = known opened log ∷ [] } in (
         w,
         keeps,
         tt,
@@ -196,7 +186,6 @@ module _ {X : Type 0} (goes_on : X → X → Type 0) (opened : List X) where
             (record {
               own = λ n x e. let it = own n x (within n x e) in subst (λ m. Owns opened log h.owner id stage m x) (omega arith)
                   (it.0, ap (λ l. slice_get l n) same ∙ it.1, stage_on h.log early);
-              of_kind = fits.of_kind;
               alone = λ a has. ((fits.alone a has).0, refl);
               seen = ((refl, began_self log), tt);
             })

@@ -1,7 +1,6 @@
 -- What a hand that wrote a call has.
 use Rattle.std.proofs.Common.{◌≡◌, ◌++◌, ◌∷◌, ◌∙◌, List, [], ap, subst, sym}
 use Rattle.atomic_table.specs.Seated.{TableId}
-use Rattle.call_log.specs.declared.log.Authors.TheVariants.{Nobody}
 use Rattle.call_log.specs.declared.log.Event.{Event}
 use Rattle.call_log.specs.declared.log.Event.TheVariants.{Called}
 use Rattle.call_log.specs.Hands.{CanWrite, Hand, HasWritten}
@@ -18,7 +17,6 @@ module _ {X : Type 0} (goes_on : X → X → Type 0) (table : TableId) (opened :
         first = can.number;
         here = can.before ∷ [];
         stage = 0;
-        kind = can.kind;
         authors = since.me.0.authors;
         logs = since.me.0.logs ++ known opened can.has.log ∷ can.has.rest;
       },
@@ -27,7 +25,7 @@ module _ {X : Type 0} (goes_on : X → X → Type 0) (table : TableId) (opened :
     heard_is = hears ∙ ap (λ m. (observing m.0 since.me.0, m.1)) can.has.me
 
     pub can_call : CanCall goes_on heard.me.0 after
-    can_call = (can.before, ap (λ m. m.0.here) heard_is, ap (λ m. m.0.stage) heard_is, can.goes, subst (λ m. MayWrite m.0.kind m.0.authors) (sym heard_is) can.may)
+    can_call = (can.before, ap (λ m. m.0.here) heard_is, ap (λ m. m.0.stage) heard_is, can.goes, subst (λ m. MayWrite m.0.authors) (sym heard_is) can.may)
 
     first_is : heard.me.0.first ≡ old.me.0.first
     first_is = ap (λ m. m.0.first) hears
@@ -48,7 +46,6 @@ module _ {X : Type 0} (goes_on : X → X → Type 0) (table : TableId) (opened :
             first = old.me.0.first;
             here = after ∷ [];
             stage = 0;
-            kind = old.me.0.kind;
             authors = since.me.0.authors;
             logs = known opened (called.log ++ event ∷ []) ∷ [];
           },
@@ -59,7 +56,6 @@ module _ {X : Type 0} (goes_on : X → X → Type 0) (table : TableId) (opened :
             first = first_is i;
             here = after ∷ [];
             stage = 0;
-            kind = ap (λ m. m.0.kind) hears i;
             authors = theirs i;
             logs = known (sym is i) (called.log ++ Called (first_author (theirs i)) (first_is i) called.before after ∷ []) ∷ [];
           },

@@ -3,8 +3,6 @@ use Rattle.std.specs.Prelude.{◌≡◌, ◌≤◌, ◌⊎◌, ◌++◌, ◌∷�
 use Rattle.call_log.specs.declared.log.Authors.{Authors}
 use Rattle.call_log.specs.declared.log.Authors.TheVariants.{AllFrom, Nobody, One}
 use Rattle.call_log.specs.declared.log.Event.{Event}
-use Rattle.call_log.specs.declared.log.Kind.{Kind}
-use Rattle.call_log.specs.declared.log.Kind.TheVariants.{Open, Signed}
 use Rattle.call_log.specs.declared.log.Event.TheVariants.{Called, Closed, Emptied}
 
 module _ {X : Type 0} where
@@ -49,11 +47,6 @@ abbrev pub AreSigned : {X : Type 0} → List (Event X) → Type 0
 AreSigned [] = ⊤
 AreSigned (event ∷ events) = IsSigned (author_of event) × AreSigned events
 
--- The log may be one of this kind.
-abbrev pub IsOfKind : {X : Type 0} → Kind → List (Event X) → Type 0
-IsOfKind Open log = ⊤
-IsOfKind Signed log = AreSigned log
-
 abbrev pub is_by : ℕ → Option ℕ → Bool
 is_by author None = false
 is_by author (Some other) = eqb author other
@@ -74,9 +67,9 @@ first_author Nobody = None
 first_author (One number) = Some number
 first_author (AllFrom number) = Some number
 
--- Whoever knows so much of the log's kind and has these authors may write into it.
-abbrev pub MayWrite : Option Kind → Authors → Type 0
-MayWrite kind authors = (kind ≡ Some Open) ⊎ IsSigned (first_author authors)
+-- Whoever has these authors may write.
+abbrev pub MayWrite : Authors → Type 0
+MayWrite authors = IsSigned (first_author authors)
 
 -- These authors have written nothing more in the second log.
 abbrev pub WroteNoMore : {X : Type 0} → Authors → List (Event X) → List (Event X) → Type 0

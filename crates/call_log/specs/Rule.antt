@@ -1,15 +1,14 @@
 -- What a table of no words but one has to do with a log, and what its seats know of that.
-use Rattle.std.specs.Prelude.{◌≡◌, ◌+◌, ◌∷◌, [], ℕ, List, None, Some, slice_get, ⊤}
+use Rattle.std.specs.Prelude.{◌≡◌, ◌+◌, ◌∷◌, [], ℕ, List, Some, slice_get, ⊤}
 use mathlib.Core.Option.{some}
 use lib.ListN.{get_elem?}
 use Rattle.atomic_table.specs.Table.{State}
 use Rattle.call_log.specs.declared.log.Authors.{Authors}
 use Rattle.call_log.specs.declared.log.Authors.TheVariants.{AllFrom}
 use Rattle.call_log.specs.declared.log.Event.{Event}
-use Rattle.call_log.specs.declared.log.Kind.{Kind}
 use Rattle.call_log.specs.declared.log.Known.{Known}
 use Rattle.call_log.specs.declared.log.Knows.{Knows}
-use Rattle.call_log.specs.Logs.{BeganAs, HasAuthor, IsLog, IsOfKind, by, seats_after, stage_of}
+use Rattle.call_log.specs.Logs.{BeganAs, HasAuthor, IsLog, AreSigned, by, seats_after, stage_of}
 
 module _ {X : Type 0} where
   abbrev pub known : List X → List (Event X) → Known X
@@ -17,11 +16,11 @@ module _ {X : Type 0} where
 
   -- a receipt: it has these authors, has seen this log, and has no seat
   abbrev pub receipt : Authors → List (Known X) → Knows X
-  receipt authors logs = record { first = 0; here = []; stage = 0; kind = None; authors = authors; logs = logs }
+  receipt authors logs = record { first = 0; here = []; stage = 0; authors = authors; logs = logs }
 
   -- the view with which a table opens: it has all seats, and all authors
-  abbrev pub all_of : Kind → List X → Knows X
-  all_of kind opened = record { first = 0; here = opened; stage = 0; kind = Some kind; authors = AllFrom 0; logs = known opened [] ∷ [] }
+  abbrev pub all_of : List X → Knows X
+  all_of opened = record { first = 0; here = opened; stage = 0; authors = AllFrom 0; logs = known opened [] ∷ [] }
 
   -- The seat of this number is this one, and it is that view's.
   abbrev pub Owns : List X → List (Event X) → (ℕ → ℕ) → ℕ → ℕ → ℕ → X → Type 0
@@ -37,21 +36,19 @@ module _ {X : Type 0} where
   HasAllBy author log [] = ⊥
   HasAllBy author log (it ∷ logs) = by author log ≡ by author it.log
 
-  -- What a view knows is so: the seats that it has are as it knows, and nobody else has them; the log is of the kind that it knows; nobody else has its
+  -- What a view knows is so: the seats that it has are as it knows, and nobody else has them; nobody else has its
   -- authors, and it has seen all that they wrote; and the log began as it has seen.
-  pub record IsTrueView (opened : List X) (log : List (Event X)) (kind : Kind) (owner writer : ℕ → ℕ) (i : ℕ) (view : Knows X) : Type 0 where
+  pub record IsTrueView (opened : List X) (log : List (Event X)) (owner writer : ℕ → ℕ) (i : ℕ) (view : Knows X) : Type 0 where
     pub own : (n : ℕ) (seat : X) → slice_get view.here n ≡ Some seat → Owns opened log owner i view.stage (view.first + n) seat
-    pub of_kind : (it : Kind) → view.kind ≡ Some it → it ≡ kind
     pub alone : (author : ℕ) → HasAuthor view.authors author → (writer author ≡ i) × HasAllBy author log view.logs
     pub seen : ExtendsAll opened log view.logs
 
-  -- The rule: there is a log, whose stage the word is, and which authors wrote alone if it is of that kind; and each view knows what is so.
+  -- The rule: there is a log, whose stage the word is, and which authors wrote alone; and each view knows what is so.
   pub record Holds (goes_on : X → X → Type 0) (opened : List X) (s : State (Unit {0}) (Knows X)) : Type 0 where
     pub log : List (Event X)
-    pub kind : Kind
     pub owner : ℕ → ℕ
     pub writer : ℕ → ℕ
     pub legal : IsLog goes_on opened log
-    pub of_kind : IsOfKind kind log
+    pub signed : AreSigned log
     pub word : s.words ≡ stage_of log ∷ []
-    pub each : (i : ℕ) (view : Knows X) → get_elem? s.views i ≡ some view → IsTrueView opened log kind owner writer i view
+    pub each : (i : ℕ) (view : Knows X) → get_elem? s.views i ≡ some view → IsTrueView opened log owner writer i view

@@ -5,7 +5,6 @@ use Rattle.call_log.specs.declared.log.Authors.{Authors}
 use Rattle.call_log.specs.declared.log.Authors.TheVariants.{AllFrom, Nobody, One}
 use Rattle.call_log.specs.declared.log.Event.{Event}
 use Rattle.call_log.specs.declared.log.Event.TheVariants.{Called, Closed, Emptied}
-use Rattle.call_log.specs.declared.log.Kind.{Kind}
 use Rattle.call_log.specs.declared.log.Known.{Known}
 use Rattle.call_log.specs.declared.log.Knows.{Knows}
 use Rattle.call_log.specs.Logs.{HasAuthor, IsLog, MayWrite, first_author, seats_after, stage_of}
@@ -39,7 +38,7 @@ module _ {X : Type 0} where
   abbrev pub HaveSeenOwn : Authors → List (Event X) → List (Known X) → Type 0
   HaveSeenOwn authors log logs = (author : ℕ) → HasAuthor authors author → HasAllBy author log logs
 
-  -- A call is in the log, by the view's first author, if it has one: it found the seat as this view had it, and left this one.
+  -- A call is in the log, by the view's first author: it found the seat as this view had it, and left this one.
   pub record HasLogged (goes_on : X → X → Type 0) (after : X) (old new : Mine X) : Type 0 where
     pub opened : List X
     pub log : List (Event X)
@@ -53,7 +52,6 @@ module _ {X : Type 0} where
         first = old.0.first;
         here = after ∷ [];
         stage = 0;
-        kind = old.0.kind;
         authors = old.0.authors;
         logs = known opened (log ++ Called (first_author old.0.authors) old.0.first before after ∷ []) ∷ [];
       },
@@ -73,7 +71,7 @@ module _ {X : Type 0} where
     pub stages : stage_of (log ++ event ∷ []) ≡ stage
     pub alone : HaveSeenOwn old.0.authors log old.0.logs
     pub seen : ExtendsAll opened log old.0.logs
-    pub now : new ≡ (record { first = 0; here = rest; stage = stage; kind = old.0.kind; authors = old.0.authors; logs = known opened (log ++ event ∷ []) ∷ [] }, old.1)
+    pub now : new ≡ (record { first = 0; here = rest; stage = stage; authors = old.0.authors; logs = known opened (log ++ event ∷ []) ∷ [] }, old.1)
 
   -- The tree is closed, and what it left waits; the view still has all seats.
   abbrev pub HasLoggedClosing : (X → X → Type 0) → Mine X → Mine X → Type 0
@@ -99,34 +97,34 @@ module _ {X : Type 0} where
     pub far : 0 < length old.0.here → stage_of log ≡ old.0.stage
     pub alone : HaveSeenOwn old.0.authors log old.0.logs
     pub seen : ExtendsAll opened log old.0.logs
-    pub now : new ≡ (record { first = old.0.first; here = old.0.here; stage = old.0.stage; kind = old.0.kind; authors = old.0.authors; logs = known opened log ∷ [] }, old.1)
+    pub now : new ≡ (record { first = old.0.first; here = old.0.here; stage = old.0.stage; authors = old.0.authors; logs = known opened log ∷ [] }, old.1)
 
   -- An operation can't say the table's seats, and takes those of its first view.
   abbrev pub Looks : (X → X → Type 0) → Mine X → ℕ → Mine X → Type 0
-  Looks goes_on first found new = (kind : Kind) (opened : List X) → first.0 ≡ all_of kind opened → HasLooked goes_on opened found new
+  Looks goes_on first found new = (opened : List X) → first.0 ≡ all_of opened → HasLooked goes_on opened found new
 
   -- the view without its first seat, and that seat alone
   abbrev pub others : Knows X → Knows X
-  others view = record { first = view.first + 1; here = tail_of view.here; stage = view.stage; kind = view.kind; authors = view.authors; logs = view.logs }
+  others view = record { first = view.first + 1; here = tail_of view.here; stage = view.stage; authors = view.authors; logs = view.logs }
 
   abbrev pub one : Knows X → Knows X
-  one view = record { first = view.first; here = head_of view.here; stage = view.stage; kind = view.kind; authors = Nobody; logs = view.logs }
+  one view = record { first = view.first; here = head_of view.here; stage = view.stage; authors = Nobody; logs = view.logs }
 
   -- the view without its authors
   abbrev pub mute : Knows X → Knows X
-  mute view = record { first = view.first; here = view.here; stage = view.stage; kind = view.kind; authors = Nobody; logs = view.logs }
+  mute view = record { first = view.first; here = view.here; stage = view.stage; authors = Nobody; logs = view.logs }
 
   -- the view without its first author
   abbrev pub parting : Knows X → Knows X
-  parting view = record { first = view.first; here = view.here; stage = view.stage; kind = view.kind; authors = rest_of view.authors; logs = view.logs }
+  parting view = record { first = view.first; here = view.here; stage = view.stage; authors = rest_of view.authors; logs = view.logs }
 
   -- two views as one, with the authors of the first one
   abbrev pub both : Knows X → Knows X → Knows X
-  both view other = record { first = view.first; here = view.here ++ other.here; stage = view.stage; kind = view.kind; authors = view.authors; logs = view.logs ++ other.logs }
+  both view other = record { first = view.first; here = view.here ++ other.here; stage = view.stage; authors = view.authors; logs = view.logs ++ other.logs }
 
   -- the view, which has also seen what the other one has, and has the authors of that one
   abbrev pub observing : Knows X → Knows X → Knows X
-  observing view other = record { first = view.first; here = view.here; stage = view.stage; kind = view.kind; authors = other.authors; logs = other.logs ++ view.logs }
+  observing view other = record { first = view.first; here = view.here; stage = view.stage; authors = other.authors; logs = other.logs ++ view.logs }
 
   -- The seats of the other view, if it has any, are those behind this one's.
   abbrev pub Adjoins : Knows X → Knows X → Type 0
@@ -134,12 +132,12 @@ module _ {X : Type 0} where
 
   -- The view has one seat of an open tree, which may go on to this one, and may write.
   abbrev pub CanCall : (X → X → Type 0) → Knows X → X → Type 0
-  CanCall goes_on view after = (before : X) × (view.here ≡ before ∷ []) × (view.stage ≡ 0) × goes_on before after × MayWrite view.kind view.authors
+  CanCall goes_on view after = (before : X) × (view.here ≡ before ∷ []) × (view.stage ≡ 0) × goes_on before after × MayWrite view.authors
 
   -- The view has all seats, and may write, and the log isn't as far.
   pub record CanEnd (opened : List X) (stage : ℕ) (view : Knows X) : Type 0 where
     pub first : view.first ≡ 0
     pub some : 0 < length opened
     pub all : length view.here ≡ length opened
-    pub may : MayWrite view.kind view.authors
+    pub may : MayWrite view.authors
     pub before : view.stage < stage

@@ -6,7 +6,7 @@ use crate::rule::{Course, Hand, Log};
 use crate::steps::{called, copied, observed};
 
 /// Writes a call into the log, which found the seat that the hand has, and left another one; and gives a receipt of it. The call comes behind all that the
-/// other hand has seen, and is written as its first author, if it has one; its authors are the receipt's.
+/// other hand has seen, and is written as its first author; its authors are the receipt's.
 pub fn written<X, P: Course<X>>(
     log: &Log<X, P>,
     hand: &mut Hand<X>,

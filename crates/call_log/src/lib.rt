@@ -8,9 +8,9 @@
 //! it says that the log had come so far, and can't be made up. A hand that observes another one has seen what that has (`observed`), and what it writes comes
 //! behind that.
 //!
-//! What is written has an author, or is nobody's. Authors are numbers: a table opens with all of them, each hand has some, and no two have one. No function mints
-//! them: they are split off (`parted`, `copied`) and handed on (`observed`). Whoever has an author knows all that was written as it (`authors_are_known`). Into a log
-//! that is signed (`Kind`) nobody writes without an author.
+//! What is written has an author. Authors are numbers: a table opens with all of them, each hand has some, and no two have one. No function mints them: they are
+//! split off (`parted`, `copied`) and handed on (`observed`). Whoever has an author knows all that was written as it (`authors_are_known`). Whoever has none writes
+//! nothing.
 //!
 //! So what clauses say of two calls of one handle is connected: their receipts are of one table, and of any two logs that were seen one is the beginning of the
 //! other (`logs_agree`). A call comes behind what its hand has seen, and at each moment one can be written behind all that anybody has seen by then
@@ -27,7 +27,7 @@ mod steps;
 
 pub use hands::written;
 pub use laws::{authors_are_known, calls_come_last, calls_follow, logs_agree};
-pub use log::{Authors, Event, Kind, Known, Knows};
+pub use log::{Authors, Event, Known, Knows};
 pub use rule::{Course, Hand, Log, LogTable, Rule};
 pub use steps::{
     called, closed, copied, dealt, emptied, joined, looked, observed, opened, parted, recalled,

@@ -12,15 +12,7 @@ pub enum Authors {
     AllFrom(u64),
 }
 
-/// What a log requires of whoever writes into it.
-pub enum Kind {
-    /// No author.
-    Open,
-    /// An author.
-    Signed,
-}
-
-/// What was done, and by which author, if it was by one.
+/// What was done, and by which author.
 pub enum Event<X> {
     /// A call had the seat of this number to itself: it found the first one, and left the second one.
     Called(Option<u64>, u64, X, X),
@@ -46,8 +38,6 @@ pub struct Knows<X> {
     pub here: LinkedList<X>,
     /// How far the log is, if it has a seat.
     pub stage: u64,
-    /// The kind of the log, if it knows that.
-    pub kind: Option<Kind>,
     /// As whom it may write.
     pub authors: Authors,
     /// The logs that it has seen.

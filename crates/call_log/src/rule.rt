@@ -4,13 +4,9 @@ use atomic_table::{Join, Play, Seat, Shared, Split, Table, TableRule};
 use std::alloc::Global;
 use std::marker::{Brand, PhantomData};
 
-/// How seats go on, and what a log of them requires of whoever writes.
+/// How seats go on.
 pub trait Course<X> {
-    ghost use Rattle.call_log.specs.declared.log.Kind.{Kind};
-
     ghost goes_on: { X → X → Type 0 };
-
-    ghost kind: { Kind };
 }
 
 /// The rule of a log of seats that go on so.
@@ -23,7 +19,7 @@ impl<X, P: Course<X>> TableRule<(), Knows<X>, Vec<X>> for Rule<X, P> {
 
     ghost holds = { λ seats. Holds P.goes_on seats.items };
 
-    ghost first = { λ seats. all_of P.kind seats.items };
+    ghost first = { λ seats. all_of seats.items };
 }
 
 /// A log's table, with its memory.

@@ -14,7 +14,7 @@ use std::marker::Brand;
 /// A log of these seats, and the seat of its table that has them all, and all authors, if there is memory for it.
 pub fn opened<X, P: Course<X>>(alloc: Global, seats: &Vec<X>) -> Option<(LogTable<X, P>, Hand<X>)>
     ensures table { IfSome result (λ made. (made.1.table_id ≡ made.0.shared.table_id) × (0 < made.0.shared.table_id.words) × (made.0.shared.key ≡ seats.now)) }
-    ensures hand { IfSome result (λ made. made.1.me ≡ (all_of P.kind seats.now.items, [])) }
+    ensures hand { IfSome result (λ made. made.1.me ≡ (all_of seats.now.items, [])) }
 {
     match Table::of_words(alloc, &[0], seats) {
         Ok(made) => Some(made),
@@ -84,7 +84,7 @@ pub fn observed<X, P: Course<X>>(log: &Log<X, P>, hand: &mut Hand<X>, other: Han
     log.join_seat::<Observing>(hand, other);
 }
 
-/// Writes a call into the log, as the seat's first author, if it has one. The call found the seat that this one has, and left another one.
+/// Writes a call into the log, as the seat's first author. The call found the seat that this one has, and left another one.
 pub fn called<X, P: Course<X>>(log: &Log<X, P>, hand: &mut Hand<X>, after: &X)
     requires table { hand.old.table_id ≡ log.now.table_id }
     requires word { 0 < log.now.table_id.words }

@@ -4,7 +4,7 @@ ghost use Rattle.call_log.specs.declared.log.Authors.{Authors};
 ghost use Rattle.call_log.specs.declared.log.Authors.TheVariants.{Nobody};
 ghost use Rattle.call_log.specs.Rule.{receipt};
 ghost use Rattle.bw_tree_c.specs.Closing.{CanForget, HandsOver, HasMore, IsForgotten, IsLeftFor};
-ghost use Rattle.bw_tree_c.specs.Handles.{MayCall, kind_of};
+ghost use Rattle.bw_tree_c.specs.Handles.{MayCall, MayCallOn};
 ghost use Rattle.bw_tree_c.specs.Left.{IsLeftAt};
 ghost use Rattle.bw_tree_c.specs.Refused.{IsHindrance};
 
@@ -30,6 +30,7 @@ pub extern "C" fn bwtree_raw_close_pairs(
     count: &mut u64,
     since: Receipt,
 ) -> Told
+    requires may { MayCallOn tree.now.kept.value since }
     ensures never { tree.now.kept.value ≡ None → result.status ≡ CLOSED }
     ensures told { (result.status ≡ OK) ⊎ (result.status ≡ NO_ROOM) ⊎ (result.status ≡ CLOSED) ⊎ (result.status ≡ BUSY)
         ⊎ (result.status ≡ UNFINISHED) ⊎ (result.status ≡ NO_MEMORY) }
@@ -39,15 +40,16 @@ pub extern "C" fn bwtree_raw_close_pairs(
     ensures same { result.status ≢ OK → pairs.new ≡ pairs.old }
     ensures untold { result.status ≢ OK → result.status ≢ NO_ROOM → count.new ≡ count.old }
     ensures back { result.status ≢ OK → result.status ≢ NO_ROOM → result.receipt ≡ since }
+    ensures may { MayCallOn tree.now.kept.value result.receipt }
 {
     match tree.shared() {
         Some(shared) => shared.close_pairs(alloc, pairs, count, since),
-        None => Told::refused(CLOSED, since),
+        None => tree.refused(CLOSED, since),
     }
 }
 
 impl Shared {
-    /// Closes the tree, and hands its pairs over. Unless the log is open to all, that can be written as the caller's author alone.
+    /// Closes the tree, and hands its pairs over.
     fn close_pairs(
         &self,
         alloc: Global,
@@ -91,7 +93,7 @@ impl Shared {
 
     /// Puts the pairs of a closed tree where they wait, and gives what has seen the log, and their hand's authors.
     fn keep_left(&self, mut left: LeftPairs) -> SeatHand
-        requires { (authors : Authors) × IsLeftAt self.now.log.shared.table_id self.now.log.shared.key.items (kind_of self.now) authors left }
+        requires { (authors : Authors) × IsLeftAt self.now.log.shared.table_id self.now.log.shared.key.items authors left }
         ensures table { result.table_id ≡ left.hand.table_id }
         ensures receipt { result.me ≡ (receipt left.hand.me.0.authors left.hand.me.0.logs, []) }
     {
@@ -122,7 +124,7 @@ impl Shared {
 
     /// Pairs that a closed tree has left; their hand has what the caller had, and has seen the log, which has not changed since they were left.
     fn for_caller(&self, mut left: LeftPairs, since: Receipt) -> LeftPairs
-        requires left { IsLeftAt self.now.log.shared.table_id self.now.log.shared.key.items (kind_of self.now) Nobody left }
+        requires left { IsLeftAt self.now.log.shared.table_id self.now.log.shared.key.items Nobody left }
         requires may { MayCall self.now since }
         ensures { IsLeftFor self.now since result }
     {

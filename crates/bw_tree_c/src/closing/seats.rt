@@ -5,7 +5,7 @@ ghost use Rattle.std.specs.Vec.{vec_capacity};
 ghost use Rattle.running_tree.specs.Trees.{AreClosed, AreSeatsOf, IsSeatOf};
 ghost use Rattle.seats.specs.Idle.{AreIdle};
 ghost use Rattle.bw_tree_c.specs.Closing.{IsLeftFor};
-ghost use Rattle.bw_tree_c.specs.Handles.{MayCall, kind_of};
+ghost use Rattle.bw_tree_c.specs.Handles.{MayCall};
 ghost use Rattle.bw_tree_c.specs.Hands.{AreSlotsOf};
 ghost use Rattle.bw_tree_c.specs.Left.{AreTaken};
 ghost use Rattle.bw_tree_c.specs.Refused.{IsHindrance};
@@ -70,11 +70,11 @@ fn take_out(
     seats: &mut Vec<BwSeat>,
 ) -> Result<Option<Out>, Refusal>
     requires word { 0 < shared.now.log.shared.table_id.words }
-    requires slots { AreSlotsOf shared.now.log.shared.table_id shared.now.log.shared.key.items (kind_of shared.now) slots.now }
+    requires slots { AreSlotsOf shared.now.log.shared.table_id shared.now.log.shared.key.items slots.now }
     requires empty { seats.old.items ≡ [] }
     requires room { length slots.now ≤ vec_capacity seats.old }
     ensures none { IfOk result (λ found. MatchOption found ((length slots.now ≡ 0) × (seats.new.items ≡ []))
-        (λ out. AreTaken shared.now.log.shared.table_id shared.now.log.shared.key.items (kind_of shared.now) (length slots.now) (arc_value out.share) seats.new.items out.hand)) }
+        (λ out. AreTaken shared.now.log.shared.table_id shared.now.log.shared.key.items (length slots.now) (arc_value out.share) seats.new.items out.hand)) }
     ensures capacity { vec_capacity seats.new ≡ vec_capacity seats.old }
     ensures refused { IfErr result IsHindrance }
 {

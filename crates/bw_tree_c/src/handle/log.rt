@@ -4,16 +4,13 @@ ghost use Rattle.bw_tree_c.specs.Seats.{IsLater};
 use call_log::{Course, Hand, LogTable};
 use running_tree::BwSeat;
 
-/// How a call leaves a seat: it goes on from what it had seen. A log is open to all when it is opened, since C's callers have no author.
+/// How a call leaves a seat: it goes on from what it had seen.
 pub struct Going;
 
 impl Course<BwSeat> for Going {
-    ghost use Rattle.call_log.specs.declared.log.Kind.TheVariants.{Open};
     ghost use Rattle.bw_tree_c.specs.Seats.{IsLater};
 
     ghost goes_on = { IsLater };
-
-    ghost kind = { Open };
 }
 
 /// The log of a handle. Its table has one word, which says how far the handle is.

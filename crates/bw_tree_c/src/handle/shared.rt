@@ -19,7 +19,7 @@ pub struct Shared {
     ghost word: { 0 < log.shared.table_id.words },
     ghost one: { HaveOneTree limits log.shared.key.items },
     ghost count: { length slots.items ≡ length log.shared.key.items },
-    ghost own: { AreSlotsOf log.shared.table_id log.shared.key.items left.me.0.kind slots.items },
+    ghost own: { AreSlotsOf log.shared.table_id log.shared.key.items slots.items },
     ghost leaves: { IsLeftOf log.shared.table_id log.shared.key.items left },
 }
 
@@ -29,7 +29,7 @@ impl Shared {
         requires word { 0 < log.shared.table_id.words }
         requires one { HaveOneTree limits log.shared.key.items }
         requires count { length slots.items ≡ length log.shared.key.items }
-        requires own { AreSlotsOf log.shared.table_id log.shared.key.items left.me.0.kind slots.items }
+        requires own { AreSlotsOf log.shared.table_id log.shared.key.items slots.items }
         requires leaves { IsLeftOf log.shared.table_id log.shared.key.items left }
         ensures log { result.log ≡ log }
         ensures left { result.left ≡ left }

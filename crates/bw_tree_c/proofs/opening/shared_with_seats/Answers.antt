@@ -1,5 +1,4 @@
 use Rattle.std.proofs.Common.{◌≡◌, ◌∙◌, List, Some, ap, subst, sym}
-use Rattle.call_log.specs.declared.log.Kind.TheVariants.{Open}
 use Rattle.running_tree.specs.Seats.{Seat}
 use Rattle.bw_tree_c.specs.Hands.{AreSlotsOf, SeatHand}
 use Rattle.bw_tree_c.proofs.Dealing.{items_of}
@@ -7,7 +6,5 @@ use Rattle.bw_tree_c.proofs.opening.shared_with_seats.Goals as goal
 
 pub of-requires-clause-own : goal.of-requires-clause-own
 of-requires-clause-own c =
-    let kind : c.nothing_left-left.result.me.0.kind ≡ Some Open = ap (λ (h : SeatHand). h.me.0.kind) c.nothing_left-left.ensures ∙ ap (λ m. m.0.kind) c.in_ok-log.ensures.hand in
-    subst (λ (o : List Seat). AreSlotsOf c.in_ok-log.log.shared.table_id o c.nothing_left-left.result.me.0.kind c.in_ok-slots.slots.items)
-    (sym (items_of c.in_ok-log.log.shared.key c.args.seats c.in_ok-log.ensures.table.2))
-    (subst (λ k. AreSlotsOf c.in_ok-log.log.shared.table_id c.args.seats.items k c.in_ok-slots.slots.items) (sym kind) c.in_ok-slots.ensures.own)
+    subst (λ (o : List Seat). AreSlotsOf c.in_ok-log.log.shared.table_id o c.in_ok-slots.slots.items)
+    (sym (items_of c.in_ok-log.log.shared.key c.args.seats c.in_ok-log.ensures.table.2)) c.in_ok-slots.ensures.own

@@ -8,13 +8,13 @@ use Rattle.bw_tree_c.proofs.closing.seats.+take_out.Goals as goal
 
 pub take_out-requires : goal.take_out-requires
 take_out-requires t c =
-    let more = one_more c.args.shared.now.log.shared.table_id c.args.shared.now.log.shared.key.items c.args.shared.now.left.me.0.kind c.args.slots.now c.in-Some.others.now c.in-Some.slot.now
+    let more = one_more c.args.shared.now.log.shared.table_id c.args.shared.now.log.shared.key.items c.args.slots.now c.in-Some.others.now c.in-Some.slot.now
     c.in-Some.ensures.cases.0 c.requires.slots in (
       omega (arith, more, c.decreases),
       (
         c.requires.word,
         (
-          others_of c.args.shared.now.log.shared.table_id c.args.shared.now.log.shared.key.items c.args.shared.now.left.me.0.kind c.args.slots.now c.in-Some.others.now c.in-Some.slot.now
+          others_of c.args.shared.now.log.shared.table_id c.args.shared.now.log.shared.key.items c.args.slots.now c.in-Some.others.now c.in-Some.slot.now
               c.in-Some.ensures.cases.0 c.requires.slots,
           (c.requires.empty, (let room = c.requires.room in omega (arith, more, room))),
         ),
@@ -22,31 +22,31 @@ take_out-requires t c =
     )
 
 pub with_others-hand-requires-clause-others : goal.with_others-hand-requires-clause-others
-with_others-hand-requires-clause-others t c = below_it c.args.shared.now.log.shared.table_id c.args.shared.now.log.shared.key.items c.args.shared.now.left.me.0.kind c.args.slots.now c.in-Some.others.now
+with_others-hand-requires-clause-others t c = below_it c.args.shared.now.log.shared.table_id c.args.shared.now.log.shared.key.items c.args.slots.now c.in-Some.others.now
     c.in-Some.slot.now c.in-Some.ensures.cases.0 c.requires.slots
     c.in_ok-place.place.value c.in_ok-place.ensures.taken c.unpacked-share.result.hand c.unpacked-share.ensures.hand c.hand_of.result
-    (had c.args.shared.now.log.shared.table_id c.args.shared.now.log.shared.key.items c.args.shared.now.left.me.0.kind (length c.in-Some.others.now) c.take_out.new.seats.items c.in-Ok.before
+    (had c.args.shared.now.log.shared.table_id c.args.shared.now.log.shared.key.items (length c.in-Some.others.now) c.take_out.new.seats.items c.in-Ok.before
     c.hand_of.result c.in-Ok.ensures.none c.hand_of.ensures).below
 
 pub with_others-hand-requires-clause-hand : goal.with_others-hand-requires-clause-hand
-with_others-hand-requires-clause-hand t c = some_hand c.args.shared.now.log.shared.table_id c.args.shared.now.log.shared.key.items c.args.shared.now.left.me.0.kind c.args.slots.now c.in-Some.others.now
+with_others-hand-requires-clause-hand t c = some_hand c.args.shared.now.log.shared.table_id c.args.shared.now.log.shared.key.items c.args.slots.now c.in-Some.others.now
     c.in-Some.slot.now c.in-Some.ensures.cases.0 c.requires.slots
     c.in_ok-place.place.value c.in_ok-place.ensures.taken c.unpacked-share.result.hand c.unpacked-share.ensures.hand
 
 pub returns-in-Ok-clause-none : goal.returns-in-Ok-clause-none
-returns-in-Ok-clause-none t c = taken_one c.args.shared.now.log.shared.table_id c.args.shared.now.log.shared.key.items c.args.shared.now.left.me.0.kind (length c.in-Some.others.now)
+returns-in-Ok-clause-none t c = taken_one c.args.shared.now.log.shared.table_id c.args.shared.now.log.shared.key.items (length c.in-Some.others.now)
     c.take_out.new.seats.items c.hand_of.result
-    (had c.args.shared.now.log.shared.table_id c.args.shared.now.log.shared.key.items c.args.shared.now.left.me.0.kind (length c.in-Some.others.now) c.take_out.new.seats.items c.in-Ok.before
+    (had c.args.shared.now.log.shared.table_id c.args.shared.now.log.shared.key.items (length c.in-Some.others.now) c.take_out.new.seats.items c.in-Ok.before
     c.hand_of.result c.in-Ok.ensures.none c.hand_of.ensures)
     (length c.args.slots.now) (arc_value c.unpacked-share.result.share) c.unpacked-share.new.seats.items c.in_ok-place.place.value.seat c.unpacked-share.result.hand
     c.with_others-hand.result c.unpacked-share.ensures.seats
-    (last_later c.args.shared.now.log.shared.table_id c.args.shared.now.log.shared.key.items c.args.shared.now.left.me.0.kind c.args.slots.now c.in-Some.others.now c.in-Some.slot.now
+    (last_later c.args.shared.now.log.shared.table_id c.args.shared.now.log.shared.key.items c.args.slots.now c.in-Some.others.now c.in-Some.slot.now
     c.in-Some.ensures.cases.0 c.requires.slots c.in_ok-place.place.value c.in_ok-place.ensures.taken)
     c.unpacked-share.ensures.tree
     (subst (λ p. unfinished_command p.seat ≡ None) c.deref.ensures (has_none (unfinished_command c.deref.result.now.seat) (sym c.is_idle.ensures ∙ c.if-not-is_idle.false)))
-    (one_here c.args.shared.now.log.shared.table_id c.args.shared.now.log.shared.key.items c.args.shared.now.left.me.0.kind c.args.slots.now c.in-Some.others.now c.in-Some.slot.now
+    (one_here c.args.shared.now.log.shared.table_id c.args.shared.now.log.shared.key.items c.args.slots.now c.in-Some.others.now c.in-Some.slot.now
     c.in-Some.ensures.cases.0 c.requires.slots c.in_ok-place.place.value c.in_ok-place.ensures.taken c.unpacked-share.result.hand c.unpacked-share.ensures.hand)
-    (all_of_them c.args.shared.now.log.shared.table_id c.args.shared.now.log.shared.key.items c.args.shared.now.left.me.0.kind c.args.slots.now c.in-Some.others.now c.in-Some.slot.now
+    (all_of_them c.args.shared.now.log.shared.table_id c.args.shared.now.log.shared.key.items c.args.slots.now c.in-Some.others.now c.in-Some.slot.now
     c.in-Some.ensures.cases.0 c.requires.slots c.in_ok-place.place.value c.in_ok-place.ensures.taken c.unpacked-share.result.hand c.with_others-hand.result
     c.unpacked-share.ensures.hand c.with_others-hand.ensures.all)
     c.with_others-hand.ensures.here

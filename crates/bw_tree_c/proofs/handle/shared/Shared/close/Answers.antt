@@ -3,4 +3,4 @@ use Rattle.bw_tree_c.specs.Hands.{AreSlotsOf}
 use Rattle.bw_tree_c.proofs.handle.shared.Shared.close.Goals as goal
 
 pub close_all-requires-clause-slots : goal.close_all-requires-clause-slots
-close_all-requires-clause-slots c = subst (AreSlotsOf c.args.self.now.log.shared.table_id c.args.self.now.log.shared.key.items c.args.self.now.left.me.0.kind) (sym c.as_slice.ensures.value) c.args.self.now.own
+close_all-requires-clause-slots c = subst (AreSlotsOf c.args.self.now.log.shared.table_id c.args.self.now.log.shared.key.items) (sym c.as_slice.ensures.value) c.args.self.now.own
