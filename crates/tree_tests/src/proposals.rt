@@ -85,7 +85,7 @@ fn limits_by_width_are_proposed(rt: HostRuntime) {
         (16, 32, Some([16, 120])),
         (32, 16, Some([16, 128])),
         (64, 64, Some([24, 296])),
-        (0, 0, Some([8, 40])),
+        (0, 0, Some([8, 56])),
         (65, 8, None),
         (16, 65, None),
         (u64::MAX, 0, None),
