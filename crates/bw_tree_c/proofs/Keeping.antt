@@ -17,9 +17,9 @@ use denote.Steps.{nothing, peeks}
 use denote.Struct.Lending.{lent_at, lent_at_shr_laws}
 use denote.Struct.Struct.{Struct}
 use denote.Struct.Owning.{shape}
-use Rattle.bw_tree_c.specs.contracts.shared.Shared.{the_row as B}
+use Rattle.bw_tree_c.specs.contracts.handle.shared.Shared.{the_row as B}
 use Rattle.bw_tree_c.proofs.handle.shared.Shared.TheLaws.{the_row_laws as shared_laws}
-use Rattle.bw_tree_c.specs.contracts.kept.Kept.{the_row as K, the_type}
+use Rattle.bw_tree_c.specs.contracts.handle.kept.Kept.{the_row as K, the_type}
 use Rattle.bw_tree_c.proofs.handle.kept.Kept.TheLaws.{lowers}
 use Rattle.bw_tree_c.specs.Kept.{maybe_lent}
 

@@ -2,7 +2,7 @@
 ghost use Rattle.std.specs.Prelude.{◌≡◌, None, Some, IsSome, Option};
 ghost use Rattle.bw_tree_c.specs.Kept.{maybe_lent};
 ghost use Rattle.bw_tree_c.specs.declared.handle.shared.Shared.{Shared};
-ghost use Rattle.bw_tree_c.specs.contracts.shared.Shared.{the_row};
+ghost use Rattle.bw_tree_c.specs.contracts.handle.shared.Shared.{the_row};
 
 use crate::handle::shared::Shared;
 use std::marker::Model;

@@ -34,8 +34,8 @@ use Rattle.std.proofs.raw_atomic.Walks.{proved_at, leaves}
 use Rattle.bw_tree_c.proofs.Values.{both, BoxPointer, loose_good, loose_out}
 use Rattle.std_alloc.specs.contracts.boxed.Box.from_raw as callee
 use Rattle.std_alloc.proofs.boxed.Box.from_raw.Met.{met}
-use Rattle.bw_tree_c.specs.contracts.loose.BoxPointer.into_box.{ended, clauses}
-use Rattle.bw_tree_c.specs.contracts.loose.BoxPointer.into_box.Key.{name as #self}
+use Rattle.bw_tree_c.specs.contracts.box_pointer.BoxPointer.into_box.{ended, clauses}
+use Rattle.bw_tree_c.specs.contracts.box_pointer.BoxPointer.into_box.Key.{name as #self}
 use Rattle.bw_tree_c.proofs.box_pointer.BoxPointer.into_box.Statement.{statement}
 use Rattle.bw_tree_c.proofs.box_pointer.BoxPointer.into_box.Code as code
 

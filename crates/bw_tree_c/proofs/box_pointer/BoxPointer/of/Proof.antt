@@ -35,8 +35,8 @@ use Rattle.std.proofs.raw_atomic.Walks.{proved_at, leaves}
 use Rattle.bw_tree_c.proofs.Values.{both, loose_good, loose_in}
 use Rattle.std_alloc.specs.contracts.boxed.Box.into_raw_with_allocator as callee
 use Rattle.std_alloc.proofs.boxed.Box.into_raw_with_allocator.Met.{met}
-use Rattle.bw_tree_c.specs.contracts.loose.BoxPointer.of.{ended, clauses}
-use Rattle.bw_tree_c.specs.contracts.loose.BoxPointer.of.Key.{name as #self}
+use Rattle.bw_tree_c.specs.contracts.box_pointer.BoxPointer.of.{ended, clauses}
+use Rattle.bw_tree_c.specs.contracts.box_pointer.BoxPointer.of.Key.{name as #self}
 use Rattle.bw_tree_c.proofs.box_pointer.BoxPointer.of.Statement.{statement}
 use Rattle.bw_tree_c.proofs.box_pointer.BoxPointer.of.Code as code
 

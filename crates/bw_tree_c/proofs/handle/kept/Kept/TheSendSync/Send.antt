@@ -7,9 +7,9 @@ use denote.Struct.Owning.{shape, fields, to}
 use Rattle.std.proofs.Common.{Option, Some, None}
 use Rattle.std_alloc.proofs.SendSync.{quiet, seen}
 use Rattle.bw_tree_c.specs.Kept.{maybe_lent}
-use Rattle.bw_tree_c.specs.contracts.shared.Shared.{the_row as B}
+use Rattle.bw_tree_c.specs.contracts.handle.shared.Shared.{the_row as B}
 use Rattle.bw_tree_c.proofs.handle.shared.Shared.TheSendSync.{the_sync as shares}
-use Rattle.bw_tree_c.specs.contracts.kept.Kept.{the_row, the_type}
+use Rattle.bw_tree_c.specs.contracts.handle.kept.Kept.{the_row, the_type}
 
 shown : (p : Ptr) (o : Option B.Denot) → Keyless (maybe_lent B p o)
 shown p None = tt

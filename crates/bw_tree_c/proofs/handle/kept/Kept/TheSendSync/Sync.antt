@@ -1,5 +1,5 @@
 use denote.Param.Send.{IsSync, part_keyless}
-use Rattle.bw_tree_c.specs.contracts.kept.Kept.{the_row}
+use Rattle.bw_tree_c.specs.contracts.handle.kept.Kept.{the_row}
 use Rattle.bw_tree_c.proofs.handle.kept.Kept.TheSendSync.Send.{send}
 
 pub sync : IsSync the_row

@@ -25,9 +25,9 @@ use denote.Triple.Walked.{Stays, walk_of, says, stay_dropped, Goes-dropped, ends
 use Rattle.std.proofs.raw_atomic.Walks.{proved}
 use Rattle.bw_tree_c.proofs.Keeping.{the_some, word, Data, told, copies, opened}
 use Rattle.bw_tree_c.specs.Kept.{maybe_lent}
-use Rattle.bw_tree_c.specs.contracts.shared.Shared.{the_row as B}
-use Rattle.bw_tree_c.specs.contracts.kept.Kept.{the_row as K}
-use Rattle.bw_tree_c.specs.contracts.kept.Kept.get as f
+use Rattle.bw_tree_c.specs.contracts.handle.shared.Shared.{the_row as B}
+use Rattle.bw_tree_c.specs.contracts.handle.kept.Kept.{the_row as K}
+use Rattle.bw_tree_c.specs.contracts.handle.kept.Kept.get as f
 use Rattle.bw_tree_c.proofs.handle.kept.Kept.get.Statement.{statement}
 use Rattle.bw_tree_c.proofs.handle.kept.Kept.get.Code as code
 

@@ -14,7 +14,7 @@ use denote.Triple.Entry.{on_entry}
 use denote.Triple.Walked.{says, ends_at}
 use Rattle.std.proofs.raw_atomic.Walks.{proved}
 use Rattle.bw_tree_c.proofs.Keeping.{word, Data, made}
-use Rattle.bw_tree_c.specs.contracts.kept.Kept.none as f
+use Rattle.bw_tree_c.specs.contracts.handle.kept.Kept.none as f
 use Rattle.bw_tree_c.proofs.handle.kept.Kept.none.Statement.{statement}
 use Rattle.bw_tree_c.proofs.handle.kept.Kept.none.Code as code
 

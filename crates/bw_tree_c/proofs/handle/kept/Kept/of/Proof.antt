@@ -21,8 +21,8 @@ use denote.Struct.Lending.{lent_at}
 use denote.Triple.Walked.{Stays, says, stay_dropped, Goes-dropped, ends_at}
 use Rattle.std.proofs.raw_atomic.Walks.{proved}
 use Rattle.bw_tree_c.proofs.Keeping.{word, Data, made}
-use Rattle.bw_tree_c.specs.contracts.shared.Shared.{the_row as B}
-use Rattle.bw_tree_c.specs.contracts.kept.Kept.of as f
+use Rattle.bw_tree_c.specs.contracts.handle.shared.Shared.{the_row as B}
+use Rattle.bw_tree_c.specs.contracts.handle.kept.Kept.of as f
 use Rattle.bw_tree_c.proofs.handle.kept.Kept.of.Statement.{statement}
 use Rattle.bw_tree_c.proofs.handle.kept.Kept.of.Code as code
 
