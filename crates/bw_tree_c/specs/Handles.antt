@@ -16,11 +16,6 @@ use Rattle.bw_tree_c.specs.declared.refusal.Refusal.{Refusal}
 use Rattle.bw_tree_c.specs.declared.refusal.Refusal.TheVariants.{Closed, NoSeat}
 use Rattle.bw_tree_c.specs.declared.handle.shared.Shared.{Shared}
 
--- The slot of this number.
-abbrev pub HasSlot : Option Shared → ℕ → SeatHand → Type 0
-HasSlot None number slot = ⊥
-HasSlot (Some shared) number slot = slice_get shared.slots.items number ≡ Some slot
-
 abbrev pub IsReason : Option SeatHand → Refusal → Type 0
 IsReason None refusal = refusal ≡ NoSeat
 IsReason (Some slot) refusal = IsPassing refusal

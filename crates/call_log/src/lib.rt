@@ -8,7 +8,7 @@
 //! it says that the log had come so far, and can't be made up. A hand that observes another one has seen what that has (`observed`), and what it writes comes
 //! behind that.
 //!
-//! What is written has an author. Authors are numbers: a table opens with all of them, each hand has some, and no two have one. No function mints them: they are
+//! What is written has an author. Authors are numbers: a table opens with all of them, a hand may have some, and no two have one. No function mints them: they are
 //! split off (`parted`, `copied`) and handed on (`observed`). Whoever has an author knows all that was written as it (`authors_are_known`). Whoever has none writes
 //! nothing.
 //!

@@ -25,8 +25,8 @@ use std::mem::replace;
 use std::sync::Arc;
 
 impl Shared {
-    /// Ends the tree, behind all that the caller had seen, and lists its pairs; refused, with nothing changed, where a seat is away or has an unfinished operation, where the tree is closed, and
-    /// for want of memory.
+    /// Ends the tree, behind all that the caller had seen, and lists its pairs. Refused where a seat is away or has an unfinished operation, where the tree is
+    /// closed, and for want of memory; then the seats are put back.
     pub(crate) fn end(&self, alloc: Global, since: &mut Receipt) -> Result<LeftPairs, Refusal>
         requires { MayCall self.now since.old }
         ensures ok { IfOk result (IsLeftFor self.now since.old) }
