@@ -1,3 +1,4 @@
+pub mod Again
 pub mod Choosing
 pub mod Dealing
 pub mod Emptied
