@@ -17,7 +17,7 @@ use Rattle.bw_tree_c.specs.Closing.{IsLeftFor}
 use Rattle.bw_tree_c.specs.Handles.{MayCall}
 use Rattle.bw_tree_c.specs.Places.{HasObserved}
 use Rattle.bw_tree_c.specs.Seats.{IsLater}
-use Rattle.bw_tree_c.specs.declared.closing.seats.Out.{Out}
+use Rattle.bw_tree_c.specs.declared.closing.all_seats.Out.{Out}
 use Rattle.bw_tree_c.specs.declared.closing.waiting.LeftPairs.{LeftPairs}
 use Rattle.bw_tree_c.specs.declared.receipt.Receipt.{Receipt}
 use Rattle.bw_tree_c.specs.declared.handle.shared.Shared.{Shared}

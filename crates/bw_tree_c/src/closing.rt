@@ -3,8 +3,8 @@ ghost use Rattle.std.specs.Prelude.{◌≡◌, ◌≢◌, ◌⊎◌, None};
 ghost use Rattle.bw_tree_c.specs.Closing.{CanEmpty, CanForget, HasClosed, IsClosedBy, IsForgotten};
 ghost use Rattle.bw_tree_c.specs.Handles.{MayCall, MayCallOn};
 
+mod all_seats;
 pub(crate) mod pairs;
-mod seats;
 pub(crate) mod waiting;
 
 use crate::closing::waiting::{leave_left, take_left};

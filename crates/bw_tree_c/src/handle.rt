@@ -5,6 +5,7 @@ ghost use Rattle.bw_tree_c.specs.Places.{IsKin};
 
 mod kept;
 pub(crate) mod log;
+mod seen;
 pub(crate) mod shared;
 
 use crate::handle::kept::Kept;

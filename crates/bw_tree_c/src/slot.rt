@@ -116,6 +116,7 @@ pub(crate) fn finish(
     requires may { MayCall shared.now since }
     ensures status { result.status ≡ status }
     ensures receipt { IsFinished shared.now slot.now place.value since result.receipt }
+    ensures may { MayCall shared.now result.receipt }
 {
     let note = place.write(shared, shared.seen_by(since));
     give(slot, place);

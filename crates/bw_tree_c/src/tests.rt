@@ -7,7 +7,6 @@ use crate::c_types::{Bytes, FreeRoom, Page, Pair, TreeLimits};
 use crate::handle::{Taken, take_in};
 use crate::opening::bwtree_raw_limits_for_keys;
 use crate::place::Place;
-use crate::slot::finish;
 use crate::statuses::{
     ABSENT, BAD_LIMITS, BAD_ORDER, BUSY, CLOSED, DIFFERS, EXISTS, IDLE, NO_ROOM, NO_SEAT, OK, OPEN,
     REPLACED, SPENT, TOO_LONG, UNFINISHED,
@@ -20,6 +19,7 @@ use std::test::Fail;
 
 mod caller;
 mod limits;
+mod two_callers;
 
 /// No bytes.
 fn no_bytes() -> Bytes {
@@ -268,7 +268,7 @@ fn resumes_a_page(caller: &mut Caller) -> Option<bool>
         Err(_) => return None,
     };
     let is_begun = begins(&mut place, Command::Back(Key::default()));
-    caller.since = finish(shared, slot, place, OK, caller.receipt()).receipt;
+    caller.finish(shared, slot, place);
     let told = caller.resume(0, 65536, &mut old, &mut page);
     Some(
         is_begun
@@ -415,39 +415,31 @@ fn begins(place: &mut Place, command: Command) -> bool
     called(&place.tree, &mut place.seat, command, 1).is_some()
 }
 
-/// What calls answer while another call is inside seat 0, and after that.
-fn told_of_seats(alloc: Global, caller: &mut Caller) -> Option<[u32; 13]>
+/// What calls answer while another call is inside seat 0.
+fn told_inside(alloc: Global, caller: &mut Caller) -> [u32; 5]
     requires { MayCallOn caller.old.tree.kept.value caller.old.since }
+    ensures tree { caller.new.tree ≡ caller.old.tree }
+    ensures may { MayCallOn caller.new.tree.kept.value caller.new.since }
 {
     let mut old = no_bytes();
-    let mut page = no_page();
     let mut count = 0;
-    let Some(shared) = caller.tree.shared() else {
-        return None;
-    };
-    let Taken { slot, mut place } = match take_in(shared, 0) {
-        Ok(taken) => taken,
-        Err(_) => return None,
-    };
-    let inside = [
+    [
         caller.get(0, b"a", &mut old),
         caller.is_idle(0),
         caller.close(),
         caller.close_pairs(alloc, &mut [], &mut count),
         caller.is_idle(1),
-    ];
-    let is_begun = begins(&mut place, Command::Get(Key::default()));
-    caller.since = finish(shared, slot, place, OK, caller.receipt()).receipt;
-    if !is_begun {
-        return None;
-    }
-    let [first, second, third, fourth, fifth] = inside;
-    Some([
-        first,
-        second,
-        third,
-        fourth,
-        fifth,
+    ]
+}
+
+/// What calls answer where seat 0 has an unfinished operation.
+fn told_unfinished(alloc: Global, caller: &mut Caller) -> [u32; 8]
+    requires { MayCallOn caller.old.tree.kept.value caller.old.since }
+{
+    let mut old = no_bytes();
+    let mut page = no_page();
+    let mut count = 0;
+    [
         caller.close_pairs(alloc, &mut [], &mut count),
         caller.get(0, b"a", &mut old),
         caller.is_idle(0),
@@ -456,15 +448,39 @@ fn told_of_seats(alloc: Global, caller: &mut Caller) -> Option<[u32; 13]>
         caller.resume(0, 1, &mut old, &mut page),
         caller.is_idle(0),
         caller.close(),
-    ])
+    ]
+}
+
+/// What calls answer while another call is inside seat 0, and after that.
+fn told_of_seats(alloc: Global, caller: &mut Caller) -> Option<([u32; 5], [u32; 8])>
+    requires { MayCallOn caller.old.tree.kept.value caller.old.since }
+{
+    let Some(shared) = caller.tree.shared() else {
+        return None;
+    };
+    let Taken { slot, mut place } = match take_in(shared, 0) {
+        Ok(taken) => taken,
+        Err(_) => return None,
+    };
+    let inside = told_inside(alloc, caller);
+    let is_begun = begins(&mut place, Command::Get(Key::default()));
+    caller.finish(shared, slot, place);
+    if !is_begun {
+        return None;
+    }
+    Some((inside, told_unfinished(alloc, caller)))
 }
 
 #[test]
 fn seats_are_busy_and_unfinished(rt: HostRuntime) -> Result<(), Fail> {
-    let wanted = [
-        BUSY, BUSY, BUSY, BUSY, OK, UNFINISHED, UNFINISHED, UNFINISHED, SPENT, ABSENT, IDLE, OK, OK,
-    ];
     let mut caller = two_seats(rt.alloc());
-    assert!(rt; told_of_seats(rt.alloc(), &mut caller).ok_or("no seat")? == wanted);
+    let (inside, after) = told_of_seats(rt.alloc(), &mut caller).ok_or("no seat")?;
+    assert!(rt; inside == [BUSY, BUSY, BUSY, BUSY, OK]);
+    assert!(rt;
+        after
+            == [
+                UNFINISHED, UNFINISHED, UNFINISHED, SPENT, ABSENT, IDLE, OK, OK
+            ]
+    );
     Ok(())
 }

@@ -4,7 +4,7 @@ use Rattle.running_tree.specs.Seats.{unfinished_command}
 use Rattle.running_tree.proofs.Resting.{has_none}
 use Rattle.bw_tree_c.proofs.Hands.{all_of_them, below_it, last_later, one_here, one_more, others_of, some_hand}
 use Rattle.bw_tree_c.proofs.Taking.{had, taken_one}
-use Rattle.bw_tree_c.proofs.closing.seats.+take_out.Goals as goal
+use Rattle.bw_tree_c.proofs.closing.all_seats.+take_out.Goals as goal
 
 pub take_out-requires : goal.take_out-requires
 take_out-requires t c =
