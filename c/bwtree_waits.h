@@ -30,8 +30,8 @@ void bwtree_wait_begin(bwtree_wait *wait, uint64_t nanoseconds);
  * beyond the end of the wait. 1; 0 at the end, and of null, without a pause. */
 int bwtree_wait_again(bwtree_wait *wait);
 
-/* What may become of a write that is FULL. It is a hint, made from what is free a moment later: nothing is proved of it, and other calls change it. Free records
- * are counted over all widths. In a tree with records of three widths (limits with large = 2) a write may need one of 512 words, so there the hint is PASSED
+/* What may become of a write that is FULL. It is a hint, made from what is free a moment later: nothing is proved of it, and other calls change it. Free
+ * records are counted over all widths. In a tree with records of three widths (limits with large = 2) a write may need one of 512 words, so there the hint is PASSED
  * only if one of these must be free, and never FOR_NOW. */
 typedef enum bwtree_full_hints {
     BWTREE_FULL_PASSED = 0,   /* a page is free now, and a record with room for any change */
