@@ -31,8 +31,8 @@ void bwtree_wait_begin(bwtree_wait *wait, uint64_t nanoseconds);
 int bwtree_wait_again(bwtree_wait *wait);
 
 /* What may become of a write that is FULL. It is a hint, made from what is free a moment later: nothing is proved of it, and other calls change it. Free
- * records are counted over all widths. In a tree with records of three widths (limits with large = 2) a write may need one of 512 words, so there the hint is PASSED
- * only if one of these must be free, and never FOR_NOW. */
+ * records are counted over all widths. In a tree with records of three widths (limits with large = 2) a write may need one of 512 words, so there the hint is
+ * PASSED only if one of these must be free, and never FOR_NOW. */
 typedef enum bwtree_full_hints {
     BWTREE_FULL_PASSED = 0,   /* a page is free now, and a record with room for any change */
     BWTREE_FULL_FOR_NOW = 1,  /* no record is free, but pages are, and the limits have records enough for all pages: other seats hold records back */
