@@ -147,7 +147,7 @@ class Tree:
         self._free: "queue.SimpleQueue[int]" = queue.SimpleQueue()
         self._seats = 0
         self._local = threading.local()
-        # what a closing hands over, until it is told; there is less room than pairs where nothing is
+        # the closed tree's pairs until they are returned; there is less room than pairs while there are none
         self._pairs: "ctypes.Array[_lib.Pair]" = _NO_PAIRS
         self._count = ctypes.c_uint64(1)
         given = [_lib.Pair(_lib.Bytes.of(key), _lib.Bytes.of(value)) for key, value in pairs]
