@@ -12,21 +12,21 @@
  *     bwtree_close(&tree);
  *
  * Each function names the statuses that it returns, but for NULL, which each returns where a pointer is null: that of a text may be, if its length is 0.
- * Behind a semicolon are those of which nothing was done and nothing written, and SPENT. Where several fit, the first of these is returned: of a call on a seat
- * NULL, TOO_LONG, CLOSED of a handle that was never opened, NO_SEAT, CLOSED or BUSY, UNFINISHED or IDLE; of an opening NULL, BAD_VERSION, BAD_LIMITS, OPEN,
- * TOO_LONG or NO_MEMORY, BAD_ORDER. C99 or C++ is needed, and a processor of the level x86-64-v2.
+ * After a semicolon stand SPENT and the statuses with which nothing was done or written. Where several fit, the first of these is returned: of a call on a seat
+ * NULL, TOO_LONG, SPENT of a new call with a budget of 0, CLOSED of a handle that was never opened, NO_SEAT, CLOSED or BUSY, UNFINISHED or IDLE; of an opening
+ * NULL, BAD_VERSION, BAD_LIMITS, OPEN, TOO_LONG or NO_MEMORY, BAD_ORDER. C99 or C++ is needed, and a processor of the level x86-64-v2.
  *
  * Every misuse of a tree that was opened is answered with a status, also where threads race: a tree that is closed, or closes while calls run, a
  * seat that it doesn't have, a seat that another call is inside, a seat whose last operation isn't done, 65 bytes, too little room, null with a length.
  *
  * What the library relies on, and can't test:
  *   - A handle's bytes are all zero before it is opened, and from then on only the library writes them. It is not copied: pass its address.
- *   - While bwtree_open or bwtree_open_from runs on a handle, no other call has that handle. Other threads get to know of an opened handle by a lock, a thread's
+ *   - While bwtree_open or bwtree_open_from runs on a handle, no other call has that handle. An opened handle is passed to other threads by a lock, a thread's
  *     start, or a sequentially consistent atomic. All other calls may share a handle, at any time.
  *   - Pointers point to what their types say. What a call writes (value, old, page, room, limits, pairs, count) no other call has meanwhile, and it lies
  *     apart from all else that the call is given: where a walk goes on from page.next, that is copied first.
  *   - A thread that calls has 512 KB of stack.
- *   - A thread is not cancelled or ended inside a call (pthread_cancel with asynchronous cancellation, TerminateThread, a longjmp out of a signal handler).
+ *   - A thread is not cancelled or ended inside a call (pthread_cancel with asynchronous cancellation, a longjmp out of a signal handler).
  *     Otherwise the seat stays BUSY for ever, and so do bwtree_close and bwtree_close_pairs: the tree can't be freed, nor its pairs be handed over. Calls on
  *     other seats go on; as what that seat holds back is never freed, writes are FULL in the end. Give such a tree up: bwtree_copy_pairs (bwtree_walks.h)
  *     copies its pairs by another seat, and bwtree_open_from opens a new one with them.
@@ -34,8 +34,8 @@
  *     in a process with threads, from a child that was forked.
  *
  * Full: a write may be FULL for a moment, while another call holds back what was taken out: make it again (bwtree_waits.h). A tree that is filled beyond its
- * limits may be read-only for good: then deletions, and upserts of keys that have a value, are FULL, too, since each would have to split its page first. Reads and
- * walks go on, and so does bwtree_close_pairs: open a larger tree with these pairs. A program that takes keys from outside keeps count of them.
+ * limits may be read-only for good: then deletions, and upserts of keys that have a value, are FULL, too, since each would have to split its page first. Reads
+ * and walks go on, and so does bwtree_close_pairs: open a larger tree with these pairs. A program that takes keys from outside keeps count of them.
  *
  * Order: the tree is linearizable (Herlihy and Wing), proved over all states of the tree. All calls of all threads form one sequential history of an
  * ordered map. Each call takes effect at one of its own atomic steps, so a call that has returned precedes a call that begins afterwards, whatever
@@ -69,7 +69,8 @@ extern "C" {
 #define BWTREE_INLINE BWTREE_PRIVATE_
 #endif
 
-/* What a call answers. Below 16 an operation took place; from 16 on nothing was done, and nothing that the call may write was written. */
+/* What a call answers. Below 16 an operation ran: FULL changed no key, SPENT isn't done. From 16 on nothing was done, and nothing that the call may write was
+ * written. */
 enum {
     BWTREE_OK = 0,          /* done: the key had the value, or got one, or lost it */
     BWTREE_ABSENT = 1,      /* the key has no value (get, delete, delete_if, compare_and_set) */
@@ -77,7 +78,8 @@ enum {
     BWTREE_REPLACED = 3,    /* done: the key had the value `old` before (upsert, add) */
     BWTREE_DIFFERS = 4,     /* the key has the value `old`, and keeps it: not the expected one (delete_if, compare_and_set), or not of eight bytes (add) */
     BWTREE_FULL = 5,        /* nothing was free for a change, and no key was changed: for a moment, or for good (above, *Full*) */
-    BWTREE_SPENT = 6,       /* after 65,536 steps, or as many as the call was given, the operation isn't done: it stays in the seat. Resume it */
+    BWTREE_SPENT = 6,       /* after 65,536 steps, or as many as the call was given, the operation isn't done: it stays in the seat. Resume it (of a budget of 0
+                             * nothing was begun) */
     BWTREE_NO_ROOM = 7,     /* the tree is closed, and its pairs, which are more than there is room for, wait (close_pairs) */
     BWTREE_CLOSED = 16,     /* the tree is closed, or was never opened */
     BWTREE_NO_SEAT = 17,    /* the tree has no seat of this number */
@@ -202,8 +204,8 @@ BWTREE_INLINE uint32_t bwtree_limits_for_many_keys(uint64_t actors, uint64_t key
     return bwtree_raw_limits_for_many_keys(actors, keys, limits);
 }
 
-/* Limits for a large tree of pairs whose keys and values mostly have at most so many bytes, of 16 and 8 in some 131 bytes a key; longer pairs are taken, too, as
- * far as wide records suffice, one for each 32 pages. OK with `limits`; BAD_LIMITS, of more than 64 bytes, too. */
+/* Limits for a large tree of pairs whose keys and values mostly have at most so many bytes, of 16 and 8 in some 131 bytes a key; longer pairs are taken, too,
+ * as far as wide records suffice, one for each 32 pages. OK with `limits`; BAD_LIMITS, of more than 64 bytes, too. */
 BWTREE_INLINE uint32_t bwtree_limits_for_pairs(uint64_t actors, uint64_t keys, uint64_t key_bytes, uint64_t value_bytes, bwtree_limits *limits) {
     if (!limits) return BWTREE_NULL;
     return bwtree_raw_limits_for_pairs(actors, keys, key_bytes, value_bytes, limits);
@@ -257,8 +259,9 @@ BWTREE_INLINE uint32_t bwtree_get(const bwtree *tree, uint32_t seat, const void 
     return bwtree_raw_get(tree, seat, bwtree_slice_(key), key_length, value);
 }
 
-/* As bwtree_get, in at most `budget` steps (of 0 SPENT, and nothing is begun), for a caller whose calls must be short. A step is one load, store or exchange in
- * the tree, and what is computed between two. */
+/* As bwtree_get, in at most `budget` steps, for a caller whose calls must be short. A step is one load, store or exchange in the tree, and what is computed
+ * between two. Of a budget of 0 it is SPENT, whatever the handle and the seat are, but for NULL and TOO_LONG: nothing is begun, and there is nothing to
+ * resume. */
 BWTREE_INLINE uint32_t bwtree_get_within(const bwtree *tree, uint32_t seat, uint32_t budget, const void *key, size_t key_length, bwtree_bytes *value) {
     if (!tree || !value || (!key && key_length)) return BWTREE_NULL;
     return bwtree_raw_get_within(tree, seat, budget, bwtree_slice_(key), key_length, value);
@@ -278,7 +281,7 @@ BWTREE_INLINE uint32_t bwtree_upsert(const bwtree *tree, uint32_t seat, const vo
     return bwtree_raw_upsert(tree, seat, bwtree_slice_(key), key_length, bwtree_slice_(value), value_length, old);
 }
 
-/* As bwtree_upsert, in at most `budget` steps (of 0 SPENT, and nothing is begun). */
+/* As bwtree_upsert, in at most `budget` steps; of 0 as bwtree_get_within. */
 BWTREE_INLINE uint32_t bwtree_upsert_within(const bwtree *tree, uint32_t seat, uint32_t budget, const void *key, size_t key_length, const void *value,
                                             size_t value_length, bwtree_bytes *old) {
     if (!tree || !old || (!key && key_length) || (!value && value_length)) return BWTREE_NULL;

@@ -32,8 +32,7 @@ namespace bw {
 
 namespace detail {
 
-// The handle, which stays where it is; which of its seats are free, a bit each; how many keys it has; and what the closed tree has handed over, until it is
-// told.
+// The handle, which stays where it is; which of its seats are free, a bit each; how many keys it has; and the closed tree's pairs until they are returned.
 struct shared {
     ::bwtree handle = {};
     std::atomic<uint64_t> free{0};
@@ -83,7 +82,9 @@ public:
 
     // How long a write waits while the tree is full, before it throws error(BWTREE_FULL). A seat that was just leased doesn't wait.
     void set_patience(std::chrono::nanoseconds most) noexcept { patience_ = most; }
-    // What may become of a write that is full, as far as what is free tells: a hint, of which nothing is proved (bwtree_waits.h). Throws CLOSED, BUSY, NULL.
+    // What may become of a write that is full, judged from what is free: a hint, of which nothing is proved (bwtree_waits.h). In a tree with records of three
+    // widths, as for_pairs and for_many_keys propose them, it is BWTREE_FULL_PASSED only if a record with room for any change must be free, and
+    // BWTREE_FULL_UNKNOWN where that can't be known. Throws CLOSED, BUSY, NULL.
     [[nodiscard]] bwtree_full_hints full_hint() {
         uint32_t hint = BWTREE_FULL_PASSED;
         if (!shared_) throw error(BWTREE_NULL);

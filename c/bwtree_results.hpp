@@ -23,7 +23,7 @@ private:
 };
 
 // What an insertion found. It is true where the key had no value, and has the new one; else `found` is the value that the key has, and keeps.
-struct inserted {
+struct [[nodiscard]] inserted {
     bool done;
     std::optional<std::string> found;
     explicit operator bool() const noexcept { return done; }
@@ -39,7 +39,7 @@ struct [[nodiscard]] compared {
 
 // What an addition found. It is true where the number was added: to `old`, or to none where the key had no value. Else `found` is the key's value, which has
 // not eight bytes.
-struct added {
+struct [[nodiscard]] added {
     bool done;
     std::optional<uint64_t> old;
     std::optional<std::string> found;

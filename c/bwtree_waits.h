@@ -5,8 +5,8 @@
  *     do status = bwtree_upsert(&tree, seat, key, key_length, value, value_length, &old);
  *     while (status == BWTREE_FULL && bwtree_wait_again(&wait));
  *
- * A write is FULL while no page, or no record, is free. It passes where other seats hold them back: a thread that is stopped inside a call, or a seat whose
- * last write took some out and that has made no write since. It is for good where the tree itself has them all.
+ * A write is FULL while no page, or no record that is wide enough, is free. It passes where other seats hold them back: a thread that is stopped inside a call,
+ * or a seat whose last write took some out and that has made no write since. It is for good where the tree itself has them all.
  */
 #ifndef BWTREE_WAITS_H
 #define BWTREE_WAITS_H
@@ -30,20 +30,26 @@ void bwtree_wait_begin(bwtree_wait *wait, uint64_t nanoseconds);
  * beyond the end of the wait. 1; 0 at the end, and of null, without a pause. */
 int bwtree_wait_again(bwtree_wait *wait);
 
-/* What may become of a write that is FULL. It is a hint, made from what is free a moment later: nothing is proved of it, and other calls change it. */
+/* What may become of a write that is FULL. It is a hint, made from what is free a moment later: nothing is proved of it, and other calls change it. Free
+ * records are counted over all widths. In a tree with records of three widths (limits with large = 2) a write may need one of 512 words, so there the hint is
+ * PASSED only if one of these must be free, and never FOR_NOW. */
 typedef enum bwtree_full_hints {
-    BWTREE_FULL_PASSED = 0,  /* a page and a record are free now */
-    BWTREE_FULL_FOR_NOW = 1, /* no record is free, but pages are, and the limits have records enough for all pages: other seats hold records back */
-    BWTREE_FULL_FOR_GOOD = 2 /* no page is free; or no record, and the limits have too few: the tree itself may have them all. Where keys were just deleted,
-                              * other seats may hold pages back still: so ask after a wait */
+    BWTREE_FULL_PASSED = 0,   /* a page is free now, and a record with room for any change */
+    BWTREE_FULL_FOR_NOW = 1,  /* no record is free, but pages are, and the limits have records enough for all pages: other seats hold records back */
+    BWTREE_FULL_FOR_GOOD = 2, /* no page is free; or no record, and the limits have too few: the tree itself may have them all. Where keys were just deleted,
+                               * other seats may hold pages back still: so ask after a wait */
+    BWTREE_FULL_UNKNOWN = 3   /* of three widths alone: pages are free, but perhaps no record of 512 words, for now or for good. Wait; if that is in vain, a
+                               * larger tree is needed, or one for longer pairs */
 } bwtree_full_hints;
 
 /* The hint from limits and what is free. The limits have records enough from 9 for each page and 120 for each seat on, in a large tree 3 and 240: that is
- * tested, and not proved. */
+ * tested, and not proved. Of three widths, fewer than wide_from records are narrower than 512 words: if more are free, one of these has 512. */
 BWTREE_PRIVATE_ uint32_t bwtree_hint_of_room(const bwtree_limits *limits, const bwtree_room *room) {
     uint64_t enough = limits->large ? 3 * limits->pages + 240 * limits->actors : 9 * limits->pages + 120 * limits->actors;
-    if (room->free_pages && room->free_records) return BWTREE_FULL_PASSED;
-    return room->free_pages && limits->records >= enough ? BWTREE_FULL_FOR_NOW : BWTREE_FULL_FOR_GOOD;
+    uint64_t narrower = limits->large == 2 ? limits->wide_from : 0;
+    if (room->free_pages && room->free_records > narrower) return BWTREE_FULL_PASSED;
+    if (!room->free_pages || (!room->free_records && limits->records < enough)) return BWTREE_FULL_FOR_GOOD;
+    return narrower ? BWTREE_FULL_UNKNOWN : BWTREE_FULL_FOR_NOW;
 }
 
 /* The hint for a tree with these limits, by bwtree_free_room on a seat. OK with `hint`; CLOSED, NO_SEAT, BUSY, NULL: nothing is written. */

@@ -9,17 +9,21 @@ import (
 )
 
 // FullHint says what may become of a write that returned ErrFull. It is a hint, made from what is free a moment later: nothing is proved of it, and other
-// calls change it.
+// calls change it. Free records are counted over all widths. In a tree with records of three widths (Limits.Widths) a write may need one of 512 words, so there
+// the hint is FullPassed only if one of these must be free, and never FullForNow.
 type FullHint uint32
 
 const (
-	// FullPassed: a page and a record are free now.
+	// FullPassed: a page is free now, and a record with room for any change.
 	FullPassed FullHint = C.BWTREE_FULL_PASSED
 	// FullForNow: no record is free, but pages are, and the limits have records enough for all pages: other seats hold records back.
 	FullForNow FullHint = C.BWTREE_FULL_FOR_NOW
 	// FullForGood: no page is free; or no record, and the limits have too few: the tree itself may have them all. Where keys were just deleted, other seats
 	// may hold pages back still: so ask after a wait.
 	FullForGood FullHint = C.BWTREE_FULL_FOR_GOOD
+	// FullUnknown, of three widths alone: pages are free, but perhaps no record of 512 words, for now or for good. Wait; if that is in vain, a larger tree is
+	// needed, or one for longer pairs.
+	FullUnknown FullHint = C.BWTREE_FULL_UNKNOWN
 )
 
 // FullHint says what may become of a write that returned ErrFull. It returns ErrClosed or ErrBusy.

@@ -37,6 +37,39 @@ func TestPatience(t *testing.T) {
 	}
 }
 
+// In a tree for short pairs that is filled with long ones no record of 512 words is free any more, though many narrower ones are.
+func TestFullHintOfThreeWidths(t *testing.T) {
+	limits, err := LimitsForPairs(1, 2000, 1, 1)
+	if err != nil {
+		t.Fatal(err)
+	}
+	tree, err := Open(limits)
+	if err != nil {
+		t.Fatal(err)
+	}
+	seat := tree.Seat()
+	if hint, err := seat.FullHint(); hint != FullPassed || err != nil {
+		t.Fatal(hint, err)
+	}
+	for i := 0; err == nil && i < 2000; i++ {
+		key := []byte(fmt.Sprintf("%064d", uint32(i*2654435761)))
+		_, _, err = seat.Insert(key, key)
+	}
+	if !errors.Is(err, ErrFull) {
+		t.Fatal(err)
+	}
+	if room, err := seat.Room(); room.FreePages == 0 || room.FreeRecords == 0 || err != nil {
+		t.Fatal(room, err)
+	}
+	if hint, err := seat.FullHint(); hint != FullUnknown || err != nil {
+		t.Fatal(hint, err)
+	}
+	seat.Release()
+	if err := tree.Close(); err != nil {
+		t.Fatal(err)
+	}
+}
+
 // A wait makes a write again while it is full, and ends with the first other answer.
 func TestWaits(t *testing.T) {
 	seat := &Seat{patience: 20 * time.Second}

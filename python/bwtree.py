@@ -63,20 +63,26 @@ class Full(Error):
 
 class FullHint(Enum):
     """What may become of a write that raised Full. It is a hint, made from what is free a moment later: nothing is proved of it, and other calls change
-    it."""
+    it. Free records are counted over all widths. In a large tree for so many keys, whose records have three widths, a write may need one of 512 words: so there
+    the hint is PASSED only if one of these must be free, and never FOR_NOW."""
 
-    PASSED = "a page and a record are free now"
+    PASSED = "a page is free now, and a record with room for any change"
     FOR_NOW = "other seats hold records back: it passes once a stopped thread goes on, or an idle seat tidies"
     FOR_GOOD = "the tree itself may have all pages or records: unless keys were just deleted, a larger tree is needed"
+    UNKNOWN = "pages are free, but perhaps no record of 512 words, for now or for good: if a wait is in vain, a larger tree is needed, or one for longer pairs"
 
 
 def _hint(limits: _lib.Limits, room: "Room") -> FullHint:
-    """Records are enough from 9 for each page and 120 for each seat on, in a large tree 3 and 240."""
+    """Records are enough from 9 for each page and 120 for each seat on, in a large tree 3 and 240. Of three widths, fewer than wide_from records are narrower
+    than 512 words: if more are free, one of these has 512."""
     page, seat = (3, 240) if limits.large else (9, 120)
-    if room.free_pages and room.free_records:
+    narrower = limits.wide_from if limits.large == 2 else 0
+    if room.free_pages and room.free_records > narrower:
         return FullHint.PASSED
     has_enough = limits.records >= page * limits.pages + seat * limits.actors
-    return FullHint.FOR_NOW if room.free_pages and has_enough else FullHint.FOR_GOOD
+    if not room.free_pages or not (room.free_records or has_enough):
+        return FullHint.FOR_GOOD
+    return FullHint.UNKNOWN if narrower else FullHint.FOR_NOW
 
 
 def _pauses(patience: float) -> Iterator[None]:
@@ -141,7 +147,7 @@ class Tree:
         self._free: "queue.SimpleQueue[int]" = queue.SimpleQueue()
         self._seats = 0
         self._local = threading.local()
-        # what a closing hands over, until it is told; there is less room than pairs where nothing is
+        # the closed tree's pairs until they are returned; there is less room than pairs while there are none
         self._pairs: "ctypes.Array[_lib.Pair]" = _NO_PAIRS
         self._count = ctypes.c_uint64(1)
         given = [_lib.Pair(_lib.Bytes.of(key), _lib.Bytes.of(value)) for key, value in pairs]

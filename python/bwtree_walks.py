@@ -16,7 +16,7 @@ _Self = TypeVar("_Self", bound="Walks")
 
 
 class Walks(MutableMapping[bytes, bytes]):
-    """A mapping by pages. A walk goes on page by page: what is there throughout is shown, and what never is there isn't, in the order of the keys.
+    """A mapping by pages. A walk reads page by page, in the order of the keys. It returns each key that is present throughout, and none that never is.
 
     Each function with a key raises TypeError for what has no bytes and ValueError for more than 64. Each, and each step of a walk, raises bwtree.Error where
     the seat was given back, its tree is closed, or another thread is inside the seat."""

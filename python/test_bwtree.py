@@ -295,6 +295,24 @@ class Calls(unittest.TestCase):
                                    ((1, 64, 640, 1, 0), (1, 0), "FOR_GOOD"), ((1, 64, 448, 1, 1), (1, 0), "FOR_NOW"), ((1, 64, 384, 1, 1), (1, 0), "FOR_GOOD")):
             self.assertEqual(bwtree._hint(bwtree_library.Limits(*limits), bwtree.Room(*room)).name, hint)
 
+    def test_hints_of_three_widths(self) -> None:
+        """As many records as are narrower than 512 words tell nothing of the others."""
+        three, few = (1, 64, 576, 1, 2, 320, 512, 8, 56), (1, 64, 384, 1, 2, 128, 320, 8, 56)
+        for limits, room, hint in ((three, (1, 513), "PASSED"), (three, (1, 512), "UNKNOWN"), (three, (1, 0), "UNKNOWN"), (three, (0, 513), "FOR_GOOD"),
+                                   (few, (1, 0), "FOR_GOOD"), (few, (1, 1), "UNKNOWN")):
+            self.assertEqual(bwtree._hint(bwtree_library.Limits(*limits), bwtree.Room(*room)).name, hint)
+
+    def test_full_with_narrow_records(self) -> None:
+        """In a tree for short pairs that is filled with long ones no record of 512 words is free any more, though many narrower ones are."""
+        with bwtree.Tree(seats=1, keys=2000, large=True, key_bytes=1, value_bytes=1) as tree, tree.seat() as seat:
+            self.assertEqual(seat.full_hint(), bwtree.FullHint.PASSED)
+            with self.assertRaises(bwtree.Full):
+                for i in range(2000):
+                    seat[(i * 2654435761 % 2**32).to_bytes(4, "big") * 16] = bytes(64)
+            room = seat.room()
+            self.assertGreater(min(room), 0)
+            self.assertEqual(seat.full_hint(), bwtree.FullHint.UNKNOWN)
+
 
 class Loading(unittest.TestCase):
     def test_without_the_library(self) -> None:

@@ -124,7 +124,7 @@ static void ends() {
     {
         auto tree = bw::tree(limits);
         auto seat = tree.lease();
-        seat.insert("a", "x");
+        (void)seat.insert("a", "x");
         tree = bw::tree(limits);
         seat = tree.lease();
         bw::tree(limits).close();
@@ -137,7 +137,7 @@ static void leases() {
     auto tree = bw::tree::for_keys(1, 100);
     {
         auto seat = tree.lease();
-        seat.insert("a", "x");
+        (void)seat.insert("a", "x");
         CHECK(!tree.try_lease() && thrown([&] { (void)tree.lease(); }) == BWTREE_BUSY && thrown([&] { tree.close(); }) == BWTREE_BUSY);
         auto moved = std::move(seat);
         CHECK(*moved.get("a") == "x" && thrown([&] { (void)seat.get("a"); }) == BWTREE_NULL);
@@ -151,7 +151,7 @@ static void leases() {
     {
         auto gone = bw::tree::for_keys(2, 100);
         last = gone.lease();
-        last->insert("a", "y");
+        (void)last->insert("a", "y");
     }
     CHECK(*last->get("a") == "y");
 }
@@ -160,7 +160,7 @@ static void leases() {
 static void own_seats() {
     auto tree = bw::tree::for_keys(2, 100);
     bw::seat *mine = &tree.local();
-    mine->insert("a", "x");
+    (void)mine->insert("a", "x");
     for (int i = 0; i < 3; i++)
         std::thread([&] {
             bw::seat *own = &tree.local();
@@ -210,7 +210,7 @@ static void two_in_a_seat() {
     std::atomic<int> done{0}, busy{0};
     auto use = [&] {
         while (busy == 0 && done < 10000000) {
-            uint32_t status = thrown([&] { seat.add("a", 1); });
+            uint32_t status = thrown([&] { (void)seat.add("a", 1); });
             CHECK(status == 0 || status == BWTREE_BUSY || status == BWTREE_FULL);
             (status == BWTREE_BUSY ? busy : done) += status != BWTREE_FULL;
         }
@@ -272,18 +272,31 @@ static void waits() {
     auto seat = tree.lease();
     uint32_t i = 0;
     CHECK(seat.full_hint() == BWTREE_FULL_PASSED);
-    while (!thrown([&] { seat.insert(std::to_string(i * 2654435761u), "x"); })) i++;
+    while (!thrown([&] { (void)seat.insert(std::to_string(i * 2654435761u), "x"); })) i++;
     auto begin = std::chrono::steady_clock::now();
     seat.set_patience(std::chrono::milliseconds(30));
     auto next = std::move(seat);
-    CHECK(thrown([&] { next.insert(std::to_string(i * 2654435761u), "x"); }) == BWTREE_FULL && next.full_hint() == BWTREE_FULL_FOR_GOOD);
+    CHECK(thrown([&] { (void)next.insert(std::to_string(i * 2654435761u), "x"); }) == BWTREE_FULL && next.full_hint() == BWTREE_FULL_FOR_GOOD);
     CHECK(std::chrono::steady_clock::now() - begin >= std::chrono::milliseconds(30));
     CHECK(thrown([&] { (void)seat.full_hint(); }) == BWTREE_NULL && next.get(std::to_string(0)) == "x");
+}
+
+// In a tree for short pairs that is filled with long ones no record of 512 words is free any more, though many narrower ones are.
+static void hints_of_three_widths() {
+    auto tree = bw::tree::for_pairs(1, 2000, 1, 1);
+    auto seat = tree.lease();
+    std::string rest(56, 'x');
+    uint32_t i = 0;
+    CHECK(seat.full_hint() == BWTREE_FULL_PASSED);
+    uint32_t status = 0;
+    while (!(status = thrown([&] { (void)seat.insert(std::to_string(10000000 + i * 7919 % 1000003) + rest, rest + rest.substr(0, 8)); }))) CHECK(i++ < 2000);
+    CHECK(status == BWTREE_FULL && seat.free_room().free_pages && seat.free_room().free_records && seat.full_hint() == BWTREE_FULL_UNKNOWN);
 }
 
 int main() {
     answers();
     waits();
+    hints_of_three_widths();
     loads();
     ends();
 #if HAS_OWN_NEW

@@ -35,6 +35,12 @@ static void hints(void) {
         {{1, 64, 640, 1, 0}, {1, 0}, BWTREE_FULL_FOR_GOOD},   {{2, 64, 768, 1, 0}, {60, 0}, BWTREE_FULL_FOR_GOOD},
         {{2, 64, 832, 1, 0}, {60, 0}, BWTREE_FULL_FOR_NOW},   {{1, 64, 448, 1, 1}, {1, 0}, BWTREE_FULL_FOR_NOW},
         {{1, 64, 384, 1, 1}, {1, 0}, BWTREE_FULL_FOR_GOOD},   {{1, 64, 384, 1, 1}, {9, 9}, BWTREE_FULL_PASSED},
+        /* of three widths: 512 records are narrower than 512 words, row 0 among them, which is never free */
+        {{1, 64, 576, 1, 2, 320, 512, 8, 56}, {1, 513}, BWTREE_FULL_PASSED},   {{1, 64, 576, 1, 2, 320, 512, 8, 56}, {1, 512}, BWTREE_FULL_UNKNOWN},
+        {{1, 64, 576, 1, 2, 320, 512, 8, 56}, {1, 0}, BWTREE_FULL_UNKNOWN},    {{1, 64, 576, 1, 2, 320, 512, 8, 56}, {0, 513}, BWTREE_FULL_FOR_GOOD},
+        {{1, 64, 384, 1, 2, 128, 320, 8, 56}, {1, 0}, BWTREE_FULL_FOR_GOOD},   {{1, 64, 384, 1, 2, 128, 320, 8, 56}, {1, 1}, BWTREE_FULL_UNKNOWN},
+        /* what a tree of one width has in the other fields counts for nothing */
+        {{1, 64, 448, 1, 1, 320, 384, 8, 56}, {1, 1}, BWTREE_FULL_PASSED},     {{1, 64, 448, 1, 1, 320, 384, 8, 56}, {1, 0}, BWTREE_FULL_FOR_NOW},
     };
     for (size_t i = 0; i < sizeof rows / sizeof *rows; i++) CHECK(bwtree_hint_of_room(&rows[i].limits, &rows[i].room) == rows[i].hint);
 }
@@ -78,6 +84,27 @@ static void for_good(void) {
     uint64_t begin = now();
     CHECK(put(&tree, 0, key * 2654435761u, 30 * MILLISECOND) == BWTREE_FULL && now() - begin >= 30 * MILLISECOND);
     CHECK(bwtree_full_hint(&tree, 1, &limits, &hint) == BWTREE_OK && hint == BWTREE_FULL_FOR_GOOD);
+    CHECK(bwtree_close(&tree) == BWTREE_OK);
+}
+
+/* A tree for short pairs that is filled with long ones: no record of 512 words is free any more, for good, though many narrower ones are. */
+static void of_three_widths(void) {
+    static bwtree tree;
+    bwtree_limits limits;
+    bwtree_room room;
+    uint8_t key[BWTREE_MAX_LENGTH] = {0};
+    uint32_t hint = 7, status = BWTREE_OK;
+    CHECK(bwtree_limits_for_pairs(1, 2000, 1, 1, &limits) == BWTREE_OK && bwtree_open(&limits, &tree) == BWTREE_OK);
+    CHECK(bwtree_full_hint(&tree, 0, &limits, &hint) == BWTREE_OK && hint == BWTREE_FULL_PASSED);
+    for (uint32_t i = 0; status == BWTREE_OK; i++) {
+        uint32_t first = i * 2654435761u;
+        bwtree_bytes old;
+        memcpy(key, &first, 4);
+        status = bwtree_insert(&tree, 0, key, sizeof key, key, sizeof key, &old);
+        CHECK(i < 2000);
+    }
+    CHECK(status == BWTREE_FULL && bwtree_free_room(&tree, 0, &room) == BWTREE_OK && room.free_pages && room.free_records);
+    CHECK(bwtree_full_hint(&tree, 0, &limits, &hint) == BWTREE_OK && hint == BWTREE_FULL_UNKNOWN);
     CHECK(bwtree_close(&tree) == BWTREE_OK);
 }
 
@@ -181,6 +208,7 @@ int main(void) {
     hints();
     durations();
     for_good();
+    of_three_widths();
 #ifndef STOPS_NOWHERE
     for_now();
     given_up();

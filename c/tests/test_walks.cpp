@@ -40,11 +40,11 @@ static void answers() {
     one.upsert("n", "text");
     auto third = one.add("n", 1);
     CHECK(!third && !third.old && *third.found == "text");
-    CHECK(thrown([&] { one.add(longer, 1); }) == BWTREE_TOO_LONG && thrown([&] { (void)one.erase_if("a", longer); }) == BWTREE_TOO_LONG);
+    CHECK(thrown([&] { (void)one.add(longer, 1); }) == BWTREE_TOO_LONG && thrown([&] { (void)one.erase_if("a", longer); }) == BWTREE_TOO_LONG);
     CHECK(thrown([&] { (void)one.floor(longer); }) == BWTREE_TOO_LONG && thrown([&] { one.replace("n", longer); }) == BWTREE_TOO_LONG);
     CHECK(thrown([&] { bw::range::below(longer); }) == BWTREE_TOO_LONG && thrown([&] { bw::range::prefix(longer); }) == BWTREE_TOO_LONG);
     auto moved = std::move(one);
-    CHECK(thrown([&] { one.add("a", 1); }) == BWTREE_NULL && thrown([&] { (void)one.last(); }) == BWTREE_NULL && moved.last()->first == "n");
+    CHECK(thrown([&] { (void)one.add("a", 1); }) == BWTREE_NULL && thrown([&] { (void)one.last(); }) == BWTREE_NULL && moved.last()->first == "n");
 }
 
 static pairs shown(bw::seat &seat, const bw::range &range, bool back) {
@@ -146,7 +146,7 @@ static void counts() {
                 while (thrown(call) == BWTREE_FULL) std::this_thread::yield();
             };
             for (uint64_t i = 0; i < 1000; i++) {
-                again([&] { seat.add("sum", i); });
+                again([&] { (void)seat.add("sum", i); });
                 again([&] { seat.upsert(bw::key(uint64_t(t), i % 90), "x"); });
                 again([&] { seat.erase(bw::key(uint64_t(t), i * 7 % 90)); });
             }

@@ -41,10 +41,13 @@ static const struct mix MIXES[] = {
 };
 static const struct mix *mix = &MIXES[0];
 
-static struct { uint64_t seats, pages, records, epoch, large, threads, keys, calls, pairs, seed, stops, cores, yields; } set = {4, 256, 2624, 1, 0, 4, 100, 5000, 0, 1, 0, 0, 0};
+static struct {
+    uint64_t seats, pages, records, epoch, large, threads, keys, calls, pairs, seed, stops, cores, yields, proposed, key_bytes, value_bytes;
+} set = {4, 256, 2624, 1, 0, 4, 100, 5000, 0, 1, 0, 0, 0, 0, 64, 64};
 static const struct { const char *name; uint64_t *to; } settings[] = {
     {"seats", &set.seats}, {"pages", &set.pages}, {"records", &set.records}, {"epoch", &set.epoch}, {"large", &set.large}, {"threads", &set.threads}, {"keys", &set.keys},
     {"calls", &set.calls}, {"pairs", &set.pairs}, {"seed", &set.seed},       {"stops", &set.stops}, {"cores", &set.cores}, {"yields", &set.yields},
+    {"proposed", &set.proposed}, {"key_bytes", &set.key_bytes}, {"value_bytes", &set.value_bytes},
 };
 
 static bwtree tree;
@@ -160,10 +163,16 @@ static void see(struct thread *t, enum operation operation, uint32_t status, con
     t->has_seen = 1, t->seen_key = given->key, t->seen_value = is_old ? *old : given->value;
 }
 
+/* A thread's seat: where each has its own, they lie apart, so that seats of all numbers make calls. */
+static uint32_t seat_of(const struct thread *t) {
+    uint64_t apart = set.seats / set.threads;
+    return (uint32_t)(apart ? t->number * apart % set.seats : t->number % set.seats);
+}
+
 /* Makes a call on the thread's seat, or on another one where that is busy, and writes its line. A call that is refused as busy did nothing. */
 static void perform(struct thread *t, enum operation operation, struct arguments given) {
     bwtree_bytes old = {0, {0}};
-    uint32_t seat = (uint32_t)(t->number % set.seats), status;
+    uint32_t seat = seat_of(t), status;
     uint64_t start, end;
     for (;;) {
         start = atomic_fetch_add(&now, 1);
@@ -284,9 +293,21 @@ static void use_some_cores(void) {
     CHECK(sched_setaffinity(0, sizeof cores, &cores) == 0);
 }
 
+/* The tree's limits: those that are named, or those that are proposed for so many keys, of a large tree with records of three widths. */
+static bwtree_limits limits_of_tree(void) {
+    bwtree_limits limits = {set.seats, set.pages, set.records, set.epoch, set.large};
+    if (!set.proposed) return limits;
+    if (set.key_bytes == BWTREE_MAX_LENGTH && set.value_bytes == BWTREE_MAX_LENGTH)
+        CHECK(bwtree_limits_for_many_keys(set.seats, set.proposed, &limits) == BWTREE_OK);
+    else CHECK(bwtree_limits_for_pairs(set.seats, set.proposed, set.key_bytes, set.value_bytes, &limits) == BWTREE_OK);
+    CHECK(limits.large == 2);
+    limits.epoch = set.epoch;
+    return limits;
+}
+
 /* Opens the tree, with pairs if there are some: each counts as an upsert by seat 0. */
 static void open_tree(struct thread *main_thread) {
-    bwtree_limits limits = {set.seats, set.pages, set.records, set.epoch, set.large};
+    bwtree_limits limits = limits_of_tree();
     bwtree_pair *pairs = calloc(set.pairs + 1, sizeof *pairs);
     CHECK(pairs);
     for (uint64_t i = 0; i < set.pairs; i++) {

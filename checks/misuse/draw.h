@@ -22,9 +22,10 @@ static uint64_t seed;
 
 enum { KEYS = 200, MOST_PAIRS = 400, MOST_STATUS = BWTREE_BAD_VERSION };
 enum { GET, INSERT, UPSERT, DELETE, DELETE_IF, COMPARE_AND_SET, ADD, TIDY, PAGE, BACK, OPERATIONS,
-       RESUME = OPERATIONS, IDLE, ROOM, OPEN, OPEN_FROM, CLOSE, CLOSE_PAIRS, FOR_KEYS, FOR_MANY, KINDS };
-static const char *const NAMES[KINDS] = {"get", "insert", "upsert", "delete", "delete_if", "compare_and_set", "add", "tidy", "page", "back", "resume",
-                                         "is_idle", "free_room", "open", "open_from", "close", "close_pairs", "limits_for_keys", "limits_for_many_keys"};
+       GET_WITHIN = OPERATIONS, UPSERT_WITHIN, RESUME, IDLE, ROOM, OPEN, OPEN_FROM, CLOSE, CLOSE_PAIRS, FOR_KEYS, FOR_MANY, FOR_PAIRS, KINDS };
+static const char *const NAMES[KINDS] = {"get", "insert", "upsert", "delete", "delete_if", "compare_and_set", "add", "tidy", "page", "back", "get_within",
+                                         "upsert_within", "resume", "is_idle", "free_room", "open", "open_from", "close", "close_pairs", "limits_for_keys",
+                                         "limits_for_many_keys", "limits_for_pairs"};
 
 /* ---- Numbers: splitmix64 ---- */
 
@@ -151,6 +152,18 @@ static uint32_t seat_of(struct draw *d, uint64_t actors) {
     static const uint32_t odd[] = {16, 17, 63, 64, 255, 65536, 1u << 31, UINT32_MAX};
     if (one_in(d, 40)) return odd[below(d, 8)];
     return (uint32_t)below(d, one_in(d, 40) ? actors + 1 : actors);
+}
+
+/* How many steps a call may take: none, one, too few for most operations, or enough for any. */
+enum { ENOUGH = 1 << 16 };
+static uint32_t budget_of(struct draw *d) {
+    switch (below(d, 8)) {
+    case 0: return 0;
+    case 1: return 1;
+    case 2: return 200 + (uint32_t)below(d, 800);
+    case 3: return one_in(d, 2) ? ENOUGH : UINT32_MAX;
+    default: return 2 + (uint32_t)below(d, 40);
+    }
 }
 
 static int is_count(uint64_t count, uint64_t most) { return count >= 64 && count <= most && count % 64 == 0; }

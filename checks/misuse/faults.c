@@ -17,7 +17,8 @@ enum {
     ADDS_ONE_MORE, PAGE_WITHOUT_ITS_LAST, ENDS_EARLY, PAGE_OUT_OF_ORDER, BACK_WITHOUT_ITS_FIRST, GOES_ON_TOO_LOW, RESUMES_NOTHING,
     IDLE_WHEN_CLOSED, ROOM_FOR_ALL, OPENS_OVER_A_TREE, DROPS_A_GIVEN_PAIR, TAKES_ANY_ORDER, CLOSES_TWICE, PAIRS_WITHOUT_ROOM, COUNTS_ONE_LESS,
     KEEPS_A_DELETED_PAIR,
-    LIMITS_THOUGH_REFUSED, LIMITS_OF_TOO_MANY, TAKES_MEMORY, WRITES_BEHIND_OLD, READS_BEHIND_A_KEY, FULL_LOOKUPS, ANSWERS_SEVENTY,
+    TAKES_ANY_STEPS, BEGINS_OF_NO_STEPS, WRITES_WHEN_SPENT, IDLE_WHEN_UNFINISHED, RESUMES_TO_ABSENT, FORGETS_A_SPENT_PUT,
+    LIMITS_THOUGH_REFUSED, LIMITS_OF_TOO_MANY, TAKES_MEMORY, WRITES_BEHIND_OLD, READS_BEHIND_A_KEY, FULL_LOOKUPS, SPENT_LOOKUPS, ANSWERS_SEVENTY,
     /* several threads see these, too */
     BUSY_FOR_NOTHING, TORN_VALUES, ANOTHER_KEYS_VALUE, OPEN_WHEN_CLOSED,
     /* a sanitizer sees these: of addresses, of what is undefined, of threads */
@@ -105,6 +106,7 @@ uint32_t __wrap_bwtree_raw_get(T tree, uint32_t seat, B key, size_t length, bwtr
     if (has(WRITES_OF_ABSENT_KEYS) && status == BWTREE_ABSENT) value->length = 0;
     if (has(WRITES_BEHIND_OLD) && status == BWTREE_OK) ((volatile char *)(value + 1))[0] = 'x';
     if (has(FULL_LOOKUPS) && status == BWTREE_ABSENT && now_and_then(100)) return BWTREE_FULL;
+    if (has(SPENT_LOOKUPS) && status == BWTREE_ABSENT && now_and_then(100)) return BWTREE_SPENT;
     if (has(ANSWERS_SEVENTY) && status == BWTREE_ABSENT && now_and_then(100)) return 70;
     if (has(BUSY_FOR_NOTHING) && status == BWTREE_ABSENT && now_and_then(100)) return BWTREE_BUSY;
     if (has(OPEN_WHEN_CLOSED) && status == BWTREE_CLOSED && tree->held_) return BWTREE_ABSENT;
@@ -113,6 +115,27 @@ uint32_t __wrap_bwtree_raw_get(T tree, uint32_t seat, B key, size_t length, bwtr
     if (has(ANOTHER_KEYS_VALUE) && now_and_then(20) && last.length) *value = last;
     if (has(ANOTHER_KEYS_VALUE)) last = *value;
     return status;
+}
+
+uint32_t __real_bwtree_raw_get_within(T tree, uint32_t seat, uint32_t budget, B key, size_t length, bwtree_bytes *value);
+uint32_t __wrap_bwtree_raw_get_within(T tree, uint32_t seat, uint32_t budget, B key, size_t length, bwtree_bytes *value);
+uint32_t __wrap_bwtree_raw_get_within(T tree, uint32_t seat, uint32_t budget, B key, size_t length, bwtree_bytes *value) {
+    if (has(TAKES_ANY_STEPS) && budget) budget = UINT32_MAX;
+    if (has(BEGINS_OF_NO_STEPS) && !budget) budget = 1;
+    uint32_t status = __real_bwtree_raw_get_within(tree, seat, budget, key, length, value);
+    if (has(WRITES_WHEN_SPENT) && status == BWTREE_SPENT) value->length = 0;
+    return status;
+}
+
+uint32_t __real_bwtree_raw_upsert_within(T tree, uint32_t seat, uint32_t budget, B key, size_t length, B value, size_t value_length, bwtree_bytes *old);
+uint32_t __wrap_bwtree_raw_upsert_within(T tree, uint32_t seat, uint32_t budget, B key, size_t length, B value, size_t value_length, bwtree_bytes *old);
+uint32_t __wrap_bwtree_raw_upsert_within(T tree, uint32_t seat, uint32_t budget, B key, size_t length, B value, size_t value_length, bwtree_bytes *old) {
+    uint32_t status;
+    if (has(FORGETS_A_SPENT_PUT) && budget && budget < 1 << 16) {
+        status = __real_bwtree_raw_get_within(tree, seat, budget, key, length, old);
+        return status == BWTREE_OK ? (uint32_t)BWTREE_REPLACED : status == BWTREE_ABSENT ? (uint32_t)BWTREE_OK : status;
+    }
+    return __real_bwtree_raw_upsert_within(tree, seat, budget, key, length, value, value_length, old);
 }
 
 uint32_t __real_bwtree_raw_insert(T tree, uint32_t seat, B key, size_t length, B value, size_t value_length, bwtree_bytes *old);
@@ -199,7 +222,12 @@ uint32_t __wrap_bwtree_raw_back(T tree, uint32_t seat, B upto, size_t length, bw
 uint32_t __real_bwtree_raw_resume(T tree, uint32_t seat, uint32_t budget, bwtree_bytes *old, bwtree_page_pairs *page);
 uint32_t __wrap_bwtree_raw_resume(T tree, uint32_t seat, uint32_t budget, bwtree_bytes *old, bwtree_page_pairs *page);
 uint32_t __wrap_bwtree_raw_resume(T tree, uint32_t seat, uint32_t budget, bwtree_bytes *old, bwtree_page_pairs *page) {
+    bwtree_bytes was = *old;
     uint32_t status = __real_bwtree_raw_resume(tree, seat, budget, old, page);
+    if (has(RESUMES_TO_ABSENT) && status == BWTREE_OK) {
+        *old = was;
+        return BWTREE_ABSENT;
+    }
     return has(RESUMES_NOTHING) && status == BWTREE_IDLE ? (uint32_t)BWTREE_OK : status;
 }
 
@@ -207,6 +235,7 @@ uint32_t __real_bwtree_raw_is_idle(T tree, uint32_t seat);
 uint32_t __wrap_bwtree_raw_is_idle(T tree, uint32_t seat);
 uint32_t __wrap_bwtree_raw_is_idle(T tree, uint32_t seat) {
     uint32_t status = __real_bwtree_raw_is_idle(tree, seat);
+    if (has(IDLE_WHEN_UNFINISHED) && status == BWTREE_UNFINISHED) return BWTREE_OK;
     return has(IDLE_WHEN_CLOSED) && status == BWTREE_CLOSED ? (uint32_t)BWTREE_OK : status;
 }
 

@@ -16,6 +16,8 @@ static int threads = 1, stops, ended;
 
 static uint32_t operate(const struct operation *op, const bwtree *tree, uint32_t seat, const struct slice *k, const struct slice *e, const struct slice *v,
                         bwtree_bytes *old, bwtree_page_pairs *page) {
+    if (op->has_budget && op->kind == GET) return bwtree_get_within(tree, seat, op->budget, k->at, k->length, old);
+    if (op->has_budget) return bwtree_upsert_within(tree, seat, op->budget, k->at, k->length, v->at, v->length, old);
     switch (op->kind) {
     case GET: return bwtree_get(tree, seat, k->at, k->length, old);
     case INSERT: return bwtree_insert(tree, seat, k->at, k->length, v->at, v->length, old);
@@ -36,6 +38,8 @@ static struct operation operation_of(struct draw *d, uint64_t opening, uint64_t 
     memset(&op, 0, sizeof op);
     op.kind = (int)below(d, OPERATIONS), op.key = keys[below(d, count)], op.number = one_in(d, 2) ? next(d) : below(d, 3);
     op.value = value_of(d, opening, &op.key);
+    op.has_budget = (op.kind == GET || op.kind == UPSERT) && one_in(d, 3);
+    if (op.has_budget) op.budget = budget_of(d);
     op.expected = seen && one_in(d, 2) ? *seen : op.value;
     return op;
 }
@@ -46,6 +50,29 @@ static void check_writes(int kind, uint32_t status, const bwtree_bytes *old, con
     if (!shows_page(kind, status)) CHECK(is_filled(page, sizeof *page));
 }
 
+/* Whether an unfinished upsert has taken effect: by a lookup on another seat. In a tree with one seat nobody else can tell. */
+static void look_for_effect(struct handle *h, uint32_t of) {
+    struct unfinished *u = &h->unfinished[of];
+    uint32_t seat = idle_but(h, of), status;
+    bwtree_bytes value, *now = value_in(h, &u->op.key);
+    if (u->op.kind != UPSERT || u->took_effect || seat == h->limits.actors) return;
+    status = bwtree_get(h->tree, seat, u->op.key.bytes, u->op.key.length, &value);
+    if (status == BWTREE_OK && same(&value, &u->op.value)) {
+        u->took_effect = 1, u->had = now != NULL;
+        if (now) u->old = *now;
+        put(h, &u->op.key, &u->op.value);
+    } else CHECK(status == (now ? (uint32_t)BWTREE_OK : (uint32_t)BWTREE_ABSENT) && (!now || same(&value, now)));
+}
+
+/* An operation that is SPENT stays in its seat. */
+static void leave_unfinished(struct handle *h, uint32_t seat, const struct operation *op) {
+    struct unfinished *u = &h->unfinished[seat];
+    memset(u, 0, sizeof *u);
+    u->is = 1, u->op = *op;
+    let_see(h, u);
+    look_for_effect(h, seat);
+}
+
 static void one_operation(struct thread *t, struct handle *h) {
     bwtree_bytes *old = filled(t->old, sizeof *old), found = {0, {0}};
     bwtree_page_pairs *page = filled(t->page, sizeof *page);
@@ -54,12 +81,20 @@ static void one_operation(struct thread *t, struct handle *h) {
     if (value_in(h, &op.key) && one_in(&t->draw, 2)) op.expected = *value_in(h, &op.key);
     struct slice k = slice_of(t, t->key, &op.key), e = slice_of(t, t->expected, &op.expected), v = slice_of(t, t->value, &op.value);
     int no_tree = one_in(&t->draw, 60), no_out = one_in(&t->draw, 60);
-    uint32_t seat = seat_of(&t->draw, h->ever ? h->limits.actors : 1), wanted = arguments(op.kind, no_tree, no_out, &k, &e, &v);
-    if (!wanted) wanted = entry(h, seat);
+    uint32_t seat = seat_of(&t->draw, h->ever ? h->limits.actors : 1);
+    /* a seat stays idle, by which others' unfinished operations are seen */
+    if (op.has_budget && h->ever && h->limits.actors > 1 && idle_but(h, seat) == h->limits.actors) op.budget = ENOUGH;
+    uint32_t wanted = arguments(&op, no_tree, no_out, &k, &e, &v);
+    if (!wanted) wanted = beginning(h, seat);
     begin_call();
     uint32_t status = operate(&op, no_tree ? NULL : h->tree, seat, &k, &e, &v, no_out ? NULL : old, no_out ? NULL : page);
     end_call();
-    note(t, op.kind, status);
+    note(t, named(&op), status);
+    if (!wanted && (must_be_spent(&op) || (status == BWTREE_SPENT && may_be_spent(&op)))) {
+        CHECK(status == BWTREE_SPENT && is_filled(old, sizeof *old));
+        leave_unfinished(h, seat, &op);
+        return;
+    }
     if (!wanted && status == BWTREE_FULL && may_be_full(op.kind)) wanted = status;
     else if (!wanted) wanted = settle(h, &op, &found);
     if (status != wanted) FAIL("%s answers %u, not %u", NAMES[op.kind], status, wanted);
@@ -72,23 +107,65 @@ static void one_operation(struct thread *t, struct handle *h) {
 
 static void one_look(struct thread *t, struct handle *h, int kind) {
     bwtree_room *room = filled(t->room, sizeof *room);
-    bwtree_bytes *old = filled(t->old, sizeof *old);
-    bwtree_page_pairs *page = filled(t->page, sizeof *page);
-    uint32_t seat = seat_of(&t->draw, h->ever ? h->limits.actors : 1), status, wanted = entry(h, seat);
+    uint32_t seat = seat_of(&t->draw, h->ever ? h->limits.actors : 1), status, wanted = kind == IDLE ? beginning(h, seat) : entry(h, seat);
     int null = (int)below(&t->draw, 60);
     const bwtree *tree = null == 0 ? NULL : h->tree;
     begin_call();
     if (kind == ROOM) status = bwtree_free_room(tree, seat, null == 1 ? NULL : room);
-    else if (kind == IDLE) status = bwtree_is_idle(tree, seat);
-    else status = bwtree_resume(tree, seat, (uint32_t)below(&t->draw, 3), null == 1 ? NULL : old, null == 2 ? NULL : page);
+    else status = bwtree_is_idle(tree, seat);
     end_call();
     note(t, kind, status);
-    if (!wanted && kind == RESUME) wanted = BWTREE_IDLE;
-    if (null == 0 || (kind != IDLE && null == 1) || (kind == RESUME && null == 2)) wanted = BWTREE_NULL;
+    if (null == 0 || (kind != IDLE && null == 1)) wanted = BWTREE_NULL;
     if (status != wanted) FAIL("%s answers %u, not %u", NAMES[kind], status, wanted);
-    CHECK(is_filled(old, sizeof *old) && is_filled(page, sizeof *page));
     if (kind == ROOM && !status) CHECK(room->free_pages < h->limits.pages && room->free_records < h->limits.records);
     else CHECK(is_filled(room, sizeof *room));
+}
+
+/* Whether an unfinished operation answers this at its end, and with this value in `old`. */
+static void settle_unfinished(struct handle *h, uint32_t seat, uint32_t status, const bwtree_bytes *old) {
+    struct unfinished *u = &h->unfinished[seat];
+    bwtree_bytes found = {0, {0}};
+    uint32_t wanted;
+    u->is = 0;
+    if (u->op.kind == GET) {
+        CHECK(status == BWTREE_OK || status == BWTREE_ABSENT);
+        CHECK(may_see(u, status == BWTREE_OK ? old : NULL));
+        return;
+    }
+    if (u->took_effect) wanted = u->had ? BWTREE_REPLACED : BWTREE_OK, found = u->old;
+    else if (status == BWTREE_FULL) return;
+    else wanted = settle(h, &u->op, &found);
+    if (status != wanted) FAIL("resume of an upsert answers %u, not %u", status, wanted);
+    if (status == BWTREE_REPLACED) CHECK(same(old, &found));
+}
+
+/* Continues a seat's operation, if it has one. */
+static void one_resumption(struct thread *t, struct handle *h) {
+    bwtree_bytes *old = filled(t->old, sizeof *old);
+    bwtree_page_pairs *page = filled(t->page, sizeof *page);
+    uint32_t seat = seat_of(&t->draw, h->ever ? h->limits.actors : 1), budget = budget_of(&t->draw);
+    for (uint64_t tries = 0; h->ever && tries < h->limits.actors && seat < h->limits.actors && !h->unfinished[seat].is && !one_in(&t->draw, 40); tries++)
+        seat = (uint32_t)((seat + 1) % h->limits.actors);
+    uint32_t wanted = entry(h, seat);
+    int null = (int)below(&t->draw, 60), kind = wanted ? GET : h->unfinished[seat].op.kind;
+    begin_call();
+    uint32_t status = bwtree_resume(null == 0 ? NULL : h->tree, seat, budget, null == 1 ? NULL : old, null == 2 ? NULL : page);
+    end_call();
+    note(t, RESUME, status);
+    if (null < 3) wanted = BWTREE_NULL;
+    else if (!wanted && !h->unfinished[seat].is) wanted = BWTREE_IDLE;
+    else if (!wanted && !budget) wanted = BWTREE_SPENT;
+    CHECK(is_filled(page, sizeof *page));
+    if (wanted || status == BWTREE_SPENT) CHECK(is_filled(old, sizeof *old));
+    if (wanted) {
+        if (status != wanted) FAIL("resume answers %u, not %u", status, wanted);
+    } else if (status == BWTREE_SPENT) {
+        CHECK(budget < ENOUGH);
+        look_for_effect(h, seat);
+    } else {
+        if (!shows_value(kind, status)) CHECK(is_filled(old, sizeof *old));
+        settle_unfinished(h, seat, status, old);
+    }
 }
 
 /* ---- Openings and closings ---- */
@@ -143,7 +220,8 @@ static void one_opening(struct thread *t, struct handle *h, int with_pairs) {
         return;
     }
     h->ever = h->open = 1, h->waiting = h->closed = h->ended = 0, h->limits = *limits, h->count = count;
-    h->opening = opening;
+    h->opening = opening, h->all_shorts = 0;
+    memset(h->shorts, 0, sizeof h->shorts), memset(h->unfinished, 0, sizeof h->unfinished);
     __atomic_add_fetch(&openings, 1, __ATOMIC_SEQ_CST);
     memcpy(h->map, pairs ? pairs : h->map, count * sizeof *h->map);
 }
@@ -164,9 +242,10 @@ static void one_handing_over(struct thread *t, struct handle *h) {
     int null = (int)below(&t->draw, 60), no_pairs = one_in(&t->draw, 10);
     uint32_t status = bwtree_close_pairs(null == 0 ? NULL : h->tree, no_pairs ? NULL : pairs, room, null == 1 ? NULL : count);
     note(t, CLOSE_PAIRS, status);
-    uint32_t wanted = null < 2 || (no_pairs && room) ? BWTREE_NULL : !h->open && !h->waiting ? BWTREE_CLOSED : room < h->count ? BWTREE_NO_ROOM : BWTREE_OK;
+    uint32_t wanted = null < 2 || (no_pairs && room) ? BWTREE_NULL : !h->open && !h->waiting ? BWTREE_CLOSED : h->open && has_unfinished(h) ? BWTREE_UNFINISHED
+                    : room < h->count ? BWTREE_NO_ROOM : BWTREE_OK;
     if (status != wanted) FAIL("close_pairs answers %u, not %u", status, wanted);
-    CHECK(wanted == BWTREE_NULL || wanted == BWTREE_CLOSED ? is_filled(count, 8) : *count == h->count);
+    CHECK(wanted >= BWTREE_CLOSED ? is_filled(count, 8) : *count == h->count);
     size_t written = status == BWTREE_OK ? h->count : 0;
     for (size_t i = 0; i < written; i++) CHECK(same(&pairs[i].key, &h->map[i].key) && same(&pairs[i].value, &h->map[i].value));
     CHECK(is_filled(pairs + written, (room - written) * sizeof *pairs));
@@ -179,18 +258,22 @@ static void one_handing_over(struct thread *t, struct handle *h) {
 static void one_proposal(struct thread *t, int kind) {
     static const uint64_t odd[] = {0, 1, 9751, 9752, 12199, 12200, 27066839, 27068967, 27068968, 1ull << 32, 1ull << 63, UINT64_MAX};
     bwtree_limits *l = filled(t->limits, sizeof *l);
-    uint64_t actors = one_in(&t->draw, 10) ? odd[below(&t->draw, 12)] : 1 + below(&t->draw, most_seats(kind == FOR_MANY));
+    int is_large = kind != FOR_KEYS;
+    uint64_t actors = one_in(&t->draw, 10) ? odd[below(&t->draw, 12)] : 1 + below(&t->draw, most_seats(is_large));
+    uint64_t key_bytes = one_in(&t->draw, 20) ? odd[below(&t->draw, 12)] : below(&t->draw, 66), value_bytes = below(&t->draw, 66);
     uint64_t count = one_in(&t->draw, 3) ? odd[below(&t->draw, 12)] : below(&t->draw, kind == FOR_KEYS ? 13000 : 28000000);
     uint64_t sure = kind == FOR_KEYS ? 9000 : 27000000, never = kind == FOR_KEYS ? 12200 : 27068968;
     int null = one_in(&t->draw, 40);
-    uint32_t status = (kind == FOR_KEYS ? bwtree_limits_for_keys : bwtree_limits_for_many_keys)(actors, count, null ? NULL : l);
+    uint32_t status = kind == FOR_PAIRS ? bwtree_limits_for_pairs(actors, count, key_bytes, value_bytes, null ? NULL : l)
+                                        : (kind == FOR_KEYS ? bwtree_limits_for_keys : bwtree_limits_for_many_keys)(actors, count, null ? NULL : l);
     note(t, kind, status);
     if (null) CHECK(status == BWTREE_NULL);
-    else if (actors < 1 || actors > most_seats(kind == FOR_MANY) || count >= never) CHECK(status == BWTREE_BAD_LIMITS);
+    else if (actors < 1 || actors > most_seats(is_large) || count >= never) CHECK(status == BWTREE_BAD_LIMITS);
+    else if (kind == FOR_PAIRS && (key_bytes > 64 || value_bytes > 64)) CHECK(status == BWTREE_BAD_LIMITS);
     else CHECK(status == BWTREE_OK || (count > sure && status == BWTREE_BAD_LIMITS));
     if (status) { CHECK(is_filled(l, sizeof *l)); return; }
-    CHECK(l->actors == actors && l->epoch == 1 && l->large == (kind == FOR_MANY ? 2 : 0) && is_count(l->pages, l->large ? 4194304 : 4096));
-    CHECK(is_count(l->records, l->large ? 67108864 : 16384));
+    CHECK(l->actors == actors && l->epoch == 1 && l->large == (is_large ? 2 : 0) && is_count(l->pages, l->large ? 4194304 : 4096));
+    CHECK(is_count(l->records, l->large ? 67108864 : 16384) && (!is_large || have_widths(l)));
 }
 
 /* ---- One thread ---- */
@@ -202,13 +285,42 @@ static void one(struct thread *t) {
         if (drawn < 2) one_closing(t, h);
         else if (drawn < 8) one_handing_over(t, h);
         else if (drawn < 60) one_opening(t, h, one_in(&t->draw, 2));
-        else if (drawn < 100) one_proposal(t, one_in(&t->draw, 2) ? FOR_KEYS : FOR_MANY);
-        else if (drawn < 500) one_look(t, h, RESUME + (int)below(&t->draw, 3));
+        else if (drawn < 100) one_proposal(t, FOR_KEYS + (int)below(&t->draw, 3));
+        else if (drawn < 400) one_look(t, h, one_in(&t->draw, 2) ? IDLE : ROOM);
+        else if (drawn < 500 || (has_unfinished(h) && one_in(&t->draw, 3))) one_resumption(t, h);
         else one_operation(t, h);
     }
 }
 
 /* ---- Several threads ---- */
+
+/* Continues a seat's operation, whoever began it, for a drawn number of steps; at its end it answers what a lookup or an upsert may. */
+static uint32_t shared_resumption(struct thread *t, struct handle *h, uint32_t seat) {
+    bwtree_bytes *old = filled(t->old, sizeof *old);
+    bwtree_page_pairs *page = filled(t->page, sizeof *page);
+    uint32_t budget = budget_of(&t->draw);
+    struct watch w = watch(h, seat);
+    begin_call();
+    uint32_t status = bwtree_resume(h->tree, seat, budget, old, page);
+    end_call();
+    watched(&w, BWTREE_OK, status);
+    note(t, RESUME, status);
+    CHECK(is_filled(page, sizeof *page));
+    CHECK(status == BWTREE_OK || status == BWTREE_ABSENT || status == BWTREE_REPLACED || status == BWTREE_FULL || status == BWTREE_SPENT ||
+          status == BWTREE_IDLE || status == BWTREE_CLOSED || status == BWTREE_NO_SEAT || status == BWTREE_BUSY);
+    if (status <= BWTREE_SPENT) CHECK(load(&h->shorts[seat]));
+    if (!budget) CHECK(status >= BWTREE_SPENT);
+    if (status == BWTREE_SPENT) CHECK(budget < ENOUGH);
+    if (status == BWTREE_REPLACED || (status == BWTREE_OK && !is_filled(old, sizeof *old))) check_value(old, h->opening, NULL);
+    else CHECK(is_filled(old, sizeof *old));
+    return status;
+}
+
+/* Resumes until the seat has nothing unfinished, or the tree is closed; now and then it is left to others. */
+static void go_on(struct thread *t, struct handle *h, uint32_t seat) {
+    uint32_t status = BWTREE_SPENT;
+    while ((status == BWTREE_SPENT || status == BWTREE_BUSY) && !one_in(&t->draw, 60)) status = shared_resumption(t, h, seat);
+}
 
 static void shared_operation(struct thread *t, struct handle *h) {
     static __thread bwtree_bytes seen;
@@ -216,16 +328,22 @@ static void shared_operation(struct thread *t, struct handle *h) {
     bwtree_page_pairs *page = filled(t->page, sizeof *page);
     struct operation op = operation_of(&t->draw, h->opening, one_in(&t->draw, 2) ? 12 : KEYS, seen.length ? &seen : NULL);
     struct slice k = slice_of(t, t->key, &op.key), e = slice_of(t, t->expected, &op.expected), v = slice_of(t, t->value, &op.value);
-    uint32_t seat = seat_of(&t->draw, h->ever ? h->limits.actors : 1), wanted = arguments(op.kind, 0, 0, &k, &e, &v);
+    uint32_t seat = seat_of(&t->draw, h->ever ? h->limits.actors : 1), wanted = arguments(&op, 0, 0, &k, &e, &v);
     struct watch w = watch(h, seat);
+    if (w.has_seat && !wanted && may_be_spent(&op)) {
+        __atomic_add_fetch(&h->shorts[seat], 1, __ATOMIC_SEQ_CST);
+        __atomic_add_fetch(&h->all_shorts, 1, __ATOMIC_SEQ_CST);
+    }
     begin_call();
     uint32_t status = operate(&op, h->tree, seat, &k, &e, &v, old, page);
     end_call();
     watched(&w, wanted, status);
-    note(t, op.kind, status);
+    note(t, named(&op), status);
     if (wanted) return;
-    if (!may_answer(op.kind, status)) FAIL("%s answers %u", NAMES[op.kind], status);
     check_writes(op.kind, status, old, page);
+    if (status == BWTREE_UNFINISHED ? !load(&h->shorts[seat]) : !may_answer(&op, status)) FAIL("%s answers %u", NAMES[named(&op)], status);
+    if (status == BWTREE_SPENT || (status == BWTREE_UNFINISHED && one_in(&t->draw, 2))) go_on(t, h, seat);
+    if (status == BWTREE_SPENT || status == BWTREE_UNFINISHED) return;
     if (shows_value(op.kind, status)) check_value(old, h->opening, &op.key), seen = *old;
     if (status == BWTREE_DIFFERS && op.kind != ADD) CHECK(!same(old, &op.expected));
     if (op.kind == DELETE_IF && status == BWTREE_OK) CHECK(same(old, &op.expected));
@@ -236,20 +354,17 @@ static void shared_operation(struct thread *t, struct handle *h) {
 
 static void shared_look(struct thread *t, struct handle *h, int kind) {
     bwtree_room *room = filled(t->room, sizeof *room);
-    bwtree_bytes *old = filled(t->old, sizeof *old);
-    bwtree_page_pairs *page = filled(t->page, sizeof *page);
     uint32_t seat = seat_of(&t->draw, h->ever ? h->limits.actors : 1), status;
+    if (kind == RESUME) { shared_resumption(t, h, seat); return; }
     struct watch w = watch(h, seat);
     begin_call();
     if (kind == ROOM) status = bwtree_free_room(h->tree, seat, room);
-    else if (kind == IDLE) status = bwtree_is_idle(h->tree, seat);
-    else status = bwtree_resume(h->tree, seat, (uint32_t)below(&t->draw, 3), old, page);
+    else status = bwtree_is_idle(h->tree, seat);
     end_call();
     watched(&w, BWTREE_OK, status);
     note(t, kind, status);
-    CHECK(kind == RESUME ? status != BWTREE_OK : status != BWTREE_IDLE);
-    CHECK(status == BWTREE_OK || status == BWTREE_IDLE || status == BWTREE_CLOSED || status == BWTREE_NO_SEAT || status == BWTREE_BUSY);
-    CHECK(is_filled(old, sizeof *old) && is_filled(page, sizeof *page));
+    CHECK(status == BWTREE_OK || status == BWTREE_CLOSED || status == BWTREE_NO_SEAT || status == BWTREE_BUSY ||
+          (kind == IDLE && status == BWTREE_UNFINISHED && load(&h->shorts[seat])));
     if (kind == ROOM && !status) CHECK(room->free_pages < h->limits.pages && room->free_records < h->limits.records);
     else CHECK(is_filled(room, sizeof *room));
 }
@@ -260,7 +375,8 @@ static void shared_closing(struct thread *t, struct handle *h, int with_pairs) {
     __atomic_add_fetch(&h->closes_begun, 1, __ATOMIC_SEQ_CST);
     uint32_t status = with_pairs ? bwtree_close_pairs(h->tree, pairs, room, count) : bwtree_close(h->tree);
     note(t, with_pairs ? CLOSE_PAIRS : CLOSE, status);
-    CHECK(status == BWTREE_OK || status == BWTREE_CLOSED || status == BWTREE_BUSY || (with_pairs && status == BWTREE_NO_ROOM));
+    CHECK(status == BWTREE_OK || status == BWTREE_CLOSED || status == BWTREE_BUSY || (with_pairs && status == BWTREE_NO_ROOM) ||
+          (with_pairs && status == BWTREE_UNFINISHED && load(&h->all_shorts)));
     size_t written = with_pairs && status == BWTREE_OK ? *count : 0;
     if (with_pairs && (status == BWTREE_OK || status == BWTREE_NO_ROOM)) CHECK(*count <= MOST_PAIRS && (*count > room) == (status == BWTREE_NO_ROOM));
     else CHECK(is_filled(count, 8));

@@ -71,7 +71,10 @@ static void watched(struct watch *w, uint32_t wanted, uint32_t status) {
 }
 
 /* Whether an operation may answer this at all. */
-static int may_answer(int kind, uint32_t status) {
+static int may_answer(const struct operation *op, uint32_t status) {
+    int kind = op->kind;
+    if (status == BWTREE_SPENT) return may_be_spent(op);
+    if (must_be_spent(op) && status < BWTREE_CLOSED) return 0;
     if (status == BWTREE_OK || status == BWTREE_CLOSED || status == BWTREE_NO_SEAT || status == BWTREE_BUSY) return 1;
     if (status == BWTREE_FULL) return may_be_full(kind);
     if (status == BWTREE_ABSENT) return kind == GET || kind == DELETE || kind == DELETE_IF || kind == COMPARE_AND_SET;

@@ -339,6 +339,20 @@ impl Tree {
         Tree::open(Limits::for_many_keys(seats, keys)?)
     }
 
+    /// An empty large tree for pairs whose keys and values mostly have at most so many bytes.
+    ///
+    /// ```
+    /// assert!(bwtree::Tree::for_pairs(4, 1000, 16, 8)?.is_empty());
+    /// # Ok::<(), bwtree::Error>(())
+    /// ```
+    ///
+    /// # Errors
+    ///
+    /// Those of [`Limits::for_pairs`] and [`Tree::open`].
+    pub fn for_pairs(seats: u64, keys: u64, key_bytes: u64, value_bytes: u64) -> Result<Tree> {
+        Tree::open(Limits::for_pairs(seats, keys, key_bytes, value_bytes)?)
+    }
+
     /// A seat, if one is free. It is free again when it is dropped.
     ///
     /// ```

@@ -5,20 +5,25 @@ use std::thread::{sleep, yield_now};
 use std::time::{Duration, Instant};
 
 /// What may become of a write that is [`Error::Full`]. It is a hint, made from what is free a moment later: nothing is proved of it, and other calls
-/// change it.
+/// change it. Free records are counted over all widths. In a tree with records of three widths ([`Limits::widths`]) a write may need one of 512 words, so there
+/// the hint is `Passed` only if one of these must be free, and never `ForNow`.
 #[derive(Clone, Copy, Debug, PartialEq, Eq)]
 pub enum FullHint {
-    /// A page and a record are free now.
+    /// A page is free now, and a record with room for any change.
     Passed,
     /// No record is free, but pages are, and the limits have records enough for all pages: other seats hold records back.
     ForNow,
     /// No page is free; or no record, and the limits have too few: the tree itself may have them all. Where keys were just deleted, other seats may hold
     /// pages back still: so ask after a wait.
     ForGood,
+    /// Of three widths alone: pages are free, but perhaps no record of 512 words, for now or for good. Wait; if that is in vain, a larger tree is needed, or
+    /// one for longer pairs.
+    Unknown,
 }
 
 impl FullHint {
-    /// The hint from limits and what is free: records are enough from 9 for each page and 120 for each seat on, in a large tree 3 and 240.
+    /// The hint from limits and what is free: records are enough from 9 for each page and 120 for each seat on, in a large tree 3 and 240. Of three widths,
+    /// fewer than `wide_from` records are narrower than 512 words: if more are free, one of these has 512.
     ///
     /// ```
     /// use bwtree::{FullHint, Limits, Room};
@@ -28,10 +33,13 @@ impl FullHint {
     /// ```
     pub fn of(limits: &Limits, room: &Room) -> FullHint {
         let (page, seat) = if limits.large { (3, 240) } else { (9, 120) };
-        match (room.free_pages > 0, room.free_records > 0) {
-            (true, true) => FullHint::Passed,
-            (true, false) if limits.records >= page * limits.pages + seat * limits.actors => FullHint::ForNow,
-            _ => FullHint::ForGood,
+        let narrower = limits.widths.map_or(0, |widths| widths.wide_from);
+        match room.free_records {
+            _ if room.free_pages == 0 => FullHint::ForGood,
+            free if free > narrower => FullHint::Passed,
+            0 if limits.records < page * limits.pages + seat * limits.actors => FullHint::ForGood,
+            _ if narrower > 0 => FullHint::Unknown,
+            _ => FullHint::ForNow,
         }
     }
 }

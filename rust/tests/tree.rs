@@ -197,3 +197,34 @@ fn hints_are_of_limits_and_room() {
     assert_eq!(hint(1, 448, true, 1, 0), FullHint::ForNow);
     assert_eq!(hint(1, 384, true, 1, 0), FullHint::ForGood);
 }
+
+/// Of three widths, as many records as are narrower than 512 words tell nothing of the others.
+#[test]
+fn hints_are_of_three_widths() {
+    let hint = |records, wide_from, free_pages, free_records| {
+        let widths = Some(Widths { narrow_records: wide_from / 2, wide_from, narrow_words: 8, page_words: 56 });
+        FullHint::of(&Limits { actors: 1, pages: 64, records, large: true, widths }, &Room { free_pages, free_records })
+    };
+    assert_eq!(hint(576, 512, 1, 513), FullHint::Passed);
+    assert_eq!(hint(576, 512, 1, 512), FullHint::Unknown);
+    assert_eq!(hint(576, 512, 1, 0), FullHint::Unknown);
+    assert_eq!(hint(576, 512, 0, 513), FullHint::ForGood);
+    assert_eq!(hint(384, 320, 1, 0), FullHint::ForGood);
+    assert_eq!(hint(384, 320, 1, 1), FullHint::Unknown);
+}
+
+/// In a tree for short pairs that is filled with long ones no record of 512 words is free any more, though many narrower ones are.
+#[test]
+fn full_trees_of_three_widths_have_narrow_records() {
+    let tree = Tree::for_pairs(1, 2000, 1, 1).unwrap();
+    let mut seat = tree.seat().unwrap();
+    assert_eq!(seat.full_hint(), FullHint::Passed);
+    let mut key = [0; 64];
+    let full = (0..2000u32).find(|i| {
+        key[..4].copy_from_slice(&i.wrapping_mul(2_654_435_761).to_be_bytes());
+        seat.insert(&key, &key) == Err(Error::Full)
+    });
+    let room = seat.room();
+    assert!(full.is_some() && room.free_pages > 0 && room.free_records > 0);
+    assert_eq!(seat.full_hint(), FullHint::Unknown);
+}

@@ -7,7 +7,8 @@ pub(crate) const VERSION: &str = "0.2.0";
 pub(crate) const PROGRAM: &str =
     "'bwtree help script', help weave, help draw, help film and help race list the lines that each program reads, and what they print.
 
-A program that refuses a line prints 'refused line N: C' and ends; a refusal of no line is 'refused: C'. C is one of these numbers:
+A program that refuses a line prints 'refused line N: C' and ends; a refusal of no line is 'refused: C'. C is one of these numbers
+(film has a line of its own for too many steps):
   1   a key or a value has more than 64 bytes
   2   an option is outside its range: printed to standard error, and the status is 2
   4   there is no such actor
@@ -28,11 +29,11 @@ with divisions that round down, and each result rounded up to a multiple of 64:
   --pids = pages + 1 + 11 A        --rows = 9 pids + 120 A
 or, with --large:
   --pids = pages + pages / 16 + 1 + 22 A        --rows = 3 pids + 240 A
-So 1,000 keys of a race with 4 seats need --pids 256 --rows 2816, and 100,000 need --large --pids 15616 --rows 48320.";
+So 1,000 keys of a race with 4 seats need --pids 256 --rows 2816, and 100,000 need --large --pids 15616 --rows 47808.";
 
 /// The lines of a script.
 pub(crate) const SCRIPT: &str =
-    "A line is a command, or list. Each reply stands behind '0 ', but for list.
+    "A line is a command, or list. Each reply is preceded by '0 ', except list's.
   get K          value V; none where the key has no value
   insert K V     inserted; exists V where the key has a value, which it keeps
   upsert K V     set where the key had no value; replaced V, with the value that it had

@@ -50,7 +50,7 @@ fn help_lists_each_refusal(rt: HostRuntime) -> Result<(), Fail> {
     Ok(())
 }
 
-// The numbers are those that the rule proposes.
+// The numbers are those that the rule proposes, of a large tree without its wide rows: here all rows are wide.
 #[test]
 fn help_sizes_a_tree(rt: HostRuntime) -> Result<(), Fail> {
     let alloc = rt.alloc();
@@ -58,7 +58,10 @@ fn help_sizes_a_tree(rt: HostRuntime) -> Result<(), Fail> {
     let small = Limits::for_keys(4, 1000).expect(&rt, "limits for a thousand keys");
     let large = Limits::for_many_keys(4, 100_000).expect(&rt, "limits for 100,000 keys");
     let small_words = format!(in alloc; "--pids {} --rows {}", small.pids, small.rows)?;
-    let large_words = format!(in alloc; "--large --pids {} --rows {}", large.pids, large.rows)?;
+    let large_words = format!(in alloc;
+        "--large --pids {} --rows {}",
+        large.pids, large.wide_from
+    )?;
     assert!(rt;
         help.as_str().contains(small_words.as_str()),
         "{small_words} isn't in {help}"
