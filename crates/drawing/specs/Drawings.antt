@@ -8,12 +8,12 @@ use Rattle.shell_lines.specs.declared.request.Language.TheVariants.{Weave}
 use Rattle.tree_picture.specs.declared.shape.Shape.{Shape}
 use Rattle.tree_picture.specs.Document.{IsWellFormed}
 use Rattle.tree_picture.specs.Elements.{document_text}
-use Rattle.tree_picture.specs.Items.{all_items}
 use Rattle.tree_picture.specs.Layout.{AreLaidOut}
 use Rattle.tree_picture.specs.Marks.{AreMarked}
-use Rattle.tree_picture.specs.Pages.{boxes_of, items_of, marks_of, pids_of, ranges_of, slots_of}
+use Rattle.tree_picture.specs.Pages.{boxes_of, marks_of, pids_of, ranges_of, records_of, slots_of}
 use Rattle.tree_picture.specs.Pids.{all_pids}
 use Rattle.tree_picture.specs.Ranges.{all_ranges}
+use Rattle.tree_picture.specs.RecordLines.{all_records}
 use Rattle.bw_shell.specs.declared.refusal.Refusal.TheVariants.{Memory, NotOpened}
 use Rattle.bw_shell.specs.declared.refusal.RefusedLine.{RefusedLine}
 use Rattle.byte_streams.specs.Output.{Writes}
@@ -23,14 +23,15 @@ use Rattle.bw_shell.specs.Weave.{IsTranscriptFrom}
 
 -- The slots among the shapes are exactly those of the memory after the trace that aren't 0, each with what it has, in their order. The pages among the shapes are
 -- exactly those of the side chains of that memory, level by level from the root's level down, each from left to right, and each has its range in words, and is
--- marked by how it stands to the level above. All items of their bases and merges are told in words, in that order. Their boxes lie in a sheet of this width and
--- height, each later one to the right or below. The texts of each box end in it (`PageBox`).
+-- marked by how it stands to the level above. All their records, and the items of bases and merges, have their lines in words, in that order, each drawn as one that
+-- counts where no newer record of its chain names its key, else as one that was taken away. Their boxes lie in a sheet of this width and height, each later one to
+-- the right or below. The texts of each box end in it (`PageBox`).
 pub record IsShown (trace : Trace) (width height : ℕ) (shapes : List Shape) : Type 0 where
   pub scene : Scene
   pub stands : IsSceneOf trace.limits (memory_of trace.limits trace.entries) scene
   pub pages : pids_of shapes ≡ all_pids scene.levels
   pub ranges : ranges_of shapes ≡ all_ranges scene.levels
-  pub items : items_of shapes ≡ all_items scene.levels
+  pub records : records_of shapes ≡ all_records scene.levels
   pub slots : slots_of shapes ≡ scene.slots
   pub marks : AreMarked scene.root [] scene.levels (marks_of shapes)
   pub laid : AreLaidOut width height (boxes_of shapes)

@@ -5,13 +5,13 @@ ghost use Rattle.byte_streams.specs.Output.{Prints};
 ghost use Rattle.tree_picture.specs.Colours.{colour_text};
 ghost use Rattle.tree_picture.specs.Document.{attribute_text, element_text, escape, escaped_byte};
 ghost use Rattle.tree_picture.specs.Elements.{attribute, dark_style, dashes, document_attributes, document_text, elements_of, head_elements, line_element, mark_in, name_in, number};
-ghost use Rattle.tree_picture.specs.Elements.{range_in, weight, rectangle_attributes, rectangle_element, slot_element, text_element, view_attribute, words_element};
+ghost use Rattle.tree_picture.specs.Elements.{range_in, record_element, weight, rectangle_attributes, rectangle_element, slot_element, text_element, view_attribute, words_element};
 
 use byte_streams::Output;
 use itoa::Buffer;
 use tree_picture::{
-    Colour, INSET, Line, MARK_INSET, NAME_DROP, PageBox, Picture, RANGE_DROP, Rectangle, SLOT_DROP,
-    SLOT_INSET, Shape, SlotBox, Text, Words,
+    Colour, INSET, Line, MARK_INSET, NAME_DROP, PageBox, Picture, RANGE_DROP, RecordLine,
+    Rectangle, SLOT_DROP, SLOT_INSET, Shape, SlotBox, Text, Words,
 };
 
 /// How a text looks.
@@ -194,6 +194,28 @@ fn show_text<O: Output>(out: &mut O, text: &Text)
     out.show(b"</text>\n");
 }
 
+/// The attributes of a line of a record.
+fn show_record_attributes<O: Output>(out: &mut O, line: &RecordLine)
+    ensures { Prints (O.state out.old) (O.state out.new) (flat_map attribute_text (record_element line.now).attributes) }
+{
+    show_number_attribute(out, b"x", line.x);
+    show_number_attribute(out, b"y", line.y);
+    show_attribute(out, b"font-size", b"11");
+    show_colour(out, b"fill", line.colour());
+    show_attribute(out, b"text-decoration", line.decoration());
+}
+
+/// A line of a record; one that doesn't count is struck through.
+fn show_record<O: Output>(out: &mut O, line: &RecordLine)
+    ensures { Prints (O.state out.old) (O.state out.new) (element_text (record_element line.now)) }
+{
+    out.show(b"<text");
+    show_record_attributes(out, line);
+    out.show(b">");
+    show_escaped(out, line.words.as_slice());
+    out.show(b"</text>\n");
+}
+
 /// An attribute with a place: so far from a corner.
 fn show_place<O: Output>(out: &mut O, name: &[u8], corner: u64, inset: u64)
     ensures { Prints (O.state out.old) (O.state out.new) (attribute_text (number name.now (corner + inset))) }
@@ -307,7 +329,7 @@ fn show_shape<O: Output>(out: &mut O, shape: &Shape)
         Shape::Page(page) => show_page(out, page),
         Shape::Box(rectangle) => show_box(out, rectangle),
         Shape::Line(line) => show_line(out, line),
-        Shape::Item(text) => show_text(out, text),
+        Shape::Record(line) => show_record(out, line),
         Shape::Slot(slot) => show_slot(out, slot),
         Shape::Text(text) => show_text(out, text),
     }

@@ -14,7 +14,7 @@ pair_line pair = token_text pair.0 ++ codes " " ++ token_text pair.1 ++ codes "\
 
 -- how many pairs there are, and each on a line
 abbrev pub map_text : List (List ℕ × List ℕ) → List ℕ
-map_text pairs = codes "<h3>The map: pairs: " ++ decimal (length pairs) ++ codes "</h3>\n<pre class=\"map\">" ++ flat_map pair_line pairs ++ codes "</pre>\n"
+map_text pairs = codes "<h3>The map after this step (pairs: " ++ decimal (length pairs) ++ codes ")</h3>\n<pre class=\"map\">" ++ flat_map pair_line pairs ++ codes "</pre>\n"
 
 abbrev pub is_same : List ℕ × List ℕ → List ℕ × List ℕ → Bool
 is_same one other = bytes_eq one.0 other.0 && bytes_eq one.1 other.1

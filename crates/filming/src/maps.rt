@@ -64,9 +64,9 @@ fn show_pairs<O: Output>(out: &mut O, pairs: &[(Key, Value)])
 pub(crate) fn show_map<O: Output>(out: &mut O, pairs: &[(Key, Value)])
     ensures { Prints (O.state out.old) (O.state out.new) (map_text pairs.now) }
 {
-    out.show(b"<h3>The map: pairs: ");
+    out.show(b"<h3>The map after this step (pairs: ");
     show_number(out, pairs.len() as u64);
-    out.show(b"</h3>\n<pre class=\"map\">");
+    out.show(b")</h3>\n<pre class=\"map\">");
     show_pairs(out, pairs);
     out.show(b"</pre>\n");
 }

@@ -2,15 +2,15 @@
 ghost use Rattle.std.specs.Prelude.{◌++◌, codes, decimal};
 ghost use Rattle.byte_streams.specs.Output.{Prints};
 ghost use Rattle.tree_picture.specs.Document.{escape};
-ghost use Rattle.filming.specs.Pages.{head_text, tail_text};
+ghost use Rattle.filming.specs.Pages.{buttons_text, guide_text, head_text, style_text, tail_text};
 
 use bw_shell::show_number;
 use byte_streams::Output;
 use drawing::show_escaped;
 
-/// The beginning of the page: how it looks, and its buttons.
-pub(crate) fn show_head<O: Output>(out: &mut O)
-    ensures { Prints (O.state out.old) (O.state out.new) head_text }
+/// How the page looks.
+fn show_looks<O: Output>(out: &mut O)
+    ensures { Prints (O.state out.old) (O.state out.new) style_text }
 {
     out.show(
         b"<!DOCTYPE html>\n<html lang='en'>\n<head>\n<meta charset='utf-8'>\n<meta name='viewport' content='width=device-width'>\n<title>A Bw-tree, step by step</title>\n<style>\n",
@@ -19,18 +19,85 @@ pub(crate) fn show_head<O: Output>(out: &mut O)
         b"body{font:16px system-ui,sans-serif;margin:1rem auto;max-width:1400px;padding:0 1rem;color:#1b1f24;background:#fff}\n",
     );
     out.show(
-        b"nav{position:sticky;top:0;background:inherit;padding:.4rem 0;display:flex;gap:.5rem;align-items:center}button{font:inherit;padding:.2rem .7rem}\n",
+        b"h1{font-size:1.3rem;margin:.3rem 0}h2{font-size:1.1rem;margin:.6rem 0 .2rem}h3{font-size:1rem;margin:.6rem 0 .2rem}p,ul{margin:.3rem 0;max-width:75rem}\n",
     );
     out.show(
-        b"h2{font-size:1rem}svg{max-width:100%;height:auto}pre{margin:0}.told{position:absolute;left:-99rem}\n",
+        b"nav{position:sticky;top:0;background:inherit;padding:.4rem 0;display:flex;flex-wrap:wrap;gap:.5rem;align-items:center}button{font:inherit;padding:.2rem .7rem}\n",
+    );
+    out.show(
+        b"section{scroll-margin-top:99rem}svg{max-width:100%;height:auto}pre{margin:0;columns:10rem}.changed{font-weight:bold}.told{position:absolute;left:-99rem}\n",
     );
     out.show(b"@media (prefers-color-scheme:dark){body{color:#e6edf3;background:#0d1117}}\n");
+}
+
+/// What is to be seen in a frame.
+fn show_guide<O: Output>(out: &mut O)
+    ensures { Prints (O.state out.old) (O.state out.new) guide_text }
+{
+    out.show(b"</style>\n</head>\n<body>\n<h1>A Bw-tree, step by step</h1>\n");
     out.show(
-        b"</style>\n</head>\n<body>\n<nav aria-label='Frames'><button id='first'>Home</button><button id='back'>Back</button><button id='play'>Play</button>",
+        b"<p>Several actors use one ordered map, and none ever locks a page. Each frame is one atomic step of one actor: the tree as it is after that step, and the map.</p>\n",
+    );
+    out.show(b"<details><summary>How to read a frame</summary>\n<ul>\n");
+    out.show(
+        b"<li>A page, PID 1 and so on, is a chain of records, the newest on top, a base with its items at the end. Each record lies in a row of memory.</li>\n",
     );
     out.show(
-        b"<button id='forward'>Forward</button><button id='last'>End</button><span id='at'></span><span id='told' class='told' aria-live='polite'></span></nav>\n<main>\n",
+        b"<li>The mapping table at the left has a slot for each page: the row of its newest record. Slot 0 has the root's PID.</li>\n",
     );
+    out.show(
+        b"<li>A record that is linked never changes. To change a page, an actor places a new record, whose next one is the newest that it has read, in a row of its own.</li>\n",
+    );
+    out.show(
+        b"<li>Then it exchanges the slot: one compare-and-swap from the row that it has read to the new one. If another actor was faster, the slot has another row by then.\n",
+    );
+    out.show(
+        b"The exchange is lost, nothing has changed, and the actor begins anew. This one word takes the place of a lock.</li>\n",
+    );
+    out.show(
+        b"<li>The newest record that names a key decides it. What newer records took away is grey and struck through.</li>\n",
+    );
+    out.show(
+        b"<li>Consolidation: one base replaces a long chain. Split: the upper items of a full page go to a new page, to which a side link leads. A term, which is a key and a\n",
+    );
+    out.show(b"child, is then posted in the page above.</li>\n");
+    out.show(
+        b"<li>Removal of a small page: its term is held, the page is removed, its left page takes its items by a merge, its term is taken out, and its slot is cleared.</li>\n",
+    );
+    out.show(
+        b"<li>Epochs: an actor announces the epoch in which it enters, and leaves at its end. What it took out of the tree waits in its limbo, and is free once each other\n",
+    );
+    out.show(
+        b"actor was outside or in a later epoch. So nobody inside ever meets a row that is used anew. In limbo, '9 at 1' is row 9 with epoch 1.</li>\n",
+    );
+    out.show(
+        b"<li>Keys: left and right, home and end; space plays; n goes to the next exchange, p to the one before. #12 behind the address is frame 12.</li>\n",
+    );
+    out.show(b"</ul>\n</details>\n");
+}
+
+/// The buttons.
+fn show_buttons<O: Output>(out: &mut O)
+    ensures { Prints (O.state out.old) (O.state out.new) buttons_text }
+{
+    out.show(
+        b"<nav aria-label='Frames'><button id='first'>Home</button><button id='back'>Back</button><button id='play'>Play</button><button id='forward'>Forward</button>",
+    );
+    out.show(
+        b"<button id='last'>End</button><button id='before'>Exchange before</button><button id='next'>Next exchange</button>",
+    );
+    out.show(
+        b"<span id='at'></span><span id='told' class='told' aria-live='polite'></span></nav>\n<main>\n",
+    );
+}
+
+/// The beginning of the page: how it looks, what is to be seen, and its buttons.
+pub(crate) fn show_head<O: Output>(out: &mut O)
+    ensures { Prints (O.state out.old) (O.state out.new) head_text }
+{
+    show_looks(out);
+    show_guide(out);
+    show_buttons(out);
 }
 
 /// The end of the page: the script that moves from frame to frame, by the part of the address behind '#'.
@@ -41,22 +108,27 @@ pub(crate) fn show_tail<O: Output>(out: &mut O)
     out.show(
         b"const frames=[...document.querySelectorAll('section')],play=document.getElementById('play'),last=frames.length-1;let timer=0;\n",
     );
-    out.show(b"const at=()=>Math.max(frames.findIndex(frame=>'#'+frame.id===location.hash),0);\n");
+    out.show(
+        b"const at=()=>Math.max(frames.findIndex(frame=>'#'+frame.id===location.hash),0),step=n=>frames[n].querySelector('h2').textContent;\n",
+    );
     out.show(
         b"function show(){const here=at();frames.forEach((frame,i)=>frame.hidden=i!==here);document.getElementById('at').textContent=last<0?'no frames':here+1+' of '+frames.length;\n",
     );
     out.show(
-        b"document.getElementById('told').textContent=last<0?'':frames[here].querySelector('h2').textContent;if(here>=last)stop()}\n",
+        b"document.getElementById('told').textContent=last<0?'':step(here);if(here>=last)stop()}\n",
     );
     out.show(b"function go(n){if(last>=0)location.hash=frames[Math.min(Math.max(n,0),last)].id}\n");
+    out.show(
+        b"function jump(by){let n=at()+by;while(n>0&&n<last&&!step(n).includes(': exchange slot '))n+=by;go(n)}\n",
+    );
     out.show(b"function stop(){clearInterval(timer);timer=0;play.textContent='Play'}\n");
     out.show(b"function start(){play.textContent='Stop';timer=setInterval(()=>go(at()+1),1000)}\n");
     out.show(
-        b"const press={first:()=>go(0),back:()=>go(at()-1),play:()=>timer?stop():start(),forward:()=>go(at()+1),last:()=>go(last)};\n",
+        b"const press={first:()=>go(0),back:()=>go(at()-1),play:()=>timer?stop():start(),forward:()=>go(at()+1),last:()=>go(last),before:()=>jump(-1),next:()=>jump(1)};\n",
     );
     out.show(b"for(const name in press)document.getElementById(name).onclick=press[name];\n");
     out.show(
-        b"const keys={Home:'first',ArrowLeft:'back',' ':'play',ArrowRight:'forward',End:'last'};\n",
+        b"const keys={Home:'first',ArrowLeft:'back',' ':'play',ArrowRight:'forward',End:'last',p:'before',n:'next'};\n",
     );
     out.show(
         b"onkeydown=event=>{if(keys[event.key]&&!event.ctrlKey&&!event.altKey&&!event.metaKey){event.preventDefault();press[keys[event.key]]()}};\n",

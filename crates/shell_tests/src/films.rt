@@ -26,28 +26,28 @@ const SHOWN: [(&[u8], usize); 9] = [
     (b"<section id=\"", 10),
     (b"<svg ", 10),
     (
-        b"<section id=\"1\">\n<h2>1: actor 0: read the epoch</h2>\n",
+        b"<section id=\"1\">\n<h2>1: actor 0, insert k02 &lt;: read the epoch</h2>\n",
         1,
     ),
     (
-        b"<h2>5: actor 0: read row 1</h2>\n<p>The map is unchanged by this step.</p>\n<svg ",
+        b"<h2>5: actor 0, insert k02 &lt;: read row 1</h2>\n<p>The map is unchanged by this step.</p>\n<svg ",
         1,
     ),
     (
-        b"<h2>9: actor 0: exchange slot 1 from 1 to 2: won, put</h2>\n<p class=\"changed\">This step changes the map: k02 has the value &lt; now.</p>\n<svg ",
+        b"<h2>9: actor 0, insert k02 &lt;: exchange slot 1 from row 1 to row 2: won, put: a key was given a value</h2>\n<p class=\"changed\">This step changes the map: k02 has the value &lt; now.</p>\n<svg ",
         1,
     ),
     (
-        b"<section id=\"10\">\n<h2>10: actor 0: leave; done: inserted</h2>\n",
+        b"<section id=\"10\">\n<h2>10: actor 0, insert k02 &lt;: leave; done: inserted</h2>\n",
         1,
     ),
     (b"<p>The map is unchanged by this step.</p>", 9),
     (
-        b"<h3>The map: pairs: 0</h3>\n<pre class=\"map\"></pre>\n</section>\n",
+        b"<h3>The map after this step (pairs: 0)</h3>\n<pre class=\"map\"></pre>\n</section>\n",
         8,
     ),
     (
-        b"<h3>The map: pairs: 1</h3>\n<pre class=\"map\">k02 &lt;\n</pre>\n</section>\n",
+        b"<h3>The map after this step (pairs: 1)</h3>\n<pre class=\"map\">k02 &lt;\n</pre>\n</section>\n",
         2,
     ),
 ];

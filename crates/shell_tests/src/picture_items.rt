@@ -1,4 +1,4 @@
-//! Items that a merge brought.
+//! Items that a merge brought, and items that newer records took away.
 
 use crate::parts::count;
 use crate::picture_marks::add_commands;
@@ -8,15 +8,18 @@ use std::test::Fail;
 
 /// How often each text stands in the picture. 17 keys split a leaf. The right one loses all but k09 to k12, and k10 is set anew. The deletion of k12 finds that
 /// leaf small, so it is merged into the left one before k12 is deleted there. So k09, k11 and k12 stand in the base of the left one, from before the split, and
-/// in the merge, the stale k10 in the base alone, and the new k10 in the merge alone.
-const SHOWN: [(&[u8], usize); 7] = [
+/// in the merge, the stale k10 in the base alone, and the new k10 in the merge alone. What the split took out of the base is struck through, and both k12.
+const SHOWN: [(&[u8], usize); 10] = [
+    (b"\"none\">k08 = v<", 1),
+    (b"\"none\">k09 = v<", 1),
+    (b"\"line-through\">k09 = v<", 1),
+    (b"\"line-through\">k10 = v<", 1),
+    (b"\"none\">k10 = new<", 1),
+    (b"\"none\">k11 = v<", 1),
+    (b"\"line-through\">k11 = v<", 1),
+    (b"\"line-through\">k12 = v<", 2),
+    (b"\"none\">delete k12<", 1),
     (b">k08 = v<", 1),
-    (b">k09 = v<", 2),
-    (b">k10 = v<", 1),
-    (b">k10 = new<", 1),
-    (b">k11 = v<", 2),
-    (b">k12 = v<", 2),
-    (b": delete k12<", 1),
 ];
 
 #[test]

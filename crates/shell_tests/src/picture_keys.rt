@@ -43,7 +43,7 @@ fn is_shown(alloc: Global, limits: Limits, key: &[u8], shown: &[u8]) -> Result<b
         return Ok(false);
     };
     let mut put = Vec::new(alloc);
-    for part in [b": put ".as_slice(), shown, b" = ", shown, b"</text>"] {
+    for part in [b">put ".as_slice(), shown, b" = ", shown, b"</text>"] {
         put.extend_from_slice(part)?;
     }
     Ok(count(text.as_slice(), put.as_slice()) == 1)
@@ -54,7 +54,7 @@ fn is_shown(alloc: Global, limits: Limits, key: &[u8], shown: &[u8]) -> Result<b
 fn the_lowest_key_is_named(rt: HostRuntime) -> Result<(), Fail> {
     let limits = Limits::new(2, 64, 256, 1)?;
     let text = drawn_with(rt.alloc(), limits, b"")?;
-    assert!(rt; text.is_some_and(|text| count(text.as_slice(), b": put (lowest) = =<") == 1));
+    assert!(rt; text.is_some_and(|text| count(text.as_slice(), b">put (lowest) = =<") == 1));
     Ok(())
 }
 

@@ -4,7 +4,7 @@ use Rattle.std.specs.Prelude.{codes}
 use Rattle.std.specs.List.{AllByRecursion, flat_map}
 use Rattle.std.proofs.lemmas.Grind.{flat_map-append}
 use Rattle.tree_picture.specs.declared.shape.Shape.{Shape}
-use Rattle.tree_picture.specs.declared.shape.Shape.TheVariants.{Page, Box, Item, Line, Slot, Text}
+use Rattle.tree_picture.specs.declared.shape.Shape.TheVariants.{Page, Box, Record, Line, Slot, Text}
 use Rattle.tree_picture.specs.Document.{Element, IsElement, IsWellFormed, close_text, element_text, open_text}
 use Rattle.tree_picture.specs.Elements.{document_attributes, document_text, elements_of, head_elements}
 
@@ -15,7 +15,7 @@ append (x ∷ xs) ys one others = (one.0, append xs ys one.1 others)
 each_of : (shape : Shape) → AllByRecursion IsElement (elements_of shape)
 each_of (Page page) = (refl, (refl, (refl, (refl, tt))))
 each_of (Box r) = (refl, tt)
-each_of (Item text) = (refl, tt)
+each_of (Record line) = (refl, tt)
 each_of (Slot slot) = (refl, (refl, tt))
 each_of (Line line) = (refl, tt)
 each_of (Text text) = (refl, tt)

@@ -1,15 +1,16 @@
 -- Boxes, heights and items, worked out.
-use Rattle.std.proofs.Common.{◌≡◌, ℕ, [], ◌∷◌, arith, codes, inl, inr, refl}
-use Rattle.traces.specs.chain.Examples.{leaf_chain, put_leaf, split_leaf}
+use Rattle.std.proofs.Common.{◌≡◌, ℕ, List, [], ◌∷◌, ◌++◌, Bool, true, false, arith, codes, inl, inr, refl}
+use Rattle.std.specs.Prelude.{decimal}
+use Rattle.traces.specs.chain.Examples.{index_chain, leaf_chain, put_leaf, split_leaf}
 use Rattle.traces.specs.chain.SideChain.{LivePage}
 use Rattle.tree_picture.specs.declared.colour.Colour.TheVariants.{Ink, Paper}
 use Rattle.tree_picture.specs.declared.shape.Mark.TheVariants.{Held}
 use Rattle.tree_picture.specs.declared.shape.PageBox.{PageBox}
 use Rattle.tree_picture.specs.declared.shape.Rectangle.{Rectangle}
 use Rattle.tree_picture.specs.declared.shape.Shape.TheVariants.{Page, Box}
-use Rattle.tree_picture.specs.Items.{page_items}
 use Rattle.tree_picture.specs.Layout.{IsBefore, IsOnSheet}
 use Rattle.tree_picture.specs.Pages.{boxes_of}
+use Rattle.tree_picture.specs.RecordLines.{RecordLine, page_records}
 use Rattle.tree_picture.specs.Texts.{EndInBox}
 use Rattle.tree_picture.specs.Sizes.{page_height}
 use Rattle.tree_picture.proofs.Ranges.{ends_in_box}
@@ -87,9 +88,21 @@ middle_is = refl
 large_is : page_height large ≡ 231
 large_is = refl
 
--- the merge's item, which is the newer one, and then the base's
-items_are : page_items large ≡ codes "k09 = w09" ∷ codes "k08 = v08" ∷ codes "k09 = v09" ∷ []
-items_are = refl
+abbrev line : List ℕ → Bool → RecordLine
+line words counts = record { words = words; counts = counts }
+
+-- the merge's item counts, and both of the base are taken away: the one is deleted, the other was split off, and then came back by the merge
+records_are : page_records large
+    ≡ line (codes "remove") true ∷ line (codes "delete k08") true ∷ line (codes "put k07 = v07") true ∷ line (codes "merge from k09 to the end") true
+    ∷ line (codes "k09 = w09") true ∷ line (codes "split k09 to PID " ++ decimal 2) true ∷ line (codes "base, items: " ++ decimal 2) true ∷ line (codes "k08 = v08") false
+    ∷ line (codes "k09 = v09") false ∷ []
+records_are = refl
+
+-- a term takes the place of an unterm there, which took that of a hold, which took that of an older term
+terms_are : page_records (record { pid = 4; chain = index_chain })
+    ≡ line (codes "term k09 to PID " ++ decimal 3) true ∷ line (codes "unterm k09 to PID " ++ decimal 2) false ∷ line (codes "hold k09 to PID " ++ decimal 2) false ∷ line (codes "term k09 to PID " ++ decimal 2) false
+    ∷ line (codes "base, items: " ++ decimal 1) true ∷ line (codes "(lowest) to PID " ++ decimal 1 ++ []) true ∷ []
+terms_are = refl
 
 -- a range of 40 characters would end behind the box
 not_at_length : EndInBox 236 7 Held (codes "from 0123456789.. to 0123456789.. and on") → ⊥

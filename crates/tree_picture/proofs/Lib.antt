@@ -1,10 +1,11 @@
 mod Descents
 mod Documents
+mod Drawn
 mod Escapes
 mod Heights
-mod Items
 mod LayoutExamples
 mod Layouts
+mod Lines
 mod Marking
 mod Ranges
 mod Rows

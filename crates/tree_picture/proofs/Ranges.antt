@@ -5,14 +5,20 @@ use Rattle.std.proofs.lemmas.List.{length-append}
 use Rattle.std.proofs.lemmas.Fmt.{length-decimal-le}
 use Rattle.base_page.specs.declared.item.Content.TheVariants.{Value, Child}
 use Rattle.base_page.specs.declared.item.Item.{Item}
+use Rattle.base_page.specs.Pages.{Page}
+use Rattle.deltas.specs.declared.record.Record.{Record}
+use Rattle.deltas.specs.declared.record.Record.TheVariants.{Base, Put, Delete, Merge}
+use Rattle.deltas.specs.declared.record.Delete.{Delete as DeleteOf}
+use Rattle.deltas.specs.declared.record.Put.{Put as PutOf}
+use Rattle.deltas.specs.declared.record.Merge.{Merge as MergeOf}
 use Rattle.hex.specs.Hex.{encode_lower, lower_digits}
 use Rattle.hex.proofs.HexLemmas.{length-encode_with}
 use Rattle.shell_lines.specs.Token.{is_word}
 use Rattle.tree_picture.specs.Adding.{Adds}
 use Rattle.tree_picture.specs.declared.shape.Mark.{Mark}
 use Rattle.tree_picture.specs.declared.shape.Mark.TheVariants.{Termed, Termless, Held, Removed}
-use Rattle.tree_picture.specs.Items.{content_text, held_text, item_text}
 use Rattle.tree_picture.specs.Ranges.{dots, end_text, key_text, range_text, short_token}
+use Rattle.tree_picture.specs.RecordLines.{child_text, content_text, held_text, item_text, record_text}
 use Rattle.tree_picture.specs.declared.slots.Slot.{Slot}
 use Rattle.tree_picture.specs.SlotTexts.{kind_text, slot_text}
 use Rattle.tree_picture.specs.Texts.{EndInBox, mark_text, name_text}
@@ -67,6 +73,42 @@ few_child page held small =
       few_held held,
     )
 
+pub few_child_text : (separator : List ℕ) (child : ℕ) → child < 2 ^ 32 → length (child_text separator child) ≤ 31
+few_child_text separator child small =
+    omega (
+      arith,
+      length-append (key_text separator) (codes " to PID " ++ decimal child),
+      few_key separator,
+      length-append (codes " to PID ") (decimal child),
+      length-decimal-le 10 child (omega arith) (omega (arith, small)) (omega (arith, small)),
+    )
+
+pub few_base : (page : Page) → length page.items ≤ 24 → length (record_text (Base page)) ≤ 50
+few_base page few =
+    omega (
+      arith,
+      length-append (codes "base, items: ") (decimal (length page.items)),
+      length-decimal-le 2 (length page.items) (omega arith) (omega (arith, few)) (omega (arith, few)),
+    )
+
+pub few_delete : (delete : DeleteOf) → length (record_text (Delete delete)) ≤ 50
+few_delete delete = omega (arith, length-append (codes "delete ") (key_text delete.key), few_key delete.key)
+
+pub few_put : (put : PutOf) → length (record_text (Put put)) ≤ 50
+few_put put =
+    omega (
+      arith,
+      length-append (codes "put " ++ key_text put.key) (codes " = " ++ short_token put.value),
+      length-append (codes "put ") (key_text put.key),
+      few_key put.key,
+      length-append (codes " = ") (short_token put.value),
+      few_short put.value,
+    )
+
+-- the words for a record have room
+pub record_fits : (one : Record) (words : List ℕ) → length (record_text one) ≤ 50 → Adds [] words (record_text one) → words ≡ record_text one
+record_fits one words short adds = adds (omega (arith, short))
+
 -- the words for an item have room
 pub item_fits : (item : Item) (words : List ℕ) → length (content_text item.content) ≤ 30 → Adds [] words (item_text item) → words ≡ item_text item
 item_fits item words short adds = adds (omega (arith, length-append (key_text item.key) (content_text item.content), few_key item.key, short))
@@ -74,6 +116,9 @@ item_fits item words short adds = adds (omega (arith, length-append (key_text it
 -- the words for a range have room
 range_fits : (low : List ℕ) (high : Option (List ℕ)) → length (range_text low high) ≤ 35
 range_fits low high = omega (arith, length-append (key_text low) (end_text high), few_key low, few_end high)
+
+pub few_merge : (merge : MergeOf) → length (record_text (Merge merge)) ≤ 50
+few_merge merge = omega (arith, length-append (codes "merge ") (range_text merge.low merge.high), range_fits merge.low merge.high)
 
 few_marked : (mark : Mark) → length (mark_text mark) ≤ 7
 few_marked Termed = omega arith

@@ -1,5 +1,5 @@
--- Colours as they are written.
-use Rattle.std.specs.Prelude.{ℕ, List, codes}
+-- Colours as they are written, and how lines of records look.
+use Rattle.std.specs.Prelude.{ℕ, List, Bool, true, false, codes}
 use Rattle.tree_picture.specs.declared.colour.Colour.{Colour}
 use Rattle.tree_picture.specs.declared.colour.Colour.TheVariants.{Ink, Grey, Paper, Page, Delta, Side, Term, Missing, Held, Removed, Merged}
 
@@ -15,3 +15,12 @@ colour_text Missing = codes "#bc4c00"
 colour_text Held = codes "#ffe08a"
 colour_text Removed = codes "#ffc9c4"
 colour_text Merged = codes "#e4d4fa"
+
+-- A line of a record that counts is in ink, and one that doesn't is grey and struck through.
+abbrev pub line_colour : Bool → Colour
+line_colour true = Ink
+line_colour false = Grey
+
+abbrev pub decoration : Bool → List ℕ
+decoration true = codes "none"
+decoration false = codes "line-through"

@@ -5,12 +5,13 @@ use Rattle.tree_picture.specs.declared.colour.Colour.TheVariants.{Ink, Missing}
 use Rattle.tree_picture.specs.declared.shape.TheConstants.{INSET, MARK_INSET, NAME_DROP, RANGE_DROP, SLOT_DROP, SLOT_INSET}
 use Rattle.tree_picture.specs.declared.shape.Line.{Line as LineOf}
 use Rattle.tree_picture.specs.declared.shape.PageBox.{PageBox}
+use Rattle.tree_picture.specs.declared.shape.RecordLine.{RecordLine}
 use Rattle.tree_picture.specs.declared.shape.Rectangle.{Rectangle}
 use Rattle.tree_picture.specs.declared.shape.Shape.{Shape}
-use Rattle.tree_picture.specs.declared.shape.Shape.TheVariants.{Page, Box, Item, Line, Slot, Text}
+use Rattle.tree_picture.specs.declared.shape.Shape.TheVariants.{Page, Box, Record, Line, Slot, Text}
 use Rattle.tree_picture.specs.declared.shape.SlotBox.{SlotBox}
 use Rattle.tree_picture.specs.declared.shape.Text.{Text as TextOf}
-use Rattle.tree_picture.specs.Colours.{colour_text}
+use Rattle.tree_picture.specs.Colours.{colour_text, decoration, line_colour}
 pub use Rattle.tree_picture.specs.Texts.{mark_text, name_text}
 use Rattle.tree_picture.specs.Document.{Attribute, Element, element_text, open_text, close_text}
 
@@ -54,6 +55,14 @@ text_element text = record {
   content = text.words;
 }
 
+abbrev pub record_element : RecordLine → Element
+record_element line = record {
+  name = codes "text";
+  attributes = number (codes "x") line.x ∷ number (codes "y") line.y ∷ attribute (codes "font-size") (codes "11")
+      ∷ attribute (codes "fill") (colour_text (line_colour line.counts)) ∷ attribute (codes "text-decoration") (decoration line.counts) ∷ [];
+  content = line.words;
+}
+
 -- the texts in a page's box
 abbrev pub name_in : PageBox → TextOf
 name_in page = record { x = page.rectangle.x + INSET; y = page.rectangle.y + NAME_DROP; size = 14; bold = true; colour = Ink; words = name_text page.pid }
@@ -79,7 +88,7 @@ words_in slot = record { x = slot.rectangle.x + SLOT_INSET; y = slot.rectangle.y
 abbrev pub elements_of : Shape → List Element
 elements_of (Page page) = box_element page ∷ text_element (name_in page) ∷ text_element (mark_in page) ∷ text_element (range_in page) ∷ []
 elements_of (Box r) = rectangle_element [] r ∷ []
-elements_of (Item text) = text_element text ∷ []
+elements_of (Record line) = record_element line ∷ []
 elements_of (Slot slot) = slot_element slot ∷ text_element (words_in slot) ∷ []
 elements_of (Line line) = line_element line ∷ []
 elements_of (Text text) = text_element text ∷ []

@@ -2,13 +2,13 @@ pub mod Adding
 pub mod Colours
 pub mod Document
 pub mod Elements
-pub mod Items
 pub mod Layout
 pub mod Levels
 pub mod Marks
 pub mod Pages
 pub mod Pids
 pub mod Ranges
+pub mod RecordLines
 pub mod Scenes
 pub mod Sizes
 pub mod SlotTexts

@@ -2,43 +2,49 @@
 use Rattle.std.specs.Prelude.{ℕ, List, [], ◌∷◌, ◌++◌}
 use Rattle.tree_picture.specs.declared.shape.Mark.{Mark}
 use Rattle.tree_picture.specs.declared.shape.PageBox.{PageBox}
+use Rattle.tree_picture.specs.declared.shape.RecordLine.{RecordLine as RecordLineOf}
 use Rattle.tree_picture.specs.declared.shape.Rectangle.{Rectangle}
 use Rattle.tree_picture.specs.declared.shape.Shape.{Shape}
-use Rattle.tree_picture.specs.declared.shape.Shape.TheVariants.{Page, Box, Item, Line, Slot, Text}
+use Rattle.tree_picture.specs.declared.shape.Shape.TheVariants.{Page, Box, Record, Line, Slot, Text}
 use Rattle.tree_picture.specs.declared.slots.Slot.{Slot as SlotOf}
+use Rattle.tree_picture.specs.RecordLines.{RecordLine}
 
--- the PIDs, the boxes, the words of the ranges and the marks of some pages, all in the pages' order; the words of the items in them; and slots
+-- the PIDs, the boxes, the words of the ranges and the marks of some pages, all in the pages' order; the lines of the records in them; and slots
 pub record DrawnPages : Type 0 where
   pub pids : List ℕ
   pub boxes : List Rectangle
   pub ranges : List (List ℕ)
   pub marks : List Mark
-  pub items : List (List ℕ)
+  pub records : List RecordLine
   pub slots : List SlotOf
 
--- one page, one item or one slot before some others
+-- one page, one line of a record or one slot before some others
 abbrev pub on_front : PageBox → DrawnPages → DrawnPages
 on_front page pages = record {
   pids = page.pid ∷ pages.pids;
   boxes = page.rectangle ∷ pages.boxes;
   ranges = page.range ∷ pages.ranges;
   marks = page.mark ∷ pages.marks;
-  items = pages.items;
+  records = pages.records;
   slots = pages.slots;
 }
 
-abbrev pub item_on_front : List ℕ → DrawnPages → DrawnPages
-item_on_front words pages = record { pids = pages.pids; boxes = pages.boxes; ranges = pages.ranges; marks = pages.marks; items = words ∷ pages.items; slots = pages.slots }
+abbrev pub record_on_front : RecordLine → DrawnPages → DrawnPages
+record_on_front line pages = record { pids = pages.pids; boxes = pages.boxes; ranges = pages.ranges; marks = pages.marks; records = line ∷ pages.records; slots = pages.slots }
 
 abbrev pub slot_on_front : SlotOf → DrawnPages → DrawnPages
-slot_on_front slot pages = record { pids = pages.pids; boxes = pages.boxes; ranges = pages.ranges; marks = pages.marks; items = pages.items; slots = slot ∷ pages.slots }
+slot_on_front slot pages = record { pids = pages.pids; boxes = pages.boxes; ranges = pages.ranges; marks = pages.marks; records = pages.records; slots = slot ∷ pages.slots }
+
+-- the words of a line that was drawn, and whether it is drawn as one that counts
+abbrev pub line_drawn : RecordLineOf → RecordLine
+line_drawn line = record { words = line.words; counts = line.counts }
 
 -- what is among the shapes
 abbrev pub pages_in : List Shape → DrawnPages
-pages_in [] = record { pids = []; boxes = []; ranges = []; marks = []; items = []; slots = [] }
+pages_in [] = record { pids = []; boxes = []; ranges = []; marks = []; records = []; slots = [] }
 pages_in (Page page ∷ shapes) = on_front page (pages_in shapes)
 pages_in (Box r ∷ shapes) = pages_in shapes
-pages_in (Item text ∷ shapes) = item_on_front text.words (pages_in shapes)
+pages_in (Record line ∷ shapes) = record_on_front (line_drawn line) (pages_in shapes)
 pages_in (Slot slot ∷ shapes) = slot_on_front slot.slot (pages_in shapes)
 pages_in (Line line ∷ shapes) = pages_in shapes
 pages_in (Text text ∷ shapes) = pages_in shapes
@@ -55,25 +61,25 @@ ranges_of shapes = (pages_in shapes).ranges
 abbrev pub marks_of : List Shape → List Mark
 marks_of shapes = (pages_in shapes).marks
 
-abbrev pub items_of : List Shape → List (List ℕ)
-items_of shapes = (pages_in shapes).items
+abbrev pub records_of : List Shape → List RecordLine
+records_of shapes = (pages_in shapes).records
 
 abbrev pub slots_of : List Shape → List SlotOf
 slots_of shapes = (pages_in shapes).slots
 
--- one page, some items or some slots more
+-- one page, some lines of records or some slots more
 abbrev pub with_page : DrawnPages → PageBox → DrawnPages
 with_page pages page = record {
   pids = pages.pids ++ page.pid ∷ [];
   boxes = pages.boxes ++ page.rectangle ∷ [];
   ranges = pages.ranges ++ page.range ∷ [];
   marks = pages.marks ++ page.mark ∷ [];
-  items = pages.items;
+  records = pages.records;
   slots = pages.slots;
 }
 
-abbrev pub with_items : DrawnPages → List (List ℕ) → DrawnPages
-with_items pages items = record { pids = pages.pids; boxes = pages.boxes; ranges = pages.ranges; marks = pages.marks; items = pages.items ++ items; slots = pages.slots }
+abbrev pub with_records : DrawnPages → List RecordLine → DrawnPages
+with_records pages lines = record { pids = pages.pids; boxes = pages.boxes; ranges = pages.ranges; marks = pages.marks; records = pages.records ++ lines; slots = pages.slots }
 
 abbrev pub with_slots : DrawnPages → List SlotOf → DrawnPages
-with_slots pages slots = record { pids = pages.pids; boxes = pages.boxes; ranges = pages.ranges; marks = pages.marks; items = pages.items; slots = pages.slots ++ slots }
+with_slots pages slots = record { pids = pages.pids; boxes = pages.boxes; ranges = pages.ranges; marks = pages.marks; records = pages.records; slots = pages.slots ++ slots }

@@ -1,23 +1,22 @@
 //! The box of a page.
-ghost use Rattle.std.specs.Prelude.{◌≡◌, ◌≤◌, ◌+◌, ◌∷◌, ◌++◌, [], ℕ, OnOk, length, map};
-ghost use Rattle.base_page.specs.declared.item.Content.TheVariants.{Child};
-ghost use Rattle.std.specs.List.{flat_map};
-ghost use Rattle.tree_picture.specs.Adding.{Adds};
-ghost use Rattle.tree_picture.specs.Items.{content_text, held_text, item_text, items_in, page_items, record_items};
+ghost use Rattle.std.specs.Prelude.{◌≡◌, ◌≤◌, ◌+◌, ◌∷◌, ◌++◌, [], ℕ, OnOk, map};
 ghost use Rattle.tree_picture.specs.Layout.{AreLaidTo};
-ghost use Rattle.tree_picture.specs.Pages.{with_items};
+ghost use Rattle.tree_picture.specs.Pages.{with_records};
 ghost use Rattle.tree_picture.specs.Ranges.{page_range};
+ghost use Rattle.tree_picture.specs.RecordLines.{item_line, items_in, lines_under, page_records, record_counts, record_lines};
 ghost use Rattle.tree_picture.specs.Sizes.{page_height};
 ghost use Rattle.tree_picture.specs.declared.places.TheConstants.{PAGE_WIDTH};
 
 use crate::ScenePage;
 use crate::colour::Colour;
+use crate::counting::{is_unnamed, record_counts};
 use crate::places::{HEAD, PAGE_WIDTH, ROW, page_height, record_height};
-use crate::shape::{Mark, PageBox, Rectangle, Text};
+use crate::says::{item_words, record_words};
+use crate::shape::{Mark, PageBox, RecordLine, Rectangle};
 use crate::sheet::Sheet;
 use crate::words::Words;
-use crate::write::{record_words, with_key, with_number, with_range, with_token};
-use base_page::{Content, Item};
+use crate::write::{with_number, with_range};
+use base_page::Item;
 use deltas::Record;
 use std::alloc::AllocError;
 
@@ -33,7 +32,7 @@ pub(crate) fn page_box(
     ensures ranges { OnOk result (sheet.new.ranges ≡ sheet.old.ranges ++ page_range page.now ∷ []) }
     ensures marks { OnOk result (sheet.new.marks ≡ sheet.old.marks ++ mark ∷ []) }
     ensures slots { OnOk result (sheet.new.slots ≡ sheet.old.slots) }
-    ensures items { OnOk result (sheet.new.items ≡ sheet.old.items ++ page_items page.now) }
+    ensures records { OnOk result (sheet.new.records ≡ sheet.old.records ++ page_records page.now) }
     ensures laid { OnOk result ((width bottom next : ℕ) → AreLaidTo width bottom x y sheet.old.boxes → x + PAGE_WIDTH ≤ width → x + PAGE_WIDTH ≤ next
         → y + page_height page.now ≤ bottom → AreLaidTo width bottom next y sheet.new.boxes) }
 {
@@ -65,43 +64,63 @@ fn record_boxes(
     x: u64,
     y: u64,
 ) -> Result<(), AllocError>
-    ensures { OnOk result (sheet.new ≡ with_items sheet.old (flat_map record_items records.now)) }
+    ensures { OnOk result (sheet.new ≡ with_records sheet.old (lines_under [] records.now)) }
 {
     let mut y = y;
     let mut row = row;
-    for record in records {
-        record_box(sheet, record, row, x.saturating_add(8), y)?;
-        row = record.next().unwrap_or(0);
-        y = y.saturating_add(record_height(record));
+    for (place, content) in records.iter().enumerate() {
+        let newer = &records[..place];
+        record_box(sheet, newer, content, row, x.saturating_add(8), y)?;
+        row = content.next().unwrap_or(0);
+        y = y.saturating_add(record_height(content));
     }
     Ok(())
 }
 
-/// A record in a box of its own, a base or a merge with its items.
+/// A record under some newer ones in a box of its own, a base or a merge with its items.
 fn record_box(
     sheet: &mut Sheet,
-    record: &Record,
+    newer: &[Record],
+    content: &Record,
     row: u32,
     x: u64,
     y: u64,
 ) -> Result<(), AllocError>
-    ensures { OnOk result (sheet.new ≡ with_items sheet.old (record_items «record».now)) }
+    ensures { OnOk result (sheet.new ≡ with_records sheet.old (record_lines newer.now content.now)) }
 {
-    record_edge(sheet, record, x, y);
-    let mut words = Words::new();
-    with_number(&mut words, b"row ", u64::from(row));
-    words.add(b": ");
-    words.add(record_words(record).as_slice());
-    sheet.words(x.saturating_add(6), y.saturating_add(13), 11, words);
-    item_lines(sheet, items_in(record), x, y)?;
+    record_edge(sheet, content, x, y);
+    let y_words = y.saturating_add(13);
+    let beside = row_words(sheet, row, x.saturating_add(6), y_words);
+    sheet.record_line(RecordLine {
+        x: beside,
+        y: y_words,
+        words: record_words(content),
+        counts: record_counts(newer, content),
+    })?;
+    item_lines(sheet, newer, items_in(content), x, y)?;
     Ok(())
 }
 
-/// The items of a base or a merge.
-fn items_in(record: &Record) -> &[Item]
-    ensures { result.now ≡ items_in «record».now }
+/// The number of a row from this place on. Answers the place behind it.
+fn row_words(sheet: &mut Sheet, row: u32, x: u64, y: u64) -> u64
+    ensures { sheet.new ≡ sheet.old }
 {
-    match record {
+    let mut words = Words::new();
+    with_number(&mut words, b"row ", u64::from(row));
+    words.add(b":");
+    let width = (words.as_slice().len() as u64).saturating_mul(ROW_LETTER);
+    sheet.words(x, y, 11, words);
+    x.saturating_add(width)
+}
+
+/// How wide a character of a row's number is taken to be.
+const ROW_LETTER: u64 = 7;
+
+/// The items of a base or a merge.
+fn items_in(content: &Record) -> &[Item]
+    ensures { result.now ≡ items_in content.now }
+{
+    match content {
         Record::Base(page) => page.items().as_slice(),
         Record::Merge(merge) => merge.items.as_slice(),
         _ => &[],
@@ -109,11 +128,11 @@ fn items_in(record: &Record) -> &[Item]
 }
 
 /// The edge of a record's box.
-fn record_edge(sheet: &mut Sheet, record: &Record, x: u64, y: u64)
+fn record_edge(sheet: &mut Sheet, content: &Record, x: u64, y: u64)
     ensures { sheet.new ≡ sheet.old }
 {
-    let is_base = matches!(record, Record::Base(_));
-    let height = record_height(record);
+    let is_base = matches!(content, Record::Base(_));
+    let height = record_height(content);
     sheet.rectangle(Rectangle {
         x,
         y,
@@ -132,57 +151,25 @@ fn record_edge(sheet: &mut Sheet, record: &Record, x: u64, y: u64)
     });
 }
 
-/// The items of a base or a merge, one under another.
-fn item_lines(sheet: &mut Sheet, items: &[Item], x: u64, y: u64) -> Result<(), AllocError>
-    ensures { OnOk result (sheet.new ≡ with_items sheet.old (map item_text items.now)) }
+/// The items of a base or a merge under some newer records, one under another.
+fn item_lines(
+    sheet: &mut Sheet,
+    newer: &[Record],
+    items: &[Item],
+    x: u64,
+    y: u64,
+) -> Result<(), AllocError>
+    ensures { OnOk result (sheet.new ≡ with_records sheet.old (map (item_line newer.now) items.now)) }
 {
     let mut y = y.saturating_add(30);
     for item in items {
-        sheet.item(Text {
+        sheet.record_line(RecordLine {
             x: x.saturating_add(16),
             y,
-            size: 11,
-            bold: false,
-            colour: Colour::Ink,
             words: item_words(item),
+            counts: is_unnamed(newer, &item.key),
         })?;
         y = y.saturating_add(ROW);
     }
     Ok(())
-}
-
-/// An item of a base or a merge.
-fn item_words(item: &Item) -> Words
-    ensures { result ≡ item_text item.now }
-{
-    let mut words = Words::new();
-    with_key(&mut words, b"", item.key.as_slice());
-    with_content(&mut words, &item.content);
-    words
-}
-
-/// What an item has for its key.
-fn with_content(words: &mut Words, content: &Content)
-    ensures adds { Adds words.old words.new (content_text content.now) }
-    ensures short { length (content_text content.now) ≤ 30 }
-{
-    match content {
-        Content::Value(value) => with_token(words, b" = ", value.as_slice()),
-        Content::Child { page, held } => with_page(words, *page, *held),
-    }
-}
-
-/// A child, and whether it is held.
-fn with_page(words: &mut Words, page: u32, held: bool)
-    ensures adds { Adds words.old words.new (content_text (Child page held)) }
-    ensures short { length (content_text (Child page held)) ≤ 30 }
-{
-    with_number(words, b" to PID ", u64::from(page));
-    words.add(held_word(held));
-}
-
-fn held_word(held: bool) -> &'static [u8]
-    ensures { result.now ≡ held_text held }
-{
-    if held { b", held" } else { b"" }
 }

@@ -88,9 +88,9 @@ fn kept(hand: &Hand) -> Words {
     words.add(b"spares:");
     match hand.spares().pid() {
         Some(pid) => with_number(&mut words, b" PID ", u64::from(pid)),
-        None => words.add(b" no PID"),
+        None if hand.spares().rows().is_empty() => words.add(b" none"),
+        None => {}
     }
-    with_number(&mut words, b", rows: ", hand.spares().rows().len() as u64);
     for row in hand.spares().rows() {
         with_number(&mut words, b" row ", u64::from(*row));
     }
@@ -100,14 +100,14 @@ fn kept(hand: &Hand) -> Words {
 /// What it took out of the tree and has not freed.
 fn limbo(hand: &Hand) -> Words {
     let mut words = Words::new();
-    with_number(
-        &mut words,
-        b"limbo: rows: ",
-        hand.limbo().rows().len() as u64,
-    );
-    entries(&mut words, hand.limbo().rows());
-    with_number(&mut words, b"; PIDs: ", hand.limbo().pids().len() as u64);
-    entries(&mut words, hand.limbo().pids());
+    let rows = hand.limbo().rows();
+    let pids = hand.limbo().pids();
+    with_number(&mut words, b"limbo: ", rows.len() as u64);
+    words.add(b" rows");
+    entries(&mut words, rows);
+    with_number(&mut words, b"; ", pids.len() as u64);
+    words.add(b" PIDs");
+    entries(&mut words, pids);
     words
 }
 

@@ -104,7 +104,13 @@ pub(crate) fn legend(sheet: &mut Sheet, y: u64) -> u64
         false,
         b"a slot's newest record",
     );
-    y.saturating_add(66)
+    sheet.words(
+        LEFT,
+        lines.saturating_add(38),
+        12,
+        plain(b"grey and struck through: taken away by a newer record"),
+    );
+    y.saturating_add(92)
 }
 
 fn key_box(sheet: &mut Sheet, x: u64, y: u64, fill: Colour, words: &[u8])

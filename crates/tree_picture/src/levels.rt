@@ -1,11 +1,11 @@
 //! The levels one under another.
 ghost use Rattle.std.specs.Prelude.{◌≡◌, ◌≤◌, ◌<◌, ◌+◌, ◌*◌, ◌^◌, ◌++◌, ◌⊎◌, [], List, All, length, IfOk, OnOk};
 ghost use Rattle.std.specs.List.{AllZip};
-ghost use Rattle.tree_picture.specs.Items.{all_items, level_items};
 ghost use Rattle.tree_picture.specs.Layout.{AreLaidTo};
 ghost use Rattle.tree_picture.specs.Marks.{AreMarked, IsMarkFor};
 ghost use Rattle.tree_picture.specs.Pids.{all_pids, level_pids};
 ghost use Rattle.tree_picture.specs.Ranges.{all_ranges, level_ranges};
+ghost use Rattle.tree_picture.specs.RecordLines.{all_records, level_records};
 ghost use Rattle.tree_picture.specs.Sizes.{IsWideFor};
 ghost use Rattle.tree_picture.specs.declared.shape.Mark.{Mark};
 ghost use Rattle.tree_picture.specs.declared.places.TheConstants.{BESIDE, DROP, SHELF};
@@ -32,7 +32,7 @@ fn level_rows(
     ensures pids { OnOk result (sheet.new.pids ≡ sheet.old.pids ++ level_pids level.now) }
     ensures ranges { OnOk result (sheet.new.ranges ≡ sheet.old.ranges ++ level_ranges level.now) }
     ensures slots { OnOk result (sheet.new.slots ≡ sheet.old.slots) }
-    ensures items { OnOk result (sheet.new.items ≡ sheet.old.items ++ level_items level.now) }
+    ensures records { OnOk result (sheet.new.records ≡ sheet.old.records ++ level_records level.now) }
     ensures marks { OnOk result ((own : List Mark) × (sheet.new.marks ≡ sheet.old.marks ++ own) × AllZip (IsMarkFor root above.now) level.now own) }
     ensures laid { IfOk result (λ end. AreLaidTo width top 0 top sheet.old.boxes → AreLaidTo width end 0 end sheet.new.boxes) }
     ensures few { IfOk result (λ end. end ≤ top + 4194305 * (5046 + SHELF)) }
@@ -99,7 +99,7 @@ pub(crate) fn rows(
     ensures pids { OnOk result (sheet.new.pids ≡ sheet.old.pids ++ all_pids levels.now) }
     ensures ranges { OnOk result (sheet.new.ranges ≡ sheet.old.ranges ++ all_ranges levels.now) }
     ensures slots { OnOk result (sheet.new.slots ≡ sheet.old.slots) }
-    ensures items { OnOk result (sheet.new.items ≡ sheet.old.items ++ all_items levels.now) }
+    ensures records { OnOk result (sheet.new.records ≡ sheet.old.records ++ all_records levels.now) }
     ensures marks { OnOk result ((own : List Mark) × (sheet.new.marks ≡ sheet.old.marks ++ own) × AreMarked root [] levels.now own) }
     ensures laid { IfOk result (λ end. AreLaidTo width top 0 top sheet.old.boxes → AreLaidTo width end 0 end sheet.new.boxes) }
     ensures few { IfOk result (λ end. end ≤ top + 16 * (4194305 * (5046 + SHELF) + DROP)) }

@@ -9,6 +9,7 @@
 
 mod boxes;
 mod colour;
+mod counting;
 mod counts;
 mod doings;
 mod frame;
@@ -17,6 +18,7 @@ mod levels;
 mod links;
 mod page;
 mod places;
+mod says;
 mod scene;
 mod shape;
 mod sheet;
@@ -29,13 +31,14 @@ mod words;
 mod write;
 
 pub use colour::Colour;
+pub use counting::newest_decides;
 pub use counts::{free_pids, free_rows};
 pub use level::Level;
 pub use page::ScenePage;
 pub use scene::Scene;
 pub use shape::{
-    INSET, Line, MARK_INSET, Mark, NAME_DROP, PageBox, RANGE_DROP, Rectangle, SLOT_DROP,
-    SLOT_INSET, Shape, SlotBox, Text,
+    INSET, Line, MARK_INSET, Mark, NAME_DROP, PageBox, RANGE_DROP, RecordLine, Rectangle,
+    SLOT_DROP, SLOT_INSET, Shape, SlotBox, Text,
 };
 pub use sheet::Picture;
 pub use slots::Slot;

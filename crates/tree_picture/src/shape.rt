@@ -1,5 +1,6 @@
 //! Shapes. A place is told in pixels, from the left and from the top.
 ghost use Rattle.std.specs.Prelude.{◌≡◌};
+ghost use Rattle.tree_picture.specs.Colours.{decoration, line_colour};
 ghost use Rattle.tree_picture.specs.SlotTexts.{slot_text};
 ghost use Rattle.tree_picture.specs.Texts.{EndInBox, mark_text};
 
@@ -56,6 +57,39 @@ pub struct Text {
     pub bold: bool,
     pub colour: Colour,
     pub words: Words,
+}
+
+/// A line of a record, or of an item in it. One that doesn't count is grey and struck through: a newer record took away what it says.
+#[derive(Drop)]
+pub struct RecordLine {
+    pub x: u64,
+    pub y: u64,
+    pub words: Words,
+    pub counts: bool,
+}
+
+impl RecordLine {
+    /// Its colour.
+    pub fn colour(&self) -> Colour
+        ensures { result ≡ line_colour self.now.counts }
+    {
+        if self.counts {
+            Colour::Ink
+        } else {
+            Colour::Grey
+        }
+    }
+
+    /// What is drawn through it.
+    pub fn decoration(&self) -> &'static [u8]
+        ensures { result.now ≡ decoration self.now.counts }
+    {
+        if self.counts {
+            b"none"
+        } else {
+            b"line-through"
+        }
+    }
 }
 
 /// How a page stands to the level above it.
@@ -129,8 +163,8 @@ pub enum Shape {
     Page(PageBox),
     /// Any other box.
     Box(Rectangle),
-    /// An item of a base or a merge.
-    Item(Text),
+    /// A line of a record.
+    Record(RecordLine),
     /// A slot of the mapping table.
     Slot(SlotBox),
     /// A line.

@@ -1,9 +1,9 @@
 //! Shapes while they are drawn.
 ghost use Rattle.std.specs.Prelude.{◌≡◌, ◌∷◌, [], IfOk, OnOk};
-ghost use Rattle.tree_picture.specs.Pages.{pages_in, with_items, with_page, with_slots};
+ghost use Rattle.tree_picture.specs.Pages.{line_drawn, pages_in, with_page, with_records, with_slots};
 
 use crate::colour::Colour;
-use crate::shape::{Line, PageBox, Rectangle, Shape, SlotBox, Text};
+use crate::shape::{Line, PageBox, RecordLine, Rectangle, Shape, SlotBox, Text};
 use crate::words::Words;
 use std::alloc::{AllocError, Global};
 use std::marker::Model;
@@ -55,12 +55,12 @@ impl Sheet {
         Ok(())
     }
 
-    /// An item of a base or a merge.
-    #[tactic(auto, using(crate::proofs::Shapes::item_more))]
-    pub(crate) fn item(&mut self, text: Text) -> Result<(), AllocError>
-        ensures { OnOk result (self.new ≡ with_items self.old (text.words ∷ [])) }
+    /// A line of a record.
+    #[tactic(auto, using(crate::proofs::Shapes::record_more))]
+    pub(crate) fn record_line(&mut self, line: RecordLine) -> Result<(), AllocError>
+        ensures { OnOk result (self.new ≡ with_records self.old (line_drawn line ∷ [])) }
     {
-        self.shapes.push(Shape::Item(text))?;
+        self.shapes.push(Shape::Record(line))?;
         Ok(())
     }
 

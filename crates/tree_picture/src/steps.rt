@@ -1,7 +1,8 @@
 //! Words for commands and steps.
 
+use crate::says::record_words;
 use crate::words::Words;
-use crate::write::{record_words, with_key, with_number, with_token};
+use crate::write::{with_key, with_number, with_token};
 use bw_model::{Command, Step};
 use deltas::Record;
 
@@ -56,9 +57,10 @@ pub(crate) fn step_words(words: &mut Words, step: &Step<&Record>) {
             words.add(record_words(record).as_slice());
         }
         Step::Exchange(slot, old, new) => {
+            let (from, to) = content_words(*slot);
             with_number(words, b"exchange slot ", u64::from(*slot));
-            with_number(words, b" from ", u64::from(*old));
-            with_number(words, b" to ", u64::from(*new));
+            with_number(words, from, u64::from(*old));
+            with_number(words, to, u64::from(*new));
         }
         Step::TakePid(pid) => with_number(words, b"take PID ", u64::from(*pid)),
         Step::TakeRow(row) => with_number(words, b"take row ", u64::from(*row)),
@@ -67,5 +69,14 @@ pub(crate) fn step_words(words: &mut Words, step: &Step<&Record>) {
         Step::Retire(epoch) => with_number(words, b"retire epoch ", *epoch),
         Step::ReusePids(word, _) => with_number(words, b"free PIDs of word ", u64::from(*word)),
         Step::ReuseRows(word, _) => with_number(words, b"free rows of word ", u64::from(*word)),
+    }
+}
+
+/// What an exchange of a slot is from, and what it is to: slot 0 has the root's PID, every other one a row.
+fn content_words(slot: u32) -> (&'static [u8], &'static [u8]) {
+    if slot == 0 {
+        (b" from PID ", b" to PID ")
+    } else {
+        (b" from row ", b" to row ")
     }
 }

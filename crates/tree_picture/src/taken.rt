@@ -1,6 +1,6 @@
 //! A step that an actor takes, by name.
 
-use crate::steps::step_words;
+use crate::steps::{command_words, step_words};
 use crate::words::Words;
 use crate::write::with_number;
 use bw_model::{Link, Reply, Step};
@@ -14,14 +14,16 @@ pub struct StepName {
 }
 
 impl StepName {
-    /// The step that an actor of a core is to take next, as `actor 1: read slot 2`.
+    /// The step that an actor of a core is to take next, and of what command, as `actor 1, get k02: read slot 2`.
     pub fn of(core: &Core, number: u8) -> StepName {
         let mut words = Words::new();
         with_number(&mut words, b"actor ", u64::from(number));
-        words.add(b": ");
         let mut is_exchange = false;
         if let Some(actor) = core.actor(number) {
-            if actor.is_running() {
+            if let Some(command) = actor.command() {
+                words.add(b", ");
+                command_words(&mut words, command);
+                words.add(b": ");
                 let step = actor.wanted();
                 is_exchange = matches!(step, Step::Exchange(_, _, _));
                 step_words(&mut words, &step);
@@ -39,9 +41,11 @@ impl StepName {
         match event {
             Event::Stepped(Some(link)) => {
                 words.add(b": won, ");
-                words.add(link_word(*link));
+                words.add(link_words(*link));
             }
-            Event::Stepped(None) if is_exchange => words.add(b": lost"),
+            Event::Stepped(None) if is_exchange => {
+                words.add(b": lost, the slot has another row by now");
+            }
             Event::Done(reply) => {
                 words.add(b"; done: ");
                 words.add(reply_word(reply));
@@ -52,22 +56,22 @@ impl StepName {
     }
 }
 
-/// What an exchange that was won has done, in a word.
-fn link_word(link: Link) -> &'static [u8] {
+/// What an exchange that was won has done, by its link's word.
+fn link_words(link: Link) -> &'static [u8] {
     match link {
-        Link::Put => b"put",
-        Link::Delete => b"delete",
-        Link::Base => b"base",
-        Link::Split => b"split",
-        Link::Term => b"term",
-        Link::Root => b"root",
-        Link::Hold => b"hold",
-        Link::Remove => b"remove",
-        Link::Merge => b"merge",
-        Link::Unterm => b"unterm",
-        Link::Clear => b"clear",
-        Link::Ready => b"ready",
-        Link::Undo => b"undo",
+        Link::Put => b"put: a key was given a value",
+        Link::Delete => b"delete: a key was made absent",
+        Link::Base => b"base: one base replaces the chain",
+        Link::Split => b"split: the upper items are in the new page",
+        Link::Term => b"term: the page above names the new page",
+        Link::Root => b"root: a new root is over the old one",
+        Link::Hold => b"hold: the page is about to be removed",
+        Link::Remove => b"remove: the page takes no more records",
+        Link::Merge => b"merge: the left page has the removed page's items",
+        Link::Unterm => b"unterm: the page above names the merged page no more",
+        Link::Clear => b"clear: the merged page's slot is empty",
+        Link::Ready => b"ready: the new page's slot has its row",
+        Link::Undo => b"undo: the new page's slot is empty again",
     }
 }
 

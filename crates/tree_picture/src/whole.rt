@@ -1,11 +1,11 @@
 //! The whole picture.
 ghost use Rattle.std.specs.Prelude.{◌≡◌, ◌≤◌, [], IfOk};
-ghost use Rattle.tree_picture.specs.Items.{all_items};
 ghost use Rattle.tree_picture.specs.Layout.{AreLaidOut};
 ghost use Rattle.tree_picture.specs.Marks.{AreMarked};
-ghost use Rattle.tree_picture.specs.Pages.{boxes_of, items_of, marks_of, pids_of, ranges_of, slots_of};
+ghost use Rattle.tree_picture.specs.Pages.{boxes_of, marks_of, pids_of, ranges_of, records_of, slots_of};
 ghost use Rattle.tree_picture.specs.Pids.{all_pids};
 ghost use Rattle.tree_picture.specs.Ranges.{all_ranges};
+ghost use Rattle.tree_picture.specs.RecordLines.{all_records};
 
 use crate::Scene;
 use crate::doings::actor_lines;
@@ -22,7 +22,7 @@ use step_core::Core;
 pub fn picture(alloc: Global, scene: &Scene, core: &Core) -> Result<Picture, AllocError>
     ensures pages { IfOk result (λ picture. pids_of picture.shapes.items ≡ all_pids scene.now.levels) }
     ensures ranges { IfOk result (λ picture. ranges_of picture.shapes.items ≡ all_ranges scene.now.levels) }
-    ensures items { IfOk result (λ picture. items_of picture.shapes.items ≡ all_items scene.now.levels) }
+    ensures records { IfOk result (λ picture. records_of picture.shapes.items ≡ all_records scene.now.levels) }
     ensures slots { IfOk result (λ picture. slots_of picture.shapes.items ≡ scene.now.slots) }
     ensures marks { IfOk result (λ picture. AreMarked scene.now.root [] scene.now.levels (marks_of picture.shapes.items)) }
     ensures laid { IfOk result (λ picture. AreLaidOut picture.width picture.height (boxes_of picture.shapes.items)) }

@@ -1,4 +1,4 @@
-//! Words for numbers, keys and records.
+//! Words for numbers, keys and ranges.
 
 ghost use Rattle.std.specs.Prelude.{◌≡◌, ◌≤◌, ◌++◌, decimal, length, option_copied, take};
 ghost use Rattle.hex.specs.Hex.{encode_lower};
@@ -8,7 +8,6 @@ ghost use Rattle.tree_picture.specs.declared.write.TheConstants.{SHORT_DIGITS};
 
 use crate::words::Words;
 use bw_model::Key;
-use deltas::Record;
 use itoa::Buffer;
 use shell_lines::is_word;
 
@@ -116,41 +115,4 @@ pub(crate) fn with_range(words: &mut Words, low: &Key, high: Option<&Key>)
         Some(high) => with_key(words, b" to ", high.as_slice()),
         None => words.add(b" to the end"),
     }
-}
-
-/// A separator and a child.
-fn with_child(words: &mut Words, before: &[u8], separator: &Key, child: u32) {
-    with_key(words, before, separator.as_slice());
-    with_number(words, b" to PID ", u64::from(child));
-}
-
-/// What a record says.
-pub(crate) fn record_words(record: &Record) -> Words {
-    let mut words = Words::new();
-    match record {
-        Record::Base(page) => {
-            with_number(
-                &mut words,
-                b"base, items: ",
-                page.items().as_slice().len() as u64,
-            );
-        }
-        Record::Put(put) => {
-            with_key(&mut words, b"put ", put.key.as_slice());
-            with_token(&mut words, b" = ", put.value.as_slice());
-        }
-        Record::Delete(delete) => with_key(&mut words, b"delete ", delete.key.as_slice()),
-        Record::Split(split) => with_child(&mut words, b"split ", &split.separator, split.page),
-        Record::Term(term) => with_child(&mut words, b"term ", &term.separator, term.child),
-        Record::Hold(hold) => with_child(&mut words, b"hold ", &hold.separator, hold.child),
-        Record::Remove(_) => words.add(b"remove"),
-        Record::Merge(merge) => {
-            words.add(b"merge ");
-            with_range(&mut words, &merge.low, merge.high.as_ref());
-        }
-        Record::Unterm(unterm) => {
-            with_child(&mut words, b"unterm ", &unterm.separator, unterm.child);
-        }
-    }
-    words
 }

@@ -11,10 +11,10 @@ pub returns-in-Line : goal.returns-in-Line
 returns-in-Line g c = rw c.in-Line.is (shows_then c.show_line.ensures (no_text _))
 
 pub returns-in-Text : goal.returns-in-Text
-returns-in-Text g c = rw c.in-Text.is (shows_then c.show_text-in-Text.ensures (no_text _))
+returns-in-Text g c = rw c.in-Text.is (shows_then c.show_text.ensures (no_text _))
 
-pub returns-in-Item : goal.returns-in-Item
-returns-in-Item g c = rw c.in-Item.is (shows_then c.show_text.ensures (no_text _))
+pub returns-in-Record : goal.returns-in-Record
+returns-in-Record g c = rw c.in-Record.is (shows_then c.show_record.ensures (no_text _))
 
 pub returns-in-Slot : goal.returns-in-Slot
 returns-in-Slot g c = rw c.in-Slot.is c.show_slot.ensures

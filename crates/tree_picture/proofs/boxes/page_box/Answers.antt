@@ -1,10 +1,8 @@
-use Rattle.std.proofs.Common.{◌≡◌, [], ◌∷◌, ◌++◌, ap, arith, refl, subst, sym, ◌∙◌}
-use Rattle.std.specs.List.{flat_map}
+use Rattle.std.proofs.Common.{[], ◌∷◌, ◌++◌, ap, arith, refl, subst, sym, ◌∙◌}
 use Rattle.traces.specs.chain.Chains.{high_in, low_in}
 use Rattle.tree_picture.specs.declared.colour.Colour.TheVariants.{Ink}
-use Rattle.tree_picture.specs.Items.{record_items}
 use Rattle.tree_picture.specs.Layout.{AreLaidTo}
-use Rattle.tree_picture.specs.Pages.{DrawnPages, with_items}
+use Rattle.tree_picture.specs.RecordLines.{lines_under}
 use Rattle.tree_picture.proofs.Layouts.{one_more}
 use Rattle.tree_picture.proofs.Ranges.{page_ends, whole_range}
 use Rattle.tree_picture.proofs.boxes.page_box.Goals as goal
@@ -21,10 +19,10 @@ returns-clause-marks c =
 pub returns-clause-slots : goal.returns-clause-slots
 returns-clause-slots c = ap (λ sheet. sheet.slots) c.in_ok-record_boxes.ensures ∙ ap (λ sheet. sheet.slots) c.in_ok-page.ensures
 
-pub returns-clause-items : goal.returns-clause-items
-returns-clause-items c =
-    ap (λ sheet. sheet.items) c.in_ok-record_boxes.ensures ∙ ap (λ sheet. sheet.items ++ flat_map record_items c.records.result.now) c.in_ok-page.ensures
-    ∙ ap (λ chain. c.args.sheet.now.items ++ flat_map record_items chain) c.records.ensures.chain
+pub returns-clause-records : goal.returns-clause-records
+returns-clause-records c =
+    ap (λ sheet. sheet.records) c.in_ok-record_boxes.ensures ∙ ap (λ sheet. sheet.records ++ lines_under [] c.records.result.now) c.in_ok-page.ensures
+    ∙ ap (λ chain. c.args.sheet.now.records ++ lines_under [] chain) c.records.ensures.chain
 
 pub returns-clause-ranges : goal.returns-clause-ranges
 returns-clause-ranges c =

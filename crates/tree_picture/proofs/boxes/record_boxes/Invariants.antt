@@ -1,8 +1,7 @@
-use Rattle.std.proofs.Common.{◌≡◌, take}
-use Rattle.std.specs.List.{flat_map}
-use Rattle.tree_picture.specs.Items.{record_items}
-use Rattle.tree_picture.specs.Pages.{with_items}
+use Rattle.std.proofs.Common.{◌≡◌, [], take}
+use Rattle.tree_picture.specs.Pages.{with_records}
+use Rattle.tree_picture.specs.RecordLines.{lines_under}
 use Rattle.tree_picture.proofs.boxes.record_boxes.Given as goal
 
-abbrev pub invariant-loop-record : goal.invariant-loop-record
-invariant-loop-record l = l.sheet ≡ with_items l.initial.sheet (flat_map record_items (take l.record-index l.records))
+abbrev pub invariant-loop-place : goal.invariant-loop-place
+invariant-loop-place l = l.sheet ≡ with_records l.initial.sheet (lines_under [] (take l.place l.records))

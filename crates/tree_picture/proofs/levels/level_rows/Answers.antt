@@ -1,11 +1,11 @@
-use Rattle.std.proofs.Common.{◌≡◌, ◌≤◌, ◌+◌, ◌*◌, [], ◌∷◌, ap, arith, length, subst, sym, ◌∙◌}
+use Rattle.std.proofs.Common.{◌≡◌, ◌≤◌, ◌+◌, [], ◌∷◌, ap, arith, length, subst, sym, ◌∙◌}
 use Rattle.std.specs.List.{AllZip}
 use Rattle.std.proofs.lemmas.List.{take_all}
-use Rattle.tree_picture.specs.Items.{page_items}
 use Rattle.tree_picture.specs.Marks.{IsMarkFor}
 use Rattle.tree_picture.specs.Layout.{AreLaidTo}
 use Rattle.tree_picture.specs.Ranges.{page_range}
 use Rattle.tree_picture.specs.Sizes.{IsWideFor, page_height}
+use Rattle.tree_picture.specs.RecordLines.{page_records}
 use Rattle.tree_picture.proofs.Heights.{flat_next, map_next, told_next}
 use Rattle.tree_picture.proofs.Layouts.{next_level}
 use Rattle.tree_picture.proofs.Marking.{mark_next}
@@ -37,9 +37,9 @@ loop-page-preserved c =
           ap (λ sheet. sheet.ranges) same ∙ c.in_ok-page_box.ensures.ranges
           ∙ told_next _ _ _ _ (page_range page ∷ []) c.loop-page.invariant.ranges (map_next page_range pages c.loop-page.page-index page there c.page-item.is);
       slots = ap (λ sheet. sheet.slots) same ∙ c.in_ok-page_box.ensures.slots ∙ c.loop-page.invariant.slots;
-      items =
-          ap (λ sheet. sheet.items) same ∙ c.in_ok-page_box.ensures.items
-          ∙ told_next _ _ _ _ (page_items page) c.loop-page.invariant.items (flat_next page_items pages c.loop-page.page-index page there c.page-item.is);
+      records =
+          ap (λ sheet. sheet.records) same ∙ c.in_ok-page_box.ensures.records
+          ∙ told_next _ _ _ _ (page_records page) c.loop-page.invariant.records (flat_next page_records pages c.loop-page.page-index page there c.page-item.is);
       marks =
           mark_next (IsMarkFor c.args.root c.args.above.now) pages c.loop-page.page-index page there c.page-item.is c.args.sheet.now.marks
           c.loop-page.sheet.marks _ c.mark_of.result c.loop-page.invariant.marks

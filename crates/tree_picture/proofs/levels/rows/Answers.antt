@@ -1,8 +1,8 @@
 use Rattle.std.proofs.Common.{◌+◌, arith, length, subst, sym, ◌∙◌}
-use Rattle.tree_picture.specs.Items.{level_items}
 use Rattle.tree_picture.specs.Pids.{level_pids}
 use Rattle.tree_picture.specs.Ranges.{level_ranges}
 use Rattle.tree_picture.specs.Sizes.{IsWideFor}
+use Rattle.tree_picture.specs.RecordLines.{level_records}
 use Rattle.tree_picture.proofs.Heights.{flat_next, told_next}
 use Rattle.tree_picture.proofs.Layouts.{next_level}
 use Rattle.tree_picture.proofs.Marking.{last_next, level_next_marked}
@@ -22,7 +22,7 @@ loop-level-preserved c =
       pids = told.pids ∙ told_next _ _ _ _ (level_pids level) c.loop-level.invariant.pids (flat_next level_pids levels c.loop-level.level-index level there c.level-item.is);
       ranges = told.ranges ∙ told_next _ _ _ _ (level_ranges level) c.loop-level.invariant.ranges (flat_next level_ranges levels c.loop-level.level-index level there c.level-item.is);
       slots = told.slots ∙ c.loop-level.invariant.slots;
-      items = told.items ∙ told_next _ _ _ _ (level_items level) c.loop-level.invariant.items (flat_next level_items levels c.loop-level.level-index level there c.level-item.is);
+      records = told.records ∙ told_next _ _ _ _ (level_records level) c.loop-level.invariant.records (flat_next level_records levels c.loop-level.level-index level there c.level-item.is);
       marks =
           level_next_marked c.args.root levels c.loop-level.level-index level there c.level-item.is c.args.sheet.now.marks c.loop-level.sheet.marks _
           c.loop-level.above.now c.loop-level.invariant.above c.loop-level.invariant.marks told.marks;

@@ -1,10 +1,10 @@
 use Rattle.std.proofs.Common.{◌≡◌, ◌≤◌, ◌+◌, ◌*◌, ◌++◌, [], List, take}
-use Rattle.tree_picture.specs.Items.{all_items}
 use Rattle.tree_picture.specs.Layout.{AreLaidTo}
 use Rattle.tree_picture.specs.declared.shape.Mark.{Mark}
 use Rattle.tree_picture.specs.Marks.{AreMarked}
 use Rattle.tree_picture.specs.Pids.{all_pids}
 use Rattle.tree_picture.specs.Ranges.{all_ranges}
+use Rattle.tree_picture.specs.RecordLines.{all_records}
 use Rattle.tree_picture.proofs.Marking.{last_level}
 use Rattle.tree_picture.proofs.levels.rows.Given as goal
 
@@ -13,7 +13,7 @@ invariant-loop-level l = record {
   pids : l.sheet.pids ≡ l.initial.sheet.pids ++ all_pids (take l.level-index l.levels);
   ranges : l.sheet.ranges ≡ l.initial.sheet.ranges ++ all_ranges (take l.level-index l.levels);
   slots : l.sheet.slots ≡ l.initial.sheet.slots;
-  items : l.sheet.items ≡ l.initial.sheet.items ++ all_items (take l.level-index l.levels);
+  records : l.sheet.records ≡ l.initial.sheet.records ++ all_records (take l.level-index l.levels);
   marks : (own : List Mark) × (l.sheet.marks ≡ l.initial.sheet.marks ++ own) × AreMarked l.root [] (take l.level-index l.levels) own;
   above : l.above ≡ last_level [] (take l.level-index l.levels);
   high : l.y ≤ l.top + l.level-index * 21315458094;

@@ -1,6 +1,6 @@
 use Rattle.std.proofs.lemmas.List.{take_all}
 use Rattle.tree_picture.proofs.Heights.{take_more}
-use Rattle.tree_picture.proofs.Items.{no_slots, slots_then}
+use Rattle.tree_picture.proofs.Drawn.{no_slots, slots_then}
 use Rattle.tree_picture.proofs.slots.slot_boxes.Goals as goal
 
 pub loop-each-init : goal.loop-each-init

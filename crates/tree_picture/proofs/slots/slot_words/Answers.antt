@@ -1,4 +1,3 @@
-use Rattle.std.proofs.Common.{[]}
 use Rattle.tree_picture.proofs.Ranges.{adds_then, slot_fits}
 use Rattle.tree_picture.proofs.slots.slot_words.Goals as goal
 

@@ -1,5 +1,5 @@
 use Rattle.tree_picture.proofs.Ranges.{adds_then, few_child}
-use Rattle.tree_picture.proofs.boxes.with_page.Goals as goal
+use Rattle.tree_picture.proofs.says.with_page.Goals as goal
 
 pub returns-clause-adds : goal.returns-clause-adds
 returns-clause-adds c = adds_then _ _ _ _ _ (rw c.from.ensures at c.with_number.ensures) (rw c.held_word.ensures at c.add.ensures)

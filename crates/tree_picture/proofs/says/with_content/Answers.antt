@@ -1,5 +1,5 @@
 use Rattle.tree_picture.proofs.Ranges.{few_value}
-use Rattle.tree_picture.proofs.boxes.with_content.Goals as goal
+use Rattle.tree_picture.proofs.says.with_content.Goals as goal
 
 pub returns-in-Value : goal.returns-in-Value
 returns-in-Value c = rw c.in-Value.is (record { adds = rw c.as_slice.ensures.bytes at c.with_token.ensures; short = few_value c.in-Value.value })
