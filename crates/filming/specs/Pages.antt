@@ -52,7 +52,7 @@ tail_text =
     ++ codes "function go(n){if(last>=0)location.hash=frames[Math.min(Math.max(n,0),last)].id}\n"
     ++ codes "function jump(by){let n=at()+by;while(n>0&&n<last&&!step(n).includes(': exchange slot '))n+=by;go(n)}\n"
     ++ codes "function stop(){clearInterval(timer);timer=0;play.textContent='Play'}\n"
-    ++ codes "function start(){play.textContent='Stop';timer=setInterval(()=>go(at()+1),1000)}\n"
+    ++ codes "function start(){if(at()>=last)return;play.textContent='Stop';timer=setInterval(()=>go(at()+1),1000)}\n"
     ++ codes "const press={first:()=>go(0),back:()=>go(at()-1),play:()=>timer?stop():start(),forward:()=>go(at()+1),last:()=>go(last),before:()=>jump(-1),next:()=>jump(1)};\n"
     ++ codes "for(const name in press)document.getElementById(name).onclick=press[name];\n"
     ++ codes "const keys={Home:'first',ArrowLeft:'back',' ':'play',ArrowRight:'forward',End:'last',p:'before',n:'next'};\n"
