@@ -1,9 +1,8 @@
 -- The lines of records, one record more, and which of them count.
-use Rattle.std.proofs.Common.{◌≡◌, ◌<◌, ◌+◌, ℕ, List, [], ◌∷◌, ◌++◌, Bool, true, false, Option, ap, append_assoc, length, refl, subst, sym, take, ◌∙◌}
+use Rattle.std.proofs.Common.{◌≡◌, ◌<◌, ◌+◌, ℕ, List, [], ◌∷◌, ◌++◌, Bool, true, false, ap, append_assoc, length, refl, subst, sym, take, ◌∙◌}
 use Rattle.std.specs.Prelude.{if◌then◌else◌, not, slice_index_or, ◌||◌}
 use Rattle.std.specs.List.{list_any}
 use Rattle.std.proofs.lemmas.List.{append-nil}
-use Rattle.base_page.specs.declared.item.Content.{Content}
 use Rattle.deltas.specs.declared.record.Record.{Record}
 use Rattle.deltas.specs.Records.{content_said, names}
 use Rattle.traces.specs.chain.Chains.{content_in}

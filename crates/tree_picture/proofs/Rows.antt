@@ -1,5 +1,5 @@
 -- Where the pages of a level stand, in rows.
-use Rattle.std.proofs.Common.{◌≡◌, ◌≤◌, ◌<◌, ◌+◌, ◌*◌, ℕ, List, inl, inr, arith, ap, subst, sym}
+use Rattle.std.proofs.Common.{◌≡◌, ◌≤◌, ◌<◌, ◌+◌, ◌*◌, ℕ, List, inl, inr, arith, subst, sym}
 use Rattle.std.specs.Prelude.{◌⊎◌}
 use Rattle.tree_picture.specs.declared.levels.Place.{Place}
 use Rattle.tree_picture.specs.declared.shape.Rectangle.{Rectangle}
