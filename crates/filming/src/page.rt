@@ -122,7 +122,9 @@ pub(crate) fn show_tail<O: Output>(out: &mut O)
         b"function jump(by){let n=at()+by;while(n>0&&n<last&&!step(n).includes(': exchange slot '))n+=by;go(n)}\n",
     );
     out.show(b"function stop(){clearInterval(timer);timer=0;play.textContent='Play'}\n");
-    out.show(b"function start(){if(at()>=last)return;play.textContent='Stop';timer=setInterval(()=>go(at()+1),1000)}\n");
+    out.show(
+        b"function start(){if(at()>=last)return;play.textContent='Stop';timer=setInterval(()=>go(at()+1),1000)}\n",
+    );
     out.show(
         b"const press={first:()=>go(0),back:()=>go(at()-1),play:()=>timer?stop():start(),forward:()=>go(at()+1),last:()=>go(last),before:()=>jump(-1),next:()=>jump(1)};\n",
     );
