@@ -146,7 +146,7 @@ const LAST: u32 = WIDTH * PAGES - 2;
 const TAKEN: [(Ask, [(u32, u32); 2]); 4] = [
     (Ask::Get(LAST), [(16, 0), (12, 0)]),
     (Ask::Upsert(LAST, 1), [(22, 1), (16, 1)]),
-    (Ask::Delete(LAST), [(40_751, 878), (17_092, 1_066)]),
+    (Ask::Delete(LAST), [(40_751, 878), (17_088, 1_066)]),
     (Ask::Tidy(LAST), [(45_553, 1_021), (17_631, 1_145)]),
 ];
 
