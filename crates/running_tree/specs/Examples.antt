@@ -3,6 +3,7 @@ use Rattle.std.specs.Prelude.{codes, ℕ, zero, suc, List, [], ◌∷◌, true, 
 use Rattle.std.proofs.Common.{lit≤, refl}
 use Rattle.tree_limits.specs.Limits.{AreLargeLimits, AreLimits, AreWidths}
 use Rattle.tree_limits.specs.declared.limits.Limits.{Limits}
+use Rattle.tree_limits.specs.declared.limits.TheConstants.{WIDE_WORDS}
 use Rattle.bw_model.specs.declared.command.Command.TheVariants.{Get, Upsert, Delete}
 use Rattle.bw_model.specs.declared.command.Reply.TheVariants as reply
 use Rattle.bw_model.specs.declared.step.Answer.TheVariants.{Number, Whether, Done}
@@ -50,7 +51,7 @@ two_words_allowed = record {
   small_epoch = are_two_words.small_epoch;
 }
 
-pub two_words_widths : AreWidths 64 0 0 512 512
+pub two_words_widths : AreWidths 64 0 0 WIDE_WORDS WIDE_WORDS
 two_words_widths = record {
   whole_narrow = refl;
   whole_pages = refl;
@@ -72,8 +73,8 @@ two_words = record {
   is_large = false;
   narrow_rows = 0;
   wide_from = 0;
-  narrow_words = 512;
-  page_words = 512;
+  narrow_words = WIDE_WORDS;
+  page_words = WIDE_WORDS;
   allowed = two_words_allowed;
   small = λ _. are_two_words;
   widths = two_words_widths;

@@ -1,5 +1,6 @@
 -- The numbers that limits may have.
 use Rattle.std.specs.Prelude.{◌≡◌, ℕ, ◌≤◌, ◌<◌, ◌%◌, ◌^◌}
+use Rattle.tree_limits.specs.declared.limits.TheConstants.{WIDE_WORDS}
 
 -- how many actors a tree has at most
 abbrev pub most_actors : ℕ
@@ -35,8 +36,8 @@ pub record AreLargeLimits (actors pids rows epoch : ℕ) : Type 0 where
   pub small_epoch : epoch ≤ 2 ^ 62
 
 -- The widths that rows of a large tree have by their numbers: rows below `narrow_rows` have `narrow_words` words, those from there on and
--- below `wide_from` have `page_words`, and those from `wide_from` on have 512, in which each record has room. Each width begins at a
--- whole word of bits, some row is wide, and a row that isn't narrow has room for each record but a base and a merge.
+-- below `wide_from` have `page_words`, and those from `wide_from` on are wide: each record has room in them. Each width begins at a whole
+-- word of bits, some row is wide, and a row that isn't narrow has room for each record but a base and a merge.
 pub record AreWidths (rows narrow_rows wide_from narrow_words page_words : ℕ) : Type 0 where
   pub whole_narrow : narrow_rows % 64 ≡ 0
   pub whole_pages : wide_from % 64 ≡ 0
@@ -45,7 +46,7 @@ pub record AreWidths (rows narrow_rows wide_from narrow_words page_words : ℕ) 
   pub narrow_room : 8 ≤ narrow_words
   pub page_room : 24 ≤ page_words
   pub widening : narrow_words ≤ page_words
-  pub fitting : page_words ≤ 512
+  pub fitting : page_words ≤ WIDE_WORDS
 
 -- All rows are wide.
 pub record IsOneWidth (narrow_rows wide_from : ℕ) : Type 0 where

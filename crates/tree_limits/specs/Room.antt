@@ -1,5 +1,5 @@
 -- The limits that are proposed for so many keys. docs/DECISIONS.md has the reasons.
-use Rattle.std.specs.Prelude.{ℕ, ◌+◌, ◌-◌, ◌*◌, ◌/◌, ◌≤◌, ◌↔◌}
+use Rattle.std.specs.Prelude.{ℕ, ◌+◌, ◌-◌, ◌*◌, ◌/◌, ◌≤◌, ◌↔◌, ltb, max, if◌then◌else◌}
 use Rattle.tree_limits.specs.Limits.{AreLargeLimits, AreLimits}
 
 -- A split leaves 8 keys or more on both sides, so each leaf but one has the places of 8 keys that have been there.
@@ -22,9 +22,14 @@ pids_for actors keys = in_whole_words (1 + pages_for keys + 11 * actors)
 abbrev pub rows_for : ℕ → ℕ → ℕ
 rows_for actors pids = in_whole_words (9 * pids + 120 * actors)
 
--- In a large tree there is room for a sixteenth more pages, and each seat may hold back twice as much.
+-- In a large tree there is room for a sixteenth more pages, so that a free number is found soon, and with several actors for 8192 more at least: as
+-- long as one is stopped inside an operation, nothing is freed that the others take out. Each two updates may take the rows of such a page.
+abbrev pub spare_pages_for : ℕ → ℕ → ℕ
+spare_pages_for actors pages = max (pages / 16) (if ltb 1 actors then 8192 else 0)
+
+-- Each seat may hold back twice as much.
 abbrev pub large_pids_for : ℕ → ℕ → ℕ
-large_pids_for actors keys = in_whole_words (1 + pages_for keys + pages_for keys / 16 + 22 * actors)
+large_pids_for actors keys = in_whole_words (1 + pages_for keys + spare_pages_for actors (pages_for keys) + 22 * actors)
 
 -- The longest chain of each page of a large tree is a base under 2 deltas, and each seat may hold back 80 such chains: so many rows for deltas, and
 -- so many for bases.
@@ -34,20 +39,16 @@ narrow_rows_for actors pids = in_whole_words (2 * (pids + 80 * actors))
 abbrev pub page_rows_for : ℕ → ℕ → ℕ
 page_rows_for actors pids = in_whole_words (pids + 80 * actors)
 
--- One wide row for each 32 pages: for a base of more than 16 items, as a merge leaves it, and for pairs that are longer than the limits are proposed for.
+-- One wide row for each 64 pages, for pairs that are longer than the limits are proposed for.
 abbrev pub wide_rows_for : ℕ → ℕ
-wide_rows_for pids = in_whole_words (pids / 32)
+wide_rows_for pids = in_whole_words (pids / 64)
 
 abbrev pub large_rows_for : ℕ → ℕ → ℕ
 large_rows_for actors pids = narrow_rows_for actors pids + page_rows_for actors pids + wide_rows_for pids
 
--- how many words of eight bytes a text takes that has so many bytes, a value, which takes at least one, as a child's PID does, and a key behind its
--- first eight
+-- how many words of eight bytes a text takes that has so many bytes, and a key behind its first eight
 abbrev pub text_words_for : ℕ → ℕ
 text_words_for bytes = (bytes + 7) / 8
-
-abbrev pub value_words_for : ℕ → ℕ
-value_words_for bytes = 1 + (bytes - 1) / 8
 
 abbrev pub tail_words_for : ℕ → ℕ
 tail_words_for bytes = (bytes - 8 + 7) / 8
@@ -58,11 +59,11 @@ in_whole_lines words = (words + 7) / 8 * 8
 
 -- A row for deltas has room for a put of a pair whose key and value have so many bytes, and so for any other record of such a key but a base and a merge.
 abbrev pub narrow_words_for : ℕ → ℕ → ℕ
-narrow_words_for key value = in_whole_lines (4 + tail_words_for key + value_words_for value)
+narrow_words_for key value = in_whole_lines (4 + tail_words_for key + text_words_for value)
 
--- A row for bases has room for 16 such pairs, as many as a base has but after a merge, with two bounds of such keys.
+-- A row for bases has room for 19 such pairs, with two bounds of such keys: a page with 16 isn't merged with another one, which has 4 at most.
 abbrev pub page_words_for : ℕ → ℕ → ℕ
-page_words_for key value = in_whole_lines (2 + 2 * text_words_for key + 16 * (2 + tail_words_for key + value_words_for value))
+page_words_for key value = in_whole_lines (2 + 2 * text_words_for key + 19 * (2 + tail_words_for key + text_words_for value))
 
 -- Limits of a large tree are proposed for so many actors and keys: those that the rule makes are limits of a large tree.
 abbrev pub AreProposedLarge : ℕ → ℕ → Type 0

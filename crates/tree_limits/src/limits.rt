@@ -72,7 +72,7 @@ pub struct Limits {
     pub is_large: bool,
     /// The rows below this one are narrow.
     pub narrow_rows: u64,
-    /// The rows from this one on are wide: they have 512 words.
+    /// The rows from this one on are wide: they have `WIDE_WORDS` words.
     pub wide_from: u64,
     /// How many words a narrow row has.
     pub narrow_words: u64,

@@ -1,13 +1,13 @@
 //! Limits by the number of keys. specs/Room.antt has the rule in one place, and docs/DECISIONS.md the reasons.
 ghost use Rattle.std.specs.Prelude.{◌≡◌, ◌≤◌, ◌+◌, ◌^◌, ◌↔◌, ℕ, IsOk, IfOk, MatchOption, true, false};
-ghost use Rattle.tree_limits.specs.declared.limits.TheConstants.{MAX_ACTORS, MAX_LARGE_ACTORS, MAX_LARGE_PIDS, MAX_PIDS, WORD_BITS};
-ghost use Rattle.tree_limits.specs.declared.room.TheConstants.{MAX_BYTES};
+ghost use Rattle.tree_limits.specs.declared.limits.TheConstants.{MAX_ACTORS, MAX_LARGE_ACTORS, MAX_LARGE_PIDS, MAX_PIDS, WIDE_WORDS, WORD_BITS};
+ghost use Rattle.tree_limits.specs.declared.room.TheConstants.{LEAST_SPARE, MAX_BYTES};
 ghost use Rattle.tree_limits.specs.Room.{AreProposed, AreProposedLarge, AreProposedPairs, IsMostKeys, in_whole_lines, in_whole_words, large_pids_for, large_rows_for, pages_for, pids_for, rows_for};
-ghost use Rattle.tree_limits.specs.Room.{narrow_rows_for, narrow_words_for, page_rows_for, page_words_for, tail_words_for, text_words_for, value_words_for, wide_rows_for};
+ghost use Rattle.tree_limits.specs.Room.{narrow_rows_for, narrow_words_for, page_rows_for, page_words_for, spare_pages_for, tail_words_for, text_words_for, wide_rows_for};
 
 use crate::limits::{
-    BadLimits, Limits, MAX_ACTORS, MAX_LARGE_ACTORS, MAX_LARGE_PIDS, MAX_PIDS, MAX_ROWS, WORD_BITS,
-    Widths,
+    BadLimits, Limits, MAX_ACTORS, MAX_LARGE_ACTORS, MAX_LARGE_PIDS, MAX_PIDS, MAX_ROWS,
+    WIDE_WORDS, WORD_BITS, Widths,
 };
 
 /// As many keys as a split leaves on both sides at least.
@@ -36,10 +36,11 @@ const LARGE_SEAT_PIDS: u64 = 22;
 const LARGE_SEAT_CHAINS: u64 = 80;
 
 /// For so many pages of a large tree there is a wide row.
-const PAGES_TO_A_WIDE_ROW: u64 = 32;
+const PAGES_TO_A_WIDE_ROW: u64 = 64;
 
-/// How many items a row for a page has room for: a page with so many is split, and only a merge may leave more.
-const PAGE_ITEMS: u64 = 16;
+/// How many items a row for a page has room for: as many as a base gets at most. Only a page with fewer than 16 is merged, and with one that has
+/// 4 at most.
+const PAGE_ITEMS: u64 = 19;
 
 /// How many bytes a key has at most, and a value.
 const MAX_BYTES: u64 = 64;
@@ -52,6 +53,11 @@ const LINE_WORDS: u64 = 8;
 
 /// In a large tree one page in so many has no keys, so that a free number is found near the word at which its taking begins.
 const LARGE_SPARE: u64 = 16;
+
+/// In a large tree with several seats at least so many pages have no keys. As long as one seat is stopped inside an operation, nothing is freed
+/// that the others take out meanwhile. Two upserts of one key take the rows of such a page, so there is room for 16,384: as many as four
+/// threads on two processors make in some 40 milliseconds, which is longer than a thread waits that lost its processor (bench/README.md).
+const LEAST_SPARE: u64 = 8192;
 
 /// The epoch that opens.
 const FIRST_EPOCH: u64 = 1;
@@ -80,8 +86,9 @@ impl Limits {
         Limits::new(actors, pids, rows_for(actors, pids), FIRST_EPOCH)
     }
 
-    /// As `for_keys`, for a large tree, whose pages have chains of three rows at most, and pairs of any length: some 450 bytes for each key.
-    /// Refused exactly where that is more than limits of a large tree may have.
+    /// As `for_keys`, for a large tree, whose pages have chains of three rows at most, and pairs of any length: some 500 bytes for each key. With
+    /// several actors there is room for 16,384 updates by the others, too, while one is stopped inside an operation: 26 MB, in a tree of few
+    /// keys. Refused exactly where that is more than limits of a large tree may have.
     pub fn for_many_keys(actors: u64, keys: u64) -> Result<Limits, BadLimits>
         ensures allowed { IsOk result ↔ AreProposedLarge actors keys }
         ensures actors { IfOk result (λ limits. limits.actors ≡ actors) }
@@ -90,16 +97,16 @@ impl Limits {
         ensures narrow { IfOk result (λ limits. limits.narrow_rows ≡ narrow_rows_for actors (large_pids_for actors keys)) }
         ensures wide { IfOk result (λ limits. limits.rows ≡ limits.wide_from + wide_rows_for (large_pids_for actors keys)) }
         ensures narrow_words { IfOk result (λ limits. limits.narrow_words ≡ 24) }
-        ensures page_words { IfOk result (λ limits. limits.page_words ≡ 296) }
+        ensures page_words { IfOk result (λ limits. limits.page_words ≡ 344) }
         ensures epoch { IfOk result (λ limits. limits.epoch ≡ 1) }
         ensures kind { IfOk result (λ limits. limits.is_large ≡ true) }
     {
         Limits::for_pairs(actors, keys, MAX_BYTES, MAX_BYTES)
     }
 
-    /// As `for_many_keys`, for pairs whose keys have `key_bytes` bytes at most, and whose values `value_bytes`: of 16 and 8 bytes some 131 bytes for
-    /// each key. A longer pair is taken, too, where there is a wide row for its page. Refused exactly where a length is above 64, or that is more
-    /// than limits of a large tree may have.
+    /// As `for_many_keys`, for pairs whose keys have `key_bytes` bytes at most, and whose values `value_bytes`: of 16 and 8 bytes some 141 bytes for
+    /// each key, and 7 MB for a stop. A longer pair is taken, too, where there is a wide row for its page. Refused exactly where a length is
+    /// above 64, or that is more than limits of a large tree may have.
     pub fn for_pairs(
         actors: u64,
         keys: u64,
@@ -184,7 +191,17 @@ fn large_pids_for(actors: u64, keys: u64) -> u64
     ensures some { WORD_BITS ≤ result }
 {
     let pages = pages_for(keys);
-    in_whole_words(1 + pages + pages / LARGE_SPARE + LARGE_SEAT_PIDS * actors)
+    let spare = spare_pages_for(actors, pages);
+    in_whole_words(1 + pages + spare + LARGE_SEAT_PIDS * actors)
+}
+
+/// How many pages more there is room for in a large tree than its keys can make.
+fn spare_pages_for(actors: u64, pages: u64) -> u64
+    ensures spare { result ≡ spare_pages_for actors pages }
+    ensures few { result ≤ pages + LEAST_SPARE }
+{
+    let least = if actors > 1 { LEAST_SPARE } else { 0 };
+    (pages / LARGE_SPARE).max(least)
 }
 
 /// The rows that the deltas of so many pages can take in a large tree.
@@ -205,7 +222,7 @@ fn page_rows_for(actors: u64, pids: u64) -> u64
     in_whole_words(pids + LARGE_SEAT_CHAINS * actors)
 }
 
-/// The rows for bases that have no room in another one.
+/// The rows for records that have no room in another one.
 fn wide_rows_for(pids: u64) -> u64
     requires pids { pids ≤ MAX_LARGE_PIDS }
     ensures { result ≡ wide_rows_for pids }
@@ -219,16 +236,16 @@ fn narrow_words_for(key_bytes: u64, value_bytes: u64) -> u64
     requires value { value_bytes ≤ MAX_BYTES }
     ensures { result ≡ narrow_words_for key_bytes value_bytes }
 {
-    in_whole_lines(4 + tail_words_for(key_bytes) + value_words_for(value_bytes))
+    in_whole_lines(4 + tail_words_for(key_bytes) + text_words_for(value_bytes))
 }
 
-/// How many words a base of pairs of such lengths takes that has no more items than a page that isn't split.
+/// How many words a base of as many pairs of such lengths takes as a base gets at most.
 fn page_words_for(key_bytes: u64, value_bytes: u64) -> u64
     requires key { key_bytes ≤ MAX_BYTES }
     requires value { value_bytes ≤ MAX_BYTES }
     ensures { result ≡ page_words_for key_bytes value_bytes }
 {
-    let item_words = 2 + tail_words_for(key_bytes) + value_words_for(value_bytes);
+    let item_words = 2 + tail_words_for(key_bytes) + text_words_for(value_bytes);
     in_whole_lines(2 + 2 * text_words_for(key_bytes) + PAGE_ITEMS * item_words)
 }
 
@@ -239,15 +256,6 @@ fn text_words_for(bytes: u64) -> u64
     ensures few { result ≤ 8 }
 {
     bytes.div_ceil(WORD_BYTES)
-}
-
-/// How many words a value of so many bytes takes: at least one, as a child's PID does.
-fn value_words_for(bytes: u64) -> u64
-    requires { bytes ≤ MAX_BYTES }
-    ensures words { result ≡ value_words_for bytes }
-    ensures few { result ≤ 8 }
-{
-    1 + bytes.saturating_sub(1) / WORD_BYTES
 }
 
 /// How many words a key of so many bytes takes behind its first one.
@@ -261,7 +269,7 @@ fn tail_words_for(bytes: u64) -> u64
 
 /// As many words, up to the end of the last line.
 fn in_whole_lines(words: u64) -> u64
-    requires { words ≤ 512 }
+    requires { words ≤ WIDE_WORDS }
     ensures { result ≡ in_whole_lines words }
 {
     words.div_ceil(LINE_WORDS) * LINE_WORDS

@@ -3,6 +3,7 @@ use Rattle.std.specs.Prelude.{codes, replicate, ◌^◌, ◌-◌, List, [], ◌�
 use Rattle.std.proofs.Common.{lit≤, refl}
 use Rattle.tree_limits.specs.Limits.{AreLargeLimits, AreLimits, AreWidths}
 use Rattle.tree_limits.specs.declared.limits.Limits.{Limits}
+use Rattle.tree_limits.specs.declared.limits.TheConstants.{WIDE_WORDS}
 use Rattle.bw_model.specs.declared.command.Command.TheVariants.{Get, Insert}
 use Rattle.bw_model.specs.declared.command.Reply.TheVariants as reply
 use Rattle.bw_model.specs.declared.step.Step.TheVariants.{Slot, Row, Epoch, Announce, RowBits, TakePid, TakeRow, Place, Exchange, Enter, Leave, Retire, ReuseRows}
@@ -43,7 +44,7 @@ small_allowed = record {
   small_epoch = are_small.small_epoch;
 }
 
-pub small_widths : AreWidths 64 0 0 512 512
+pub small_widths : AreWidths 64 0 0 WIDE_WORDS WIDE_WORDS
 small_widths = record {
   whole_narrow = refl;
   whole_pages = refl;
@@ -64,8 +65,8 @@ small = record {
   is_large = false;
   narrow_rows = 0;
   wide_from = 0;
-  narrow_words = 512;
-  page_words = 512;
+  narrow_words = WIDE_WORDS;
+  page_words = WIDE_WORDS;
   allowed = small_allowed;
   small = λ _. are_small;
   widths = small_widths;
