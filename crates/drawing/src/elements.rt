@@ -1,17 +1,18 @@
 //! Shapes as elements of a document.
-ghost use Rattle.std.specs.Prelude.{◌≡◌, ◌+◌, ◌++◌, ◌∷◌, [], codes, decimal};
+ghost use Rattle.std.specs.Prelude.{◌≡◌, ◌+◌, ◌*◌, ◌++◌, ◌∷◌, [], codes, decimal};
 ghost use Rattle.std.specs.List.{flat_map};
 ghost use Rattle.byte_streams.specs.Output.{Prints};
 ghost use Rattle.tree_picture.specs.Colours.{colour_text};
 ghost use Rattle.tree_picture.specs.Document.{attribute_text, element_text, escape, escaped_byte};
 ghost use Rattle.tree_picture.specs.Elements.{attribute, dark_style, dashes, document_attributes, document_text, elements_of, head_elements, line_element, mark_in, name_in, number};
-ghost use Rattle.tree_picture.specs.Elements.{range_in, record_element, weight, rectangle_attributes, rectangle_element, slot_element, text_element, view_attribute, words_element};
+ghost use Rattle.tree_picture.specs.Elements.{range_in, record_element, weight, rectangle_attributes, rectangle_element, slot_element, stand_elements, stand_in, text_element, view_attribute, words_element};
+ghost use Rattle.tree_picture.specs.declared.shape.TheConstants.{STAND_DROP, STAND_ROW};
 
 use byte_streams::Output;
 use itoa::Buffer;
 use tree_picture::{
     Colour, INSET, Line, MARK_INSET, NAME_DROP, PageBox, Picture, RANGE_DROP, RecordLine,
-    Rectangle, SLOT_DROP, SLOT_INSET, Shape, SlotBox, Text, Words,
+    Rectangle, SLOT_DROP, SLOT_INSET, STAND_DROP, STAND_ROW, Shape, SlotBox, Stand, Text, Words,
 };
 
 /// How a text looks.
@@ -98,17 +99,17 @@ fn show_digits<O: Output>(out: &mut O, pid: u32)
     show_escaped(out, buffer.format(pid).as_bytes());
 }
 
-/// The identifier of a page's box.
+/// The class of a page's box.
 fn show_page_name<O: Output>(out: &mut O, pid: u32)
-    ensures { Prints (O.state out.old) (O.state out.new) (attribute_text (attribute (codes "id") (codes "page-" ++ decimal pid))) }
+    ensures { Prints (O.state out.old) (O.state out.new) (attribute_text (attribute (codes "class") (codes "page-" ++ decimal pid))) }
 {
-    out.show(b" id=\"page-");
+    out.show(b" class=\"page-");
     show_digits(out, pid);
     out.show(b"\"");
 }
 
 fn show_page_box<O: Output>(out: &mut O, pid: &u32, rectangle: &Rectangle)
-    ensures { Prints (O.state out.old) (O.state out.new) (element_text (rectangle_element (attribute (codes "id") (codes "page-" ++ decimal pid.now) ∷ []) rectangle.now)) }
+    ensures { Prints (O.state out.old) (O.state out.new) (element_text (rectangle_element (attribute (codes "class") (codes "page-" ++ decimal pid.now) ∷ []) rectangle.now)) }
 {
     out.show(b"<rect");
     show_page_name(out, *pid);
@@ -285,19 +286,54 @@ fn show_page_texts<O: Output>(out: &mut O, page: &PageBox)
     show_label(out, corner, INSET, RANGE_DROP, plain, page.range.as_slice());
 }
 
-/// A page's box, and the texts in it.
+/// The place at which an actor stands under a page's box, as an attribute: how far down.
+fn show_stand_height<O: Output>(out: &mut O, corner: &Rectangle, place: u64)
+    ensures { Prints (O.state out.old) (O.state out.new) (attribute_text (number (codes "y") (corner.now.y + (corner.now.height + (place * STAND_ROW + STAND_DROP))))) }
+{
+    let mut buffer = Buffer::new();
+    let under = u128::from(place) * u128::from(STAND_ROW) + u128::from(STAND_DROP);
+    let height = u128::from(corner.y) + (u128::from(corner.height) + under);
+    show_attribute(out, b"y", buffer.format(height).as_bytes());
+}
+
+/// An actor under a page's box, at a place from the top.
+fn show_stand<O: Output>(out: &mut O, corner: &Rectangle, place: u64, stand: &Stand)
+    ensures { Prints (O.state out.old) (O.state out.new) (element_text (text_element (stand_in corner.now place stand.now))) }
+{
+    out.show(b"<text");
+    show_place(out, b"x", corner.x, INSET);
+    show_stand_height(out, corner, place);
+    show_style(out, style(12, true, Colour::Actor));
+    out.show(b">");
+    show_escaped(out, stand.words().as_slice());
+    out.show(b"</text>\n");
+}
+
+/// The actors under a page's box, one under another.
+fn show_stands<O: Output>(out: &mut O, corner: &Rectangle, stands: &[Stand])
+    ensures { Prints (O.state out.old) (O.state out.new) (flat_map element_text (stand_elements corner.now 0 stands.now)) }
+{
+    let mut place = 0;
+    for stand in stands {
+        show_stand(out, corner, place, stand);
+        place += 1;
+    }
+}
+
+/// A page's box, the texts in it, and the actors under it.
 fn show_page<O: Output>(out: &mut O, page: &PageBox)
     ensures { Prints (O.state out.old) (O.state out.new) (flat_map element_text (elements_of (Shape.Page page.now))) }
 {
     show_page_box(out, &page.pid, &page.rectangle);
     show_page_texts(out, page);
+    show_stands(out, &page.rectangle, page.stands.as_slice());
 }
 
-/// The identifier of a slot's box.
+/// The class of a slot's box.
 fn show_slot_name<O: Output>(out: &mut O, number: u32)
-    ensures { Prints (O.state out.old) (O.state out.new) (attribute_text (attribute (codes "id") (codes "slot-" ++ decimal number))) }
+    ensures { Prints (O.state out.old) (O.state out.new) (attribute_text (attribute (codes "class") (codes "slot-" ++ decimal number))) }
 {
-    out.show(b" id=\"slot-");
+    out.show(b" class=\"slot-");
     show_digits(out, number);
     out.show(b"\"");
 }
@@ -393,8 +429,9 @@ fn show_dark_style<O: Output>(out: &mut O)
         b"[fill='#ffe08a']{fill:#5a4500}[fill='#ffc9c4']{fill:#5e1f1b}[fill='#e4d4fa']{fill:#3d2a5c}",
     );
     out.show(
-        b"[stroke='#0a5ec2']{stroke:#58a6ff}[stroke='#1a7f37']{stroke:#3fb950}[stroke='#bc4c00']{stroke:#f0883e}[fill='#bc4c00']{fill:#f0883e}}",
+        b"[stroke='#0a5ec2']{stroke:#58a6ff}[stroke='#1a7f37']{stroke:#3fb950}[stroke='#bc4c00']{stroke:#f0883e}[fill='#bc4c00']{fill:#f0883e}",
     );
+    out.show(b"[fill='#8250df']{fill:#d2a8ff}[stroke='#8250df']{stroke:#d2a8ff}}");
     out.show(b"</style>\n");
 }
 

@@ -16,7 +16,7 @@ use tree_picture::{Picture, Scene, documents_are_well_formed, picture};
 
 /// What stands in a core, as a picture; refused for want of memory alone.
 pub fn picture_of(alloc: Global, core: &Core) -> Result<Picture, AllocError>
-    ensures { IfOk result (λ picture. IsShown (trace_of core.now) picture.width picture.height picture.shapes.items) }
+    ensures { IfOk result (λ picture. IsShown (trace_of core.now) core.now.demand.wanted picture.width picture.height picture.shapes.items) }
 {
     let scene = Scene::of(alloc, core.limits(), core.memory())?;
     picture(alloc, &scene, core)
@@ -24,7 +24,7 @@ pub fn picture_of(alloc: Global, core: &Core) -> Result<Picture, AllocError>
 
 /// Shows the picture of a core, or that there was no memory for it, and answers whether there was.
 fn show_core<O: Output>(alloc: Global, core: &Core, out: &mut O) -> bool
-    ensures { (text : List ℕ) × IsDrawn (trace_of core.now) text result × Prints (O.state out.old) (O.state out.new) text }
+    ensures { (text : List ℕ) × IsDrawn (trace_of core.now) core.now.demand.wanted text result × Prints (O.state out.old) (O.state out.new) text }
 {
     documents_are_well_formed();
     match picture_of(alloc, core) {
@@ -41,7 +41,7 @@ fn show_core<O: Output>(alloc: Global, core: &Core, out: &mut O) -> bool
 
 /// Shows what is written of lines that were run, and answers whether that is a picture.
 fn show_woven<O: Output>(alloc: Global, woven: &Woven, read_failed: bool, out: &mut O) -> bool
-    ensures { (text : List ℕ) × IsDrawnBehind woven.now.refused read_failed (trace_of woven.now.core) text result
+    ensures { (text : List ℕ) × IsDrawnBehind woven.now.refused read_failed (trace_of woven.now.core) woven.now.core.demand.wanted text result
         × Prints (O.state out.old) (O.state out.new) text }
 {
     outputs_add_up();
@@ -68,6 +68,7 @@ fn show_run<I: Input, O: Output>(alloc: Global, limits: Limits, input: &mut I, o
         return false;
     };
     woven.core.linearized();
+    woven.core.wants();
     show_woven(alloc, &woven, input.has_failed(), out)
 }
 

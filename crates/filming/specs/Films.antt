@@ -31,21 +31,22 @@ frames_behind number (turn ∷ turns) = frames_behind (next_frame number turn) t
 abbrev pub steps_in : List Turn → ℕ
 steps_in turns = frames_behind 0 turns
 
--- The text is a frame with this number: some words, how the map before became the map after, the picture of what stands after, and the map after.
-pub record IsFrame (number : ℕ) (before after : Trace) (text : List ℕ) : Type 0 where
+-- The text is a frame with this number: some words, how the map before became the map after, the picture of what stands after, and the map after. In the picture
+-- actors stand by the steps that they will take next.
+pub record IsFrame (number : ℕ) (before after : Core) (text : List ℕ) : Type 0 where
   pub words : List ℕ
   pub picture : List ℕ
   pub pairs_before : List (List ℕ × List ℕ)
   pub pairs_after : List (List ℕ × List ℕ)
   pub listed_before : IsListing before.limits before.entries pairs_before
   pub listed_after : IsListing after.limits after.entries pairs_after
-  pub shown : IsPictureOf after picture
+  pub shown : IsPictureOf (trace_of after) after.demand.wanted picture
   pub spells : text ≡ frame_text number words pairs_before picture pairs_after
 
 -- What is written for a turn: nothing where it begins an operation, else the frame of its step.
 abbrev pub IsFilmed : ℕ → Core → Turn → Core → List ℕ → Type 0
 IsFilmed number before (Begin actor command) after text = text ≡ []
-IsFilmed number before (Step actor) after text = IsFrame number (trace_of before) (trace_of after) text
+IsFilmed number before (Step actor) after text = IsFrame number before after text
 
 -- The core took the turns, one after another, and these are their frames, in that order, from this number on.
 unfoldable pub AreFilmed : ℕ → Core → List Turn → Core → List ℕ → Type 0

@@ -32,7 +32,7 @@ struct After {
 /// What stands in a core; none for want of memory alone.
 fn after_of(alloc: Global, core: &Core) -> Option<After>
     ensures pairs { IfSome result (λ after. IsListing core.now.limits core.now.entries after.pairs.items) }
-    ensures picture { IfSome result (λ after. IsShown (trace_of core.now) after.picture.width after.picture.height after.picture.shapes.items) }
+    ensures picture { IfSome result (λ after. IsShown (trace_of core.now) core.now.demand.wanted after.picture.width after.picture.height after.picture.shapes.items) }
 {
     let Ok(picture) = picture_of(alloc, core) else {
         return None;

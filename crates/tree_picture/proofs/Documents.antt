@@ -1,19 +1,25 @@
 -- The document of any shapes is well-formed.
-use Rattle.std.proofs.Common.{◌≡◌, ℕ, List, [], ◌∷◌, ◌++◌, ap, append_assoc, refl, sym, ◌∙◌}
+use Rattle.std.proofs.Common.{◌≡◌, ℕ, List, [], ◌∷◌, ◌+◌, ◌++◌, ap, append_assoc, refl, sym, ◌∙◌}
 use Rattle.std.specs.Prelude.{codes}
 use Rattle.std.specs.List.{AllByRecursion, flat_map}
 use Rattle.std.proofs.lemmas.Grind.{flat_map-append}
+use Rattle.tree_picture.specs.declared.shape.Rectangle.{Rectangle}
 use Rattle.tree_picture.specs.declared.shape.Shape.{Shape}
+use Rattle.tree_picture.specs.declared.stands.Stand.{Stand}
 use Rattle.tree_picture.specs.declared.shape.Shape.TheVariants.{Page, Box, Record, Line, Slot, Text}
 use Rattle.tree_picture.specs.Document.{Element, IsElement, IsWellFormed, close_text, element_text, open_text}
-use Rattle.tree_picture.specs.Elements.{document_attributes, document_text, elements_of, head_elements}
+use Rattle.tree_picture.specs.Elements.{document_attributes, document_text, elements_of, head_elements, stand_elements}
 
 append : (xs ys : List Element) → AllByRecursion IsElement xs → AllByRecursion IsElement ys → AllByRecursion IsElement (xs ++ ys)
 append [] ys one others = others
 append (x ∷ xs) ys one others = (one.0, append xs ys one.1 others)
 
+stands_are : (r : Rectangle) (place : ℕ) (stands : List Stand) → AllByRecursion IsElement (stand_elements r place stands)
+stands_are r place [] = tt
+stands_are r place (stand ∷ stands) = (refl, stands_are r (place + 1) stands)
+
 each_of : (shape : Shape) → AllByRecursion IsElement (elements_of shape)
-each_of (Page page) = (refl, (refl, (refl, (refl, tt))))
+each_of (Page page) = (refl, (refl, (refl, (refl, stands_are page.rectangle 0 page.stands.items))))
 each_of (Box r) = (refl, tt)
 each_of (Record line) = (refl, tt)
 each_of (Slot slot) = (refl, (refl, tt))

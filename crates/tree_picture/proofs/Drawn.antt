@@ -6,7 +6,7 @@ use Rattle.tree_picture.specs.Pages.{DrawnPages, with_records, with_slots}
 use Rattle.tree_picture.specs.RecordLines.{RecordLine}
 
 abbrev having : DrawnPages → List RecordLine → DrawnPages
-having pages lines = record { pids = pages.pids; boxes = pages.boxes; ranges = pages.ranges; marks = pages.marks; records = lines; slots = pages.slots }
+having pages lines = record { pids = pages.pids; boxes = pages.boxes; ranges = pages.ranges; marks = pages.marks; stands = pages.stands; records = lines; slots = pages.slots }
 
 pub no_records : (pages : DrawnPages) → pages ≡ with_records pages []
 no_records pages = sym (ap (having pages) (append-nil pages.records))
@@ -18,7 +18,7 @@ records_then start so_far after more own all before later is =
     ∙ ap (having start) (append_assoc start.records more own ∙ ap (λ (lines : List RecordLine). start.records ++ lines) (sym is))
 
 abbrev holding : DrawnPages → List Slot → DrawnPages
-holding pages slots = record { pids = pages.pids; boxes = pages.boxes; ranges = pages.ranges; marks = pages.marks; records = pages.records; slots = slots }
+holding pages slots = record { pids = pages.pids; boxes = pages.boxes; ranges = pages.ranges; marks = pages.marks; stands = pages.stands; records = pages.records; slots = slots }
 
 pub no_slots : (pages : DrawnPages) → pages ≡ with_slots pages []
 no_slots pages = sym (ap (holding pages) (append-nil pages.slots))

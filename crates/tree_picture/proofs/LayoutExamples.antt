@@ -1,6 +1,7 @@
 -- Boxes, heights and items, worked out.
 use Rattle.std.proofs.Common.{◌≡◌, ℕ, List, [], ◌∷◌, ◌++◌, Bool, true, false, arith, codes, inl, inr, refl}
-use Rattle.std.specs.Prelude.{decimal}
+use Rattle.std.specs.Global.{Global}
+use Rattle.std.specs.Prelude.{Vec, decimal}
 use Rattle.traces.specs.chain.Examples.{index_chain, leaf_chain, put_leaf, split_leaf}
 use Rattle.traces.specs.chain.SideChain.{LivePage}
 use Rattle.tree_picture.specs.declared.colour.Colour.TheVariants.{Ink, Paper}
@@ -8,6 +9,7 @@ use Rattle.tree_picture.specs.declared.shape.Mark.TheVariants.{Held}
 use Rattle.tree_picture.specs.declared.shape.PageBox.{PageBox}
 use Rattle.tree_picture.specs.declared.shape.Rectangle.{Rectangle}
 use Rattle.tree_picture.specs.declared.shape.Shape.TheVariants.{Page, Box}
+use Rattle.tree_picture.specs.declared.stands.Stand.{Stand}
 use Rattle.tree_picture.specs.Layout.{IsBefore, IsOnSheet}
 use Rattle.tree_picture.specs.Pages.{boxes_of}
 use Rattle.tree_picture.specs.RecordLines.{RecordLine, page_records}
@@ -28,8 +30,8 @@ right = box 306 118 236 78
 abbrev under : Rectangle
 under = box 168 301 236 78
 
-abbrev page : (pid : ℕ) (r : Rectangle) → EndInBox r.width pid Held (codes "from a to b") → PageBox
-page pid r inside = record { pid = pid; rectangle = r; mark = Held; range = codes "from a to b"; inside = inside }
+abbrev page : Vec Stand Global → (pid : ℕ) (r : Rectangle) → EndInBox r.width pid Held (codes "from a to b") → PageBox
+page stands pid r inside = record { pid = pid; rectangle = r; mark = Held; range = codes "from a to b"; stands = stands; inside = inside }
 
 seven_ends : EndInBox 236 7 Held (codes "from a to b")
 seven_ends = ends_in_box 7 Held (codes "from a to b") (omega arith) (omega arith)
@@ -37,8 +39,8 @@ seven_ends = ends_in_box 7 Held (codes "from a to b") (omega arith) (omega arith
 three_ends : EndInBox 236 3 Held (codes "from a to b")
 three_ends = ends_in_box 3 Held (codes "from a to b") (omega arith) (omega arith)
 
-boxes_are : boxes_of (Box (box 0 0 1000 440) ∷ Page (page 7 left seven_ends) ∷ Box right ∷ Page (page 3 under three_ends) ∷ []) ≡ left ∷ under ∷ []
-boxes_are = refl
+boxes_are : (stands : Vec Stand Global) → boxes_of (Box (box 0 0 1000 440) ∷ Page (page stands 7 left seven_ends) ∷ Box right ∷ Page (page stands 3 under three_ends) ∷ []) ≡ left ∷ under ∷ []
+boxes_are stands = refl
 
 beside : IsBefore left right
 beside = inl (refl, omega arith)

@@ -11,4 +11,5 @@ mod Ranges
 mod Rows
 mod Shapes
 mod Sides
+mod Standing
 mod TextExamples

@@ -1,8 +1,8 @@
 -- Each shape as an element of an SVG document, and a list of shapes as a document.
-use Rattle.std.specs.Prelude.{ℕ, List, [], ◌∷◌, ◌+◌, ◌++◌, Bool, true, false, codes, decimal}
+use Rattle.std.specs.Prelude.{ℕ, List, [], ◌∷◌, ◌+◌, ◌*◌, ◌++◌, Bool, true, false, codes, decimal}
 use Rattle.std.specs.List.{flat_map}
-use Rattle.tree_picture.specs.declared.colour.Colour.TheVariants.{Ink, Missing}
-use Rattle.tree_picture.specs.declared.shape.TheConstants.{INSET, MARK_INSET, NAME_DROP, RANGE_DROP, SLOT_DROP, SLOT_INSET}
+use Rattle.tree_picture.specs.declared.colour.Colour.TheVariants.{Actor, Ink, Missing}
+use Rattle.tree_picture.specs.declared.shape.TheConstants.{INSET, MARK_INSET, NAME_DROP, RANGE_DROP, SLOT_DROP, SLOT_INSET, STAND_DROP, STAND_ROW}
 use Rattle.tree_picture.specs.declared.shape.Line.{Line as LineOf}
 use Rattle.tree_picture.specs.declared.shape.PageBox.{PageBox}
 use Rattle.tree_picture.specs.declared.shape.RecordLine.{RecordLine}
@@ -11,8 +11,10 @@ use Rattle.tree_picture.specs.declared.shape.Shape.{Shape}
 use Rattle.tree_picture.specs.declared.shape.Shape.TheVariants.{Page, Box, Record, Line, Slot, Text}
 use Rattle.tree_picture.specs.declared.shape.SlotBox.{SlotBox}
 use Rattle.tree_picture.specs.declared.shape.Text.{Text as TextOf}
+use Rattle.tree_picture.specs.declared.stands.Stand.{Stand}
 use Rattle.tree_picture.specs.Colours.{colour_text, decoration, line_colour}
 pub use Rattle.tree_picture.specs.Texts.{mark_text, name_text}
+use Rattle.tree_picture.specs.Stands.{stand_text}
 use Rattle.tree_picture.specs.Document.{Attribute, Element, element_text, open_text, close_text}
 
 abbrev pub attribute : List ℕ → List ℕ → Attribute
@@ -73,20 +75,29 @@ mark_in page = record { x = page.rectangle.x + MARK_INSET; y = page.rectangle.y 
 abbrev pub range_in : PageBox → TextOf
 range_in page = record { x = page.rectangle.x + INSET; y = page.rectangle.y + RANGE_DROP; size = 11; bold = false; colour = Ink; words = page.range }
 
--- a page's box has the page's PID for an identifier
+-- an actor at a page: under its box, the first one on top
+abbrev pub stand_in : Rectangle → ℕ → Stand → TextOf
+stand_in r place stand = record { x = r.x + INSET; y = r.y + (r.height + (place * STAND_ROW + STAND_DROP)); size = 12; bold = true; colour = Actor; words = stand_text stand.actor stand.row }
+
+-- so all of them, from this place on
+abbrev pub stand_elements : Rectangle → ℕ → List Stand → List Element
+stand_elements r place [] = []
+stand_elements r place (stand ∷ stands) = text_element (stand_in r place stand) ∷ stand_elements r (place + 1) stands
+
+-- A page's box has the page's PID for a class. It is no identifier, since a document may have many pictures.
 abbrev pub box_element : PageBox → Element
-box_element page = rectangle_element (attribute (codes "id") (codes "page-" ++ decimal page.pid) ∷ []) page.rectangle
+box_element page = rectangle_element (attribute (codes "class") (codes "page-" ++ decimal page.pid) ∷ []) page.rectangle
 
 -- so has a slot's its number
 abbrev pub slot_element : SlotBox → Element
-slot_element slot = rectangle_element (attribute (codes "id") (codes "slot-" ++ decimal slot.slot.number) ∷ []) slot.rectangle
+slot_element slot = rectangle_element (attribute (codes "class") (codes "slot-" ++ decimal slot.slot.number) ∷ []) slot.rectangle
 
 abbrev pub words_in : SlotBox → TextOf
 words_in slot = record { x = slot.rectangle.x + SLOT_INSET; y = slot.rectangle.y + SLOT_DROP; size = 11; bold = false; colour = Ink; words = slot.words }
 
--- A page's box is followed by its PID, its mark and its range, a slot's by its words.
+-- A page's box is followed by its PID, its mark, its range and its actors, a slot's by its words.
 abbrev pub elements_of : Shape → List Element
-elements_of (Page page) = box_element page ∷ text_element (name_in page) ∷ text_element (mark_in page) ∷ text_element (range_in page) ∷ []
+elements_of (Page page) = box_element page ∷ text_element (name_in page) ∷ text_element (mark_in page) ∷ text_element (range_in page) ∷ stand_elements page.rectangle 0 page.stands.items
 elements_of (Box r) = rectangle_element [] r ∷ []
 elements_of (Record line) = record_element line ∷ []
 elements_of (Slot slot) = slot_element slot ∷ text_element (words_in slot) ∷ []
@@ -112,7 +123,8 @@ dark_style =
     codes "@media (prefers-color-scheme: dark) {[fill='#ffffff']{fill:#0d1117}[fill='#1b1f24']{fill:#e6edf3}[stroke='#1b1f24']{stroke:#e6edf3}"
     ++ codes "[fill='#57606a']{fill:#9ba4ae}[stroke='#57606a']{stroke:#9ba4ae}[fill='#ddf4e4']{fill:#12361f}[fill='#dbe9ff']{fill:#16304f}"
     ++ codes "[fill='#ffe08a']{fill:#5a4500}[fill='#ffc9c4']{fill:#5e1f1b}[fill='#e4d4fa']{fill:#3d2a5c}"
-    ++ codes "[stroke='#0a5ec2']{stroke:#58a6ff}[stroke='#1a7f37']{stroke:#3fb950}[stroke='#bc4c00']{stroke:#f0883e}[fill='#bc4c00']{fill:#f0883e}}"
+    ++ codes "[stroke='#0a5ec2']{stroke:#58a6ff}[stroke='#1a7f37']{stroke:#3fb950}[stroke='#bc4c00']{stroke:#f0883e}[fill='#bc4c00']{fill:#f0883e}"
+    ++ codes "[fill='#8250df']{fill:#d2a8ff}[stroke='#8250df']{stroke:#d2a8ff}}"
 
 -- the ground of a picture
 abbrev pub ground_element : Element

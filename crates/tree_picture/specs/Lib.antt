@@ -13,4 +13,5 @@ pub mod Scenes
 pub mod Sizes
 pub mod SlotTexts
 pub mod Slots
+pub mod Stands
 pub mod Texts

@@ -7,14 +7,16 @@ use Rattle.tree_picture.specs.declared.shape.Rectangle.{Rectangle}
 use Rattle.tree_picture.specs.declared.shape.Shape.{Shape}
 use Rattle.tree_picture.specs.declared.shape.Shape.TheVariants.{Page, Box, Record, Line, Slot, Text}
 use Rattle.tree_picture.specs.declared.slots.Slot.{Slot as SlotOf}
+use Rattle.tree_picture.specs.declared.stands.Stand.{Stand}
 use Rattle.tree_picture.specs.RecordLines.{RecordLine}
 
--- the PIDs, the boxes, the words of the ranges and the marks of some pages, all in the pages' order; the lines of the records in them; and slots
+-- the PIDs, the boxes, the words of the ranges and the marks of some pages, and the actors at each, all in the pages' order; the lines of the records in them; and slots
 pub record DrawnPages : Type 0 where
   pub pids : List ℕ
   pub boxes : List Rectangle
   pub ranges : List (List ℕ)
   pub marks : List Mark
+  pub stands : List (List Stand)
   pub records : List RecordLine
   pub slots : List SlotOf
 
@@ -25,15 +27,16 @@ on_front page pages = record {
   boxes = page.rectangle ∷ pages.boxes;
   ranges = page.range ∷ pages.ranges;
   marks = page.mark ∷ pages.marks;
+  stands = page.stands.items ∷ pages.stands;
   records = pages.records;
   slots = pages.slots;
 }
 
 abbrev pub record_on_front : RecordLine → DrawnPages → DrawnPages
-record_on_front line pages = record { pids = pages.pids; boxes = pages.boxes; ranges = pages.ranges; marks = pages.marks; records = line ∷ pages.records; slots = pages.slots }
+record_on_front line pages = record { pids = pages.pids; boxes = pages.boxes; ranges = pages.ranges; marks = pages.marks; stands = pages.stands; records = line ∷ pages.records; slots = pages.slots }
 
 abbrev pub slot_on_front : SlotOf → DrawnPages → DrawnPages
-slot_on_front slot pages = record { pids = pages.pids; boxes = pages.boxes; ranges = pages.ranges; marks = pages.marks; records = pages.records; slots = slot ∷ pages.slots }
+slot_on_front slot pages = record { pids = pages.pids; boxes = pages.boxes; ranges = pages.ranges; marks = pages.marks; stands = pages.stands; records = pages.records; slots = slot ∷ pages.slots }
 
 -- the words of a line that was drawn, and whether it is drawn as one that counts
 abbrev pub line_drawn : RecordLineOf → RecordLine
@@ -41,7 +44,7 @@ line_drawn line = record { words = line.words; counts = line.counts }
 
 -- what is among the shapes
 abbrev pub pages_in : List Shape → DrawnPages
-pages_in [] = record { pids = []; boxes = []; ranges = []; marks = []; records = []; slots = [] }
+pages_in [] = record { pids = []; boxes = []; ranges = []; marks = []; stands = []; records = []; slots = [] }
 pages_in (Page page ∷ shapes) = on_front page (pages_in shapes)
 pages_in (Box r ∷ shapes) = pages_in shapes
 pages_in (Record line ∷ shapes) = record_on_front (line_drawn line) (pages_in shapes)
@@ -61,6 +64,9 @@ ranges_of shapes = (pages_in shapes).ranges
 abbrev pub marks_of : List Shape → List Mark
 marks_of shapes = (pages_in shapes).marks
 
+abbrev pub stands_of : List Shape → List (List Stand)
+stands_of shapes = (pages_in shapes).stands
+
 abbrev pub records_of : List Shape → List RecordLine
 records_of shapes = (pages_in shapes).records
 
@@ -74,12 +80,13 @@ with_page pages page = record {
   boxes = pages.boxes ++ page.rectangle ∷ [];
   ranges = pages.ranges ++ page.range ∷ [];
   marks = pages.marks ++ page.mark ∷ [];
+  stands = pages.stands ++ page.stands.items ∷ [];
   records = pages.records;
   slots = pages.slots;
 }
 
 abbrev pub with_records : DrawnPages → List RecordLine → DrawnPages
-with_records pages lines = record { pids = pages.pids; boxes = pages.boxes; ranges = pages.ranges; marks = pages.marks; records = pages.records ++ lines; slots = pages.slots }
+with_records pages lines = record { pids = pages.pids; boxes = pages.boxes; ranges = pages.ranges; marks = pages.marks; stands = pages.stands; records = pages.records ++ lines; slots = pages.slots }
 
 abbrev pub with_slots : DrawnPages → List SlotOf → DrawnPages
-with_slots pages slots = record { pids = pages.pids; boxes = pages.boxes; ranges = pages.ranges; marks = pages.marks; records = pages.records; slots = pages.slots ++ slots }
+with_slots pages slots = record { pids = pages.pids; boxes = pages.boxes; ranges = pages.ranges; marks = pages.marks; stands = pages.stands; records = pages.records; slots = pages.slots ++ slots }

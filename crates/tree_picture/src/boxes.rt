@@ -5,6 +5,7 @@ ghost use Rattle.tree_picture.specs.Pages.{with_records};
 ghost use Rattle.tree_picture.specs.Ranges.{page_range};
 ghost use Rattle.tree_picture.specs.RecordLines.{item_line, items_in, lines_under, page_records, record_counts, record_lines};
 ghost use Rattle.tree_picture.specs.Sizes.{page_height};
+ghost use Rattle.tree_picture.specs.Stands.{page_stands};
 ghost use Rattle.tree_picture.specs.declared.places.TheConstants.{PAGE_WIDTH};
 
 use crate::ScenePage;
@@ -14,6 +15,7 @@ use crate::places::{HEAD, PAGE_WIDTH, ROW, page_height, record_height};
 use crate::says::{item_words, record_words};
 use crate::shape::{Mark, PageBox, RecordLine, Rectangle};
 use crate::sheet::Sheet;
+use crate::stands::{Stand, stands_at};
 use crate::words::Words;
 use crate::write::{with_number, with_range};
 use base_page::Item;
@@ -25,12 +27,14 @@ pub(crate) fn page_box(
     sheet: &mut Sheet,
     page: &ScenePage,
     mark: Mark,
+    stands: &[Stand],
     x: u64,
     y: u64,
 ) -> Result<(), AllocError>
     ensures pids { OnOk result (sheet.new.pids ≡ sheet.old.pids ++ page.now.pid ∷ []) }
     ensures ranges { OnOk result (sheet.new.ranges ≡ sheet.old.ranges ++ page_range page.now ∷ []) }
     ensures marks { OnOk result (sheet.new.marks ≡ sheet.old.marks ++ mark ∷ []) }
+    ensures stands { OnOk result (sheet.new.stands ≡ sheet.old.stands ++ page_stands stands.now page.now ∷ []) }
     ensures slots { OnOk result (sheet.new.slots ≡ sheet.old.slots) }
     ensures records { OnOk result (sheet.new.records ≡ sheet.old.records ++ page_records page.now) }
     ensures laid { OnOk result ((width bottom next : ℕ) → AreLaidTo width bottom x y sheet.old.boxes → x + PAGE_WIDTH ≤ width → x + PAGE_WIDTH ≤ next
@@ -46,13 +50,22 @@ pub(crate) fn page_box(
     };
     let mut range = Words::new();
     with_range(&mut range, page.page().low(), page.page().high());
+    let own = stands_at(sheet.alloc(), stands, page.pid())?;
     sheet.page(PageBox {
         pid: page.pid(),
         rectangle,
         mark,
         range,
+        stands: own,
     })?;
-    record_boxes(sheet, page.records(), page.row(), x, y.saturating_add(HEAD))?;
+    record_boxes(
+        sheet,
+        page.records(),
+        page.row(),
+        stands,
+        x,
+        y.saturating_add(HEAD),
+    )?;
     Ok(())
 }
 
@@ -61,6 +74,7 @@ fn record_boxes(
     sheet: &mut Sheet,
     records: &[Record],
     row: u32,
+    stands: &[Stand],
     x: u64,
     y: u64,
 ) -> Result<(), AllocError>
@@ -70,11 +84,32 @@ fn record_boxes(
     let mut row = row;
     for (place, content) in records.iter().enumerate() {
         let newer = &records[..place];
-        record_box(sheet, newer, content, row, x.saturating_add(8), y)?;
+        record_box(
+            sheet,
+            newer,
+            content,
+            Row::of(row, stands),
+            x.saturating_add(8),
+            y,
+        )?;
         row = content.next().unwrap_or(0);
         y = y.saturating_add(record_height(content));
     }
     Ok(())
+}
+
+/// A row, and whether an actor reads it next.
+#[derive(Clone, Copy)]
+struct Row {
+    number: u32,
+    is_next: bool,
+}
+
+impl Row {
+    fn of(number: u32, stands: &[Stand]) -> Row {
+        let is_next = stands.iter().any(|stand| stand.row == Some(number));
+        Row { number, is_next }
+    }
 }
 
 /// A record under some newer ones in a box of its own, a base or a merge with its items.
@@ -82,15 +117,15 @@ fn record_box(
     sheet: &mut Sheet,
     newer: &[Record],
     content: &Record,
-    row: u32,
+    row: Row,
     x: u64,
     y: u64,
 ) -> Result<(), AllocError>
     ensures { OnOk result (sheet.new ≡ with_records sheet.old (record_lines newer.now content.now)) }
 {
-    record_edge(sheet, content, x, y);
+    record_edge(sheet, content, row.is_next, x, y);
     let y_words = y.saturating_add(13);
-    let beside = row_words(sheet, row, x.saturating_add(6), y_words);
+    let beside = row_words(sheet, row.number, x.saturating_add(6), y_words);
     sheet.record_line(RecordLine {
         x: beside,
         y: y_words,
@@ -128,7 +163,7 @@ fn items_in(content: &Record) -> &[Item]
 }
 
 /// The edge of a record's box.
-fn record_edge(sheet: &mut Sheet, content: &Record, x: u64, y: u64)
+fn record_edge(sheet: &mut Sheet, content: &Record, is_next: bool, x: u64, y: u64)
     ensures { sheet.new ≡ sheet.old }
 {
     let is_base = matches!(content, Record::Base(_));
@@ -147,8 +182,17 @@ fn record_edge(sheet: &mut Sheet, content: &Record, x: u64, y: u64)
         } else {
             Colour::Delta
         },
-        edge: if is_base { Colour::Grey } else { Colour::Side },
+        edge: edge_of(is_base, is_next),
     });
+}
+
+/// The colour of a record's edge: of one that an actor reads next, an actor's.
+fn edge_of(is_base: bool, is_next: bool) -> Colour {
+    match (is_next, is_base) {
+        (true, _) => Colour::Actor,
+        (false, true) => Colour::Grey,
+        (false, false) => Colour::Side,
+    }
 }
 
 /// The items of a base or a merge under some newer records, one under another.

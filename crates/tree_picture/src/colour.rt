@@ -27,6 +27,8 @@ pub enum Colour {
     Removed,
     /// A merged page.
     Merged,
+    /// An actor, and what it reads next.
+    Actor,
 }
 
 impl Colour {
@@ -46,6 +48,7 @@ impl Colour {
             Colour::Held => "#ffe08a",
             Colour::Removed => "#ffc9c4",
             Colour::Merged => "#e4d4fa",
+            Colour::Actor => "#8250df",
         }
     }
 }

@@ -7,6 +7,7 @@ ghost use Rattle.tree_picture.specs.Pids.{all_pids, level_pids};
 ghost use Rattle.tree_picture.specs.Ranges.{all_ranges, level_ranges};
 ghost use Rattle.tree_picture.specs.RecordLines.{all_records, level_records};
 ghost use Rattle.tree_picture.specs.Sizes.{IsWideFor};
+ghost use Rattle.tree_picture.specs.Stands.{all_stands, level_stands};
 ghost use Rattle.tree_picture.specs.declared.shape.Mark.{Mark};
 ghost use Rattle.tree_picture.specs.declared.places.TheConstants.{BESIDE, DROP, SHELF};
 
@@ -14,6 +15,7 @@ use crate::boxes::page_box;
 use crate::links::{Drawn, links, mark_of, side_link, slot_lines};
 use crate::places::{BESIDE, DROP, GAP, PAGE_WIDTH, SHELF, first_x, highest};
 use crate::sheet::Sheet;
+use crate::stands::Stand;
 use crate::{Level, Scene, ScenePage};
 use std::alloc::AllocError;
 
@@ -23,6 +25,7 @@ fn level_rows(
     level: &Level,
     above: &[ScenePage],
     root: u32,
+    stands: &[Stand],
     width: u64,
     top: u64,
 ) -> Result<u64, AllocError>
@@ -31,6 +34,7 @@ fn level_rows(
     requires high { top ≤ 2 ^ 40 }
     ensures pids { OnOk result (sheet.new.pids ≡ sheet.old.pids ++ level_pids level.now) }
     ensures ranges { OnOk result (sheet.new.ranges ≡ sheet.old.ranges ++ level_ranges level.now) }
+    ensures stands { OnOk result (sheet.new.stands ≡ sheet.old.stands ++ level_stands stands.now level.now) }
     ensures slots { OnOk result (sheet.new.slots ≡ sheet.old.slots) }
     ensures records { OnOk result (sheet.new.records ≡ sheet.old.records ++ level_records level.now) }
     ensures marks { OnOk result ((own : List Mark) × (sheet.new.marks ≡ sheet.old.marks ++ own) × AllZip (IsMarkFor root above.now) level.now own) }
@@ -47,7 +51,14 @@ fn level_rows(
     };
     for page in pages {
         let here = in_row(place, first, height + SHELF);
-        page_box(sheet, page, mark_of(page, above, root), here.x, here.y)?;
+        page_box(
+            sheet,
+            page,
+            mark_of(page, above, root),
+            stands,
+            here.x,
+            here.y,
+        )?;
         if page.page().right().is_some() {
             side_link(sheet, here.x, here.y);
         }
@@ -89,6 +100,7 @@ pub(crate) fn rows(
     sheet: &mut Sheet,
     levels: &[Level],
     root: u32,
+    stands: &[Stand],
     width: u64,
     top: u64,
 ) -> Result<u64, AllocError>
@@ -98,6 +110,7 @@ pub(crate) fn rows(
     requires high { top ≤ 1000 }
     ensures pids { OnOk result (sheet.new.pids ≡ sheet.old.pids ++ all_pids levels.now) }
     ensures ranges { OnOk result (sheet.new.ranges ≡ sheet.old.ranges ++ all_ranges levels.now) }
+    ensures stands { OnOk result (sheet.new.stands ≡ sheet.old.stands ++ all_stands stands.now levels.now) }
     ensures slots { OnOk result (sheet.new.slots ≡ sheet.old.slots) }
     ensures records { OnOk result (sheet.new.records ≡ sheet.old.records ++ all_records levels.now) }
     ensures marks { OnOk result ((own : List Mark) × (sheet.new.marks ≡ sheet.old.marks ++ own) × AreMarked root [] levels.now own) }
@@ -107,7 +120,7 @@ pub(crate) fn rows(
     let mut y = top;
     let mut above: &[ScenePage] = &[];
     for level in levels {
-        let end = level_rows(sheet, level, above, root, width, y)?;
+        let end = level_rows(sheet, level, above, root, stands, width, y)?;
         y = end + DROP;
         above = level.pages();
     }

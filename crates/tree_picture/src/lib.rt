@@ -23,6 +23,7 @@ mod scene;
 mod shape;
 mod sheet;
 mod slots;
+mod stands;
 mod steps;
 mod taken;
 mod well_formed;
@@ -38,10 +39,11 @@ pub use page::ScenePage;
 pub use scene::Scene;
 pub use shape::{
     INSET, Line, MARK_INSET, Mark, NAME_DROP, PageBox, RANGE_DROP, RecordLine, Rectangle,
-    SLOT_DROP, SLOT_INSET, Shape, SlotBox, Text,
+    SLOT_DROP, SLOT_INSET, STAND_DROP, STAND_ROW, Shape, SlotBox, Text,
 };
 pub use sheet::Picture;
 pub use slots::Slot;
+pub use stands::Stand;
 pub use taken::StepName;
 pub use well_formed::{documents_are_well_formed, escapes_are_safe};
 pub use whole::picture;

@@ -6,6 +6,7 @@ ghost use Rattle.tree_picture.specs.Texts.{EndInBox, mark_text};
 
 use crate::colour::Colour;
 use crate::slots::Slot;
+use crate::stands::Stand;
 use crate::words::Words;
 
 /// How far to the right of the corner of a page's box its name and its range begin.
@@ -19,6 +20,12 @@ pub const NAME_DROP: u64 = 18;
 
 /// How far under that corner its range stands.
 pub const RANGE_DROP: u64 = 35;
+
+/// How far under the lower edge of a page's box the first one of its actors stands.
+pub const STAND_DROP: u64 = 14;
+
+/// How far under that one the next one stands, and so on.
+pub const STAND_ROW: u64 = 15;
 
 /// How wide a character of a name or a mark is taken to be, in pixels. Letters of such a font are about so wide; a few are wider.
 pub const BOLD_WIDTH: u64 = 10;
@@ -129,13 +136,14 @@ impl Mark {
     }
 }
 
-/// The box of a page. Its texts stand in it: its name, its mark's word and its range.
+/// The box of a page. Its texts stand in it: its name, its mark's word and its range. Under it stand the actors that are at the page.
 #[derive(Drop)]
 pub struct PageBox {
     pub pid: u32,
     pub rectangle: Rectangle,
     pub mark: Mark,
     pub range: Words,
+    pub stands: Vec<Stand>,
     /// Its texts end in it.
     pub ghost inside: { EndInBox rectangle.width pid mark range },
 }

@@ -23,6 +23,7 @@ pub struct Picture {
 /// The shapes that were drawn so far, or that there was no room for one. Its contracts tell of the pages among them.
 #[derive(Drop)]
 pub(crate) struct Sheet {
+    alloc: Global,
     shapes: Vec<Shape>,
     is_full: bool,
 }
@@ -41,9 +42,15 @@ impl Sheet {
         ensures { result ≡ pages_in [] }
     {
         Sheet {
+            alloc,
             shapes: Vec::new(alloc),
             is_full: false,
         }
+    }
+
+    /// Where its shapes come from.
+    pub(crate) fn alloc(&self) -> Global {
+        self.alloc
     }
 
     /// The box of a page.

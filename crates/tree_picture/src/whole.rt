@@ -2,10 +2,11 @@
 ghost use Rattle.std.specs.Prelude.{◌≡◌, ◌≤◌, [], IfOk};
 ghost use Rattle.tree_picture.specs.Layout.{AreLaidOut};
 ghost use Rattle.tree_picture.specs.Marks.{AreMarked};
-ghost use Rattle.tree_picture.specs.Pages.{boxes_of, marks_of, pids_of, ranges_of, records_of, slots_of};
+ghost use Rattle.tree_picture.specs.Pages.{boxes_of, marks_of, pids_of, ranges_of, records_of, slots_of, stands_of};
 ghost use Rattle.tree_picture.specs.Pids.{all_pids};
 ghost use Rattle.tree_picture.specs.Ranges.{all_ranges};
 ghost use Rattle.tree_picture.specs.RecordLines.{all_records};
+ghost use Rattle.tree_picture.specs.Stands.{all_stands, stands_in};
 
 use crate::Scene;
 use crate::doings::actor_lines;
@@ -14,6 +15,7 @@ use crate::levels::{all_links, rows};
 use crate::places::{DROP, LEFT, SLOTS_TOP, TOP, first_x, width_of};
 use crate::sheet::{Picture, Sheet};
 use crate::slots::{slot_boxes, slots_bottom};
+use crate::stands::stands_of;
 use std::alloc::{AllocError, Global};
 use step_core::Core;
 
@@ -24,6 +26,7 @@ pub fn picture(alloc: Global, scene: &Scene, core: &Core) -> Result<Picture, All
     ensures ranges { IfOk result (λ picture. ranges_of picture.shapes.items ≡ all_ranges scene.now.levels) }
     ensures records { IfOk result (λ picture. records_of picture.shapes.items ≡ all_records scene.now.levels) }
     ensures slots { IfOk result (λ picture. slots_of picture.shapes.items ≡ scene.now.slots) }
+    ensures stands { IfOk result (λ picture. stands_of picture.shapes.items ≡ all_stands (stands_in core.now.limits core.now.entries core.now.demand.wanted) scene.now.levels) }
     ensures marks { IfOk result (λ picture. AreMarked scene.now.root [] scene.now.levels (marks_of picture.shapes.items)) }
     ensures laid { IfOk result (λ picture. AreLaidOut picture.width picture.height (boxes_of picture.shapes.items)) }
 {
@@ -36,7 +39,15 @@ pub fn picture(alloc: Global, scene: &Scene, core: &Core) -> Result<Picture, All
     };
     head(&mut sheet, scene, root_x);
     all_links(&mut sheet, scene, width, TOP);
-    let end = rows(&mut sheet, levels, scene.root(), width, TOP)?;
+    let stands = stands_of(alloc, core)?;
+    let end = rows(
+        &mut sheet,
+        levels,
+        scene.root(),
+        stands.as_slice(),
+        width,
+        TOP,
+    )?;
     slot_boxes(&mut sheet, scene.slots(), SLOTS_TOP)?;
     let under = larger(
         end.saturating_sub(DROP / 2),

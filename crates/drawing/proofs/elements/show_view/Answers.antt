@@ -1,4 +1,4 @@
-use Rattle.std.proofs.Common.{◌++◌, sym}
+use Rattle.std.proofs.Common.{◌++◌}
 use Rattle.std.specs.Prelude.{codes, decimal}
 use Rattle.std.proofs.lemmas.Grind.{flat_map-append}
 use Rattle.byte_streams.proofs.Showing.{shows_then}

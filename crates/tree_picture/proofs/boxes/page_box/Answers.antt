@@ -3,6 +3,7 @@ use Rattle.traces.specs.chain.Chains.{high_in, low_in}
 use Rattle.tree_picture.specs.declared.colour.Colour.TheVariants.{Ink}
 use Rattle.tree_picture.specs.Layout.{AreLaidTo}
 use Rattle.tree_picture.specs.RecordLines.{lines_under}
+use Rattle.tree_picture.specs.Stands.{stands_at}
 use Rattle.tree_picture.proofs.Layouts.{one_more}
 use Rattle.tree_picture.proofs.Ranges.{page_ends, whole_range}
 use Rattle.tree_picture.proofs.boxes.page_box.Goals as goal
@@ -10,11 +11,16 @@ use Rattle.tree_picture.proofs.boxes.page_box.Goals as goal
 pub returns-clause-pids : goal.returns-clause-pids
 returns-clause-pids c =
     ap (λ sheet. sheet.pids) c.in_ok-record_boxes.ensures ∙ ap (λ sheet. sheet.pids) c.in_ok-page.ensures
-    ∙ ap (λ pid. c.args.sheet.now.pids ++ pid ∷ []) c.pid.ensures
+    ∙ ap (λ pid. c.args.sheet.now.pids ++ pid ∷ []) c.pid-2.ensures
 
 pub returns-clause-marks : goal.returns-clause-marks
 returns-clause-marks c =
     ap (λ sheet. sheet.marks) c.in_ok-record_boxes.ensures ∙ ap (λ sheet. sheet.marks) c.in_ok-page.ensures
+
+pub returns-clause-stands : goal.returns-clause-stands
+returns-clause-stands c =
+    ap (λ sheet. sheet.stands) c.in_ok-record_boxes.ensures ∙ ap (λ sheet. sheet.stands) c.in_ok-page.ensures
+    ∙ ap (λ stands. c.args.sheet.now.stands ++ stands ∷ []) (c.in_ok-own.ensures ∙ ap (stands_at c.args.stands.now) c.pid.ensures)
 
 pub returns-clause-slots : goal.returns-clause-slots
 returns-clause-slots c = ap (λ sheet. sheet.slots) c.in_ok-record_boxes.ensures ∙ ap (λ sheet. sheet.slots) c.in_ok-page.ensures
@@ -39,6 +45,6 @@ returns-clause-laid c = λ width bottom next to right further high.
 
 pub invariant_of-page : goal.invariant_of-page
 invariant_of-page c = record {
-  inside = page_ends c.pid.result c.args.mark c.with_range.new.words (low_in c.args.page.now.chain) (high_in c.args.page.now.chain) (let small = c.pid.type_inv in omega (arith, small))
+  inside = page_ends c.pid-2.result c.args.mark c.with_range.new.words (low_in c.args.page.now.chain) (high_in c.args.page.now.chain) (let small = c.pid-2.type_inv in omega (arith, small))
       (whole_range _ _ _ _ _ _ c.with_range.ensures c.new-range.ensures (c.low.ensures ∙ c.page.ensures.low) (c.high.ensures ∙ c.page-2.ensures.high));
 }

@@ -6,6 +6,7 @@ use Rattle.tree_picture.specs.Layout.{AreLaidTo}
 use Rattle.tree_picture.specs.Ranges.{page_range}
 use Rattle.tree_picture.specs.Sizes.{IsWideFor, page_height}
 use Rattle.tree_picture.specs.RecordLines.{page_records}
+use Rattle.tree_picture.specs.Stands.{page_stands}
 use Rattle.tree_picture.proofs.Heights.{flat_next, map_next, told_next}
 use Rattle.tree_picture.proofs.Layouts.{next_level}
 use Rattle.tree_picture.proofs.Marking.{mark_next}
@@ -36,6 +37,9 @@ loop-page-preserved c =
       ranges =
           ap (λ sheet. sheet.ranges) same ∙ c.in_ok-page_box.ensures.ranges
           ∙ told_next _ _ _ _ (page_range page ∷ []) c.loop-page.invariant.ranges (map_next page_range pages c.loop-page.page-index page there c.page-item.is);
+      stands =
+          ap (λ sheet. sheet.stands) same ∙ c.in_ok-page_box.ensures.stands
+          ∙ told_next _ _ _ _ (page_stands c.args.stands.now page ∷ []) c.loop-page.invariant.stands (map_next (page_stands c.args.stands.now) pages c.loop-page.page-index page there c.page-item.is);
       slots = ap (λ sheet. sheet.slots) same ∙ c.in_ok-page_box.ensures.slots ∙ c.loop-page.invariant.slots;
       records =
           ap (λ sheet. sheet.records) same ∙ c.in_ok-page_box.ensures.records

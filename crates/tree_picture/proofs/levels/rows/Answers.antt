@@ -3,6 +3,7 @@ use Rattle.tree_picture.specs.Pids.{level_pids}
 use Rattle.tree_picture.specs.Ranges.{level_ranges}
 use Rattle.tree_picture.specs.Sizes.{IsWideFor}
 use Rattle.tree_picture.specs.RecordLines.{level_records}
+use Rattle.tree_picture.specs.Stands.{level_stands}
 use Rattle.tree_picture.proofs.Heights.{flat_next, told_next}
 use Rattle.tree_picture.proofs.Layouts.{next_level}
 use Rattle.tree_picture.proofs.Marking.{last_next, level_next_marked}
@@ -21,6 +22,7 @@ loop-level-preserved c =
     record {
       pids = told.pids ∙ told_next _ _ _ _ (level_pids level) c.loop-level.invariant.pids (flat_next level_pids levels c.loop-level.level-index level there c.level-item.is);
       ranges = told.ranges ∙ told_next _ _ _ _ (level_ranges level) c.loop-level.invariant.ranges (flat_next level_ranges levels c.loop-level.level-index level there c.level-item.is);
+      stands = told.stands ∙ told_next _ _ _ _ (level_stands c.args.stands.now level) c.loop-level.invariant.stands (flat_next (level_stands c.args.stands.now) levels c.loop-level.level-index level there c.level-item.is);
       slots = told.slots ∙ c.loop-level.invariant.slots;
       records = told.records ∙ told_next _ _ _ _ (level_records level) c.loop-level.invariant.records (flat_next level_records levels c.loop-level.level-index level there c.level-item.is);
       marks =

@@ -1,7 +1,7 @@
 use Rattle.std.proofs.Common.{◌≡◌, ◌<◌, ◌∙◌, length, sym}
 use Rattle.std.proofs.lemmas.Bool.{ltb-true}
 use Rattle.std.specs.Prelude.{slice_get, Some}
-use Rattle.step_core.proofs.Cored.{core_seen, core_there}
+use Rattle.step_core.proofs.Cored.{core_seen, core_there, core_next}
 use Rattle.step_core.proofs.Replaced.{get_is}
 use Rattle.step_core.proofs.machine.Core.actor.Goals as goal
 
@@ -26,3 +26,10 @@ returns-in-Some-clause-command g c =
     let within : c.from.result < length c.deref.result.now = ltb-true _ _ (sym lookup.0) in
     let found : slice_get c.deref.result.now c.from.result ≡ Some c.in-Some.actor.now = get_is _ _ _ within lookup.1 in
     (core_seen _ _ _ _ c.args.number c.in-Some.actor.now c.self.invariant _ _ c.self.view_is (rw (c.deref.ensures.value, c.from.ensures) at found)).1
+
+pub returns-in-Some-clause-wanted : goal.returns-in-Some-clause-wanted
+returns-in-Some-clause-wanted g c =
+    let lookup = c.in-Some.ensures.lookup in
+    let within : c.from.result < length c.deref.result.now = ltb-true _ _ (sym lookup.0) in
+    let found : slice_get c.deref.result.now c.from.result ≡ Some c.in-Some.actor.now = get_is _ _ _ within lookup.1 in
+    core_next _ _ _ c.args.number c.in-Some.actor.now _ _ c.self.view_is (rw (c.deref.ensures.value, c.from.ensures) at found)
