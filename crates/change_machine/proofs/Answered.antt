@@ -51,7 +51,8 @@ module _ (actor : ℕ) (limits : Limits) (k : Knowledge) (plan : Plan) (spares :
 
   follows_at : (state : State) (told : Answer Record) → IsSoundChange (change state) spares → IsTarget limits plan → Shows actor (change state) spares k
       → Fits limits k (wanted_at limits plan spares state) told → FollowsTo state told (next_move limits plan spares state told)
-  follows_at (state.Taking taking) told sound target h fits = finds actor limits k plan spares h.may h.keeps h.are h.stands.0 taking told sound.state.1 (rw sound.state.2 (low_from limits plan spares (kind_of taking))) h.stands.1 fits
+  follows_at (state.Taking taking) told sound target h fits = finds actor limits k plan spares h.may h.keeps h.are h.stands.0 taking told sound.state.1
+      (rw sound.state.2 (low_from limits plan spares (kind_of taking))) h.stands.1 fits
   follows_at state.Base told sound target h fits = base_placed actor limits k plan spares sound.room sound.state.0 h.may h.keeps h.are told sound.state.1 h.stands
   follows_at state.Ready told sound target h fits = slot_set actor limits k plan spares sound.room sound.state.0 h.may h.keeps h.are told sound.state.1 h.stands.0 h.stands.1 fits
   follows_at state.Place told sound target h fits = record_placed actor limits k plan spares sound.room sound.state.0 h.may h.keeps h.are told sound.state.1 h.stands

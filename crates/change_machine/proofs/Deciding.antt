@@ -40,16 +40,19 @@ either_open false false one two rest opens = refl
 
 -- a change begins before that exchange
 pub first_open : (limits : Limits) (plan : Plan) (spares : Spares) → has_decided (first_state limits plan spares) ≡ false
-first_open limits plan spares = either_open (needs_pid plan && not (is_some spares.pid)) (has_rows limits plan spares.rows) (begun_at limits Pid 0 (head_of plan)) (begun_at limits Row (wanted_from limits plan spares.rows / 64) (head_of plan))
+first_open limits plan spares = either_open (needs_pid plan && not (is_some spares.pid)) (has_rows limits plan spares.rows)
+    (begun_at limits Pid 0 (head_of plan)) (begun_at limits Row (wanted_from limits plan spares.rows / 64) (head_of plan))
     (after_taking plan) (after_open plan)
 
 -- what goes on before it hasn't decided
 open_yet : (old new : State) → (CanDecide old → ⊥) → has_decided new ≡ false → (has_decided new ≡ true → CanDecide old) × (CanDecide old → has_decided new ≡ true)
 open_yet old new none opens = ((λ e. let both : true ≡ false = sym e ∙ opens in absurd cc), (λ can. absurd (none can)))
 
-taken_on : (limits : Limits) (plan : Plan) (spares : Spares) (taking : TakingOf) (f : Found) → EndsByDeciding (Taking taking) (moved_by limits plan spares (Taking taking) f).state (moved_by limits plan spares (Taking taking) f).end
+taken_on : (limits : Limits) (plan : Plan) (spares : Spares) (taking : TakingOf) (f : Found)
+    → EndsByDeciding (Taking taking) (moved_by limits plan spares (Taking taking) f).state (moved_by limits plan spares (Taking taking) f).end
 taken_on limits plan spares taking (found.Not next) = open_yet (Taking taking) (Taking next) (λ can. elim can [ inl e ↦ cc e | inr e ↦ cc e ]) refl
-taken_on limits plan spares taking (found.Taken kind number) = open_yet (Taking taking) (first_state limits plan (with_number kind number spares)) (λ can. elim can [ inl e ↦ cc e | inr e ↦ cc e ]) (first_open limits plan (with_number kind number spares))
+taken_on limits plan spares taking (found.Taken kind number) = open_yet (Taking taking) (first_state limits plan (with_number kind number spares))
+    (λ can. elim can [ inl e ↦ cc e | inr e ↦ cc e ]) (first_open limits plan (with_number kind number spares))
 taken_on limits plan spares taking (found.Full kind) = tt
 
 abbrev EndsAt : State → Moved → Type 0
@@ -58,7 +61,8 @@ EndsAt old moved = EndsByDeciding old moved.state moved.end
 decided_on : (plan : Plan) (spares : Spares) (won : Bool) → EndsAt Link (decided_by plan spares won)
 decided_on plan spares true = by_clears (clears plan)
   where
-    by_clears : (b : Bool) → EndsAt Link (if b then record { state = Clear; spares = spares_left plan spares; end = None } else record { state = Link; spares = spares_left plan spares; end = Some end.Won })
+    by_clears : (b : Bool) → EndsAt Link (if b then record { state = Clear; spares = spares_left plan spares; end = None } else
+        record { state = Link; spares = spares_left plan spares; end = Some end.Won })
     by_clears true = ((λ e. inl refl), (λ can. refl))
     by_clears false = inl refl
 decided_on plan spares false = by_pid (needs_pid plan)
@@ -67,7 +71,8 @@ decided_on plan spares false = by_pid (needs_pid plan)
     by_pid true = ((λ e. inl refl), (λ can. refl))
     by_pid false = inl refl
 
-pub turns : (limits : Limits) (plan : Plan) (spares : Spares) (state : State) (told : Answer Record) → EndsByDeciding state (next_move limits plan spares state told).state (next_move limits plan spares state told).end
+pub turns : (limits : Limits) (plan : Plan) (spares : Spares) (state : State) (told : Answer Record)
+    → EndsByDeciding state (next_move limits plan spares state told).state (next_move limits plan spares state told).end
 turns limits plan spares (Taking taking) told = taken_on limits plan spares taking (found_after limits taking told)
 turns limits plan spares Base told = open_yet Base Ready (λ can. elim can [ inl e ↦ cc e | inr e ↦ cc e ]) refl
 turns limits plan spares Ready told = open_yet Ready (after_ready plan) (λ can. elim can [ inl e ↦ cc e | inr e ↦ cc e ]) (ready_open plan)

@@ -162,7 +162,8 @@ module _ (actor : ℕ) (limits : Limits) (k : Knowledge) (plan : Plan) (spares :
   }
 
   -- the record is placed that comes over a page's newest row
-  pub record_placed : (told : Answer Record) → 0 < slot_of plan → StandsReady limits plan spares k.own → ChangesOn actor k (learn k (wanted_at limits plan spares state.Place) told) (change state.Link) spares
+  pub record_placed : (told : Answer Record) → 0 < slot_of plan → StandsReady limits plan spares k.own
+      → ChangesOn actor k (learn k (wanted_at limits plan spares state.Place) told) (change state.Link) spares
   record_placed told page ready = record {
     shows = record {
       may = still_may actor k now plan like may;
@@ -199,10 +200,12 @@ module _ (actor : ℕ) (limits : Limits) (k : Knowledge) (plan : Plan) (spares :
       → learn k (wanted_at limits plan spares state.Ready) told ≡ set_page (pid_of spares) (Ready (base_row limits plan spares)) k
   set_learnt told needs bare fits =
       let empty = empty_page (k.own.pages (pid_of spares)) (pid_own needs).1 (bare (pid_of spares)) in
-      rw (ready_went k limits (pid_of spares) (base_row limits plan spares) told (pid_own needs).0 fits) (ready_learnt k (pid_of spares) (base_row limits plan spares) (pid_own needs).0 base_is.1 empty)
+      rw (ready_went k limits (pid_of spares) (base_row limits plan spares) told (pid_own needs).0 fits)
+      (ready_learnt k (pid_of spares) (base_row limits plan spares) (pid_own needs).0 base_is.1 empty)
 
   -- the new page's slot is set
-  pub slot_set : (told : Answer Record) → needs_pid plan ≡ true → AreUnset k.own → k.own.rows (base_row limits plan spares) ≡ Written (new_base plan) → Fits limits k (wanted_at limits plan spares state.Ready) told
+  pub slot_set : (told : Answer Record) → needs_pid plan ≡ true → AreUnset k.own → k.own.rows (base_row limits plan spares) ≡ Written (new_base plan)
+      → Fits limits k (wanted_at limits plan spares state.Ready) told
       → ChangesOn actor k (learn k (wanted_at limits plan spares state.Ready) told) (change (after_ready plan)) spares
   slot_set told needs bare base fits = rw (set_learnt told needs bare fits) (record {
     shows = record {

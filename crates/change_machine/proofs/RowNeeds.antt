@@ -1,5 +1,6 @@
 -- Which rows a plan needs, and what the ones that are taken for it come to.
-use Rattle.std.proofs.Common.{◌≡◌, ◌<◌, ◌≤◌, ◌⊎◌, inl, inr, ◌+◌, ◌-◌, ◌*◌, ◌/◌, ◌%◌, ℕ, zero, suc, List, [], ◌∷◌, ◌++◌, length, length-append, get_or, take, Bool, true, false, refl, sym, ap, subst, arith}
+use Rattle.std.proofs.Common.{◌≡◌, ◌<◌, ◌≤◌, ◌⊎◌, inl, inr, ◌+◌, ◌-◌, ◌*◌, ◌/◌, ◌%◌, ℕ, zero, suc, List, [], ◌∷◌, ◌++◌, length, length-append, get_or, take}
+use Rattle.std.proofs.Common.{Bool, true, false, refl, sym, ap, subst, arith}
 use Rattle.std.specs.Prelude.{ltb, not, ◌&&◌, ◌||◌, if◌then◌else◌, ⊤}
 use Rattle.std.proofs.lemmas.Bool.{ltb-true, ltb-false}
 use Rattle.tree_limits.specs.declared.limits.Limits.{Limits}
@@ -109,7 +110,15 @@ record NeedsRows (limits : Limits) (plan : Plan) : Type 0 where
   beside : 0 < lower_from limits plan → (2 ≤ rows_needed plan) × (limits.narrow_rows ≤ upper_from limits plan)
 
 needs : (limits : Limits) (plan : Plan) → NeedsRows limits plan
-needs limits (Install pid head content) = record { upper = is_first limits content; lower = inl refl; few = omega arith; two = λ two. absurd (omega (arith, two)); one = λ one. refl; beside = λ some. absurd (omega (arith, some)) }
+needs limits (Install pid head content) =
+    record {
+      upper = is_first limits content;
+      lower = inl refl;
+      few = omega arith;
+      two = λ two. absurd (omega (arith, two));
+      one = λ one. refl;
+      beside = λ some. absurd (omega (arith, some));
+    }
 needs limits (Split pid plan) =
     let pages = page_rows limits (record_size (kind.Base plan.upper)) in
     let ordered = limits.widths.ordered in
@@ -121,7 +130,14 @@ needs limits (Split pid plan) =
       one = λ one. absurd (omega (arith, one));
       beside = λ some. (omega arith, elim pages [ inl e ↦ omega (arith, e) | inr e ↦ omega (arith, e, ordered) ]);
     }
-needs limits (Root left root) = record { upper = inr (page_rows limits (record_size (kind.Base root))); lower = inl refl; few = omega arith; two = λ two. absurd (omega (arith, two)); one = λ one. refl; beside = λ some. absurd (omega (arith, some)) }
+needs limits (Root left root) = record {
+  upper = inr (page_rows limits (record_size (kind.Base root)));
+  lower = inl refl;
+  few = omega arith;
+  two = λ two. absurd (omega (arith, two));
+  one = λ one. refl;
+  beside = λ some. absurd (omega (arith, some));
+}
 needs limits (Unlink pid head unterm removal) = record
     { upper = is_first limits (kind.Unterm unterm); lower = inl refl; few = omega arith; two = λ two. absurd (omega (arith, two)); one = λ one. refl; beside = λ some. absurd (omega (arith, some)) }
 
@@ -279,7 +295,8 @@ module _ (limits : Limits) (plan : Plan) (number : ℕ) where
           elim (lacks limits plan (a ∷ b ∷ []) lack) [
             | inl x ↦ absurd (omega (arith, x, two))
             | inr (inl y) ↦ (let is = is_wide b page y in (omega (arith, is, y), omega (arith, is, enough, ordered)))
-            | inr (inr z) ↦ (let beside = (needs limits plan).beside (omega (arith, z)) in let upper = beside.1 in let low = lower_few in (omega (arith, z, low, ordered), omega (arith, upper, enough)))
+            | inr (inr z) ↦ (let beside = (needs limits plan).beside (omega (arith, z)) in let upper = beside.1 in let low = lower_few in
+                (omega (arith, z, low, ordered), omega (arith, upper, enough)))
           ]
   adds (a ∷ b ∷ c ∷ []) stacked few alike lack at = record { few = omega arith; alike = λ two. alike (omega arith); least = by (lacks_lower limits plan (a ∷ b ∷ c ∷ [])) refl }
     where

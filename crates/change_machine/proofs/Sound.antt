@@ -1,5 +1,6 @@
 -- A change that goes on names no number that has no place.
-use Rattle.std.proofs.Common.{◌≡◌, ◌<◌, ◌≤◌, ◌+◌, ◌*◌, ◌/◌, ◌-◌, ◌∙◌, ℕ, zero, suc, [], ◌∷◌, ◌++◌, length, length-append, length-take-le, take, Bool, true, false, Option, Some, None, refl, sym, ap, subst, arith}
+use Rattle.std.proofs.Common.{◌≡◌, ◌<◌, ◌≤◌, ◌+◌, ◌*◌, ◌/◌, ◌-◌, ◌∙◌, ℕ, zero, suc, [], ◌∷◌, ◌++◌, length, length-append, length-take-le, take, Bool, true}
+use Rattle.std.proofs.Common.{false, Option, Some, None, refl, sym, ap, subst, arith}
 use Rattle.std.specs.Prelude.{IfNone, IfSome, ⊤, ltb, ◌%◌, is_some, not, ◌&&◌, if◌then◌else◌}
 use Rattle.std.proofs.Math.Nat.{mod-lt}
 use Rattle.std.proofs.lemmas.Bool.{ltb-true, ltb-false}
@@ -214,7 +215,8 @@ module _ (limits : Limits) (plan : Plan) where
       (there, first_sound (with_number other number spares) target)
   found_stays spares state (Full other) room kind missing target sound of = (room, tt)
 
-  after_ready_sound : (spares : Spares) (other : Plan) → other ≡ plan → IsTarget limits other → AreEnough limits plan spares → needs_pid other ≡ true → IsSoundState limits plan spares (after_ready other)
+  after_ready_sound : (spares : Spares) (other : Plan) → other ≡ plan → IsTarget limits other → AreEnough limits plan spares → needs_pid other ≡ true
+      → IsSoundState limits plan spares (after_ready other)
   after_ready_sound spares (Install pid head content) is target enough needs = cc
   after_ready_sound spares (Split pid plan) is target enough needs = (enough, rw (← is) target.page)
   after_ready_sound spares (Root left root) is target enough needs = enough

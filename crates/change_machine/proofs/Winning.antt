@@ -13,7 +13,8 @@ use Rattle.traces.specs.discipline.Discipline.{MayExchange}
 use Rattle.traces.specs.discipline.Fitting.{Fits}
 use Rattle.traces.specs.discipline.Knowledge.{Belongings, Knowledge, OwnPage, Foreign, Written, Other, Ready, Gone, handed_page, learn, linked_over}
 use Rattle.structure_changes.specs.Splits.{split_to}
-use Rattle.change_machine.specs.Changes.{AreEnough, Follows, ChangesOn, KeepsSparePage, ChangeIsOver, IsPlaced, StandsReady, IsTarget, KeepsSpare, MayChange, linked_number, split_base_row, split_row, wanted_at}
+use Rattle.change_machine.specs.Changes.{AreEnough, Follows, ChangesOn, KeepsSparePage, ChangeIsOver, IsPlaced, StandsReady, IsTarget, KeepsSpare, MayChange}
+use Rattle.change_machine.specs.Changes.{linked_number, split_base_row, split_row, wanted_at}
 use Rattle.structure_changes.specs.Plans.{head_of, slot_of}
 use Rattle.change_machine.specs.Moves.{Moved, decided_by, spares_left}
 use Rattle.change_machine.specs.Spares.{AreTheSpares, AreUnset, HaveRoom, Spares, last_row, pid_of, second_row}
@@ -137,7 +138,8 @@ module _ (actor : ℕ) (limits : Limits) (k : Knowledge) (spares : Spares) (room
   -- what follows where the exchange that decides has won
   abbrev WonTo : Plan → Moved → Type 0
   WonTo plan now =
-      Follows actor k (learn k (wanted_at limits plan spares state.Link) (answer.Whether true)) (bare_at limits plan state.Link) (answer.Whether true) (bare_at limits plan now.state) now.spares now.end
+      Follows actor k (learn k (wanted_at limits plan spares state.Link) (answer.Whether true)) (bare_at limits plan state.Link) (answer.Whether true)
+      (bare_at limits plan now.state) now.spares now.end
 
   pub won_at : (plan : Plan) → AreEnough limits plan spares → IsTarget limits plan → MayChange actor k plan → KeepsSpare plan spares.pid
       → MayExchange actor k (slot_of plan) (head_of plan) (linked_number limits plan spares) → StandsReady limits plan spares k.own → IsPlaced limits plan spares k.own

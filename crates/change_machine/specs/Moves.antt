@@ -84,7 +84,8 @@ moved_by limits plan spares state (Full kind) = record { state = state; spares =
 
 -- after the exchange that decides: a page whose term is out is cleared; a new page that is not linked is emptied again
 abbrev pub decided_by : Plan → Spares → Bool → Moved
-decided_by plan spares true = if clears plan then record { state = Clear; spares = spares_left plan spares; end = None } else record { state = Link; spares = spares_left plan spares; end = Some end.Won }
+decided_by plan spares true = if clears plan then record { state = Clear; spares = spares_left plan spares; end = None } else
+    record { state = Link; spares = spares_left plan spares; end = Some end.Won }
 decided_by plan spares false = if needs_pid plan then record { state = Undo; spares = spares; end = None } else record { state = Link; spares = spares; end = Some end.Lost }
 
 abbrev pub whether_in : Answer Record → Bool

@@ -238,7 +238,8 @@ impl Change {
         requires state { self.old.state ≡ State.Taking taking }
         requires sound { IsSoundChange self.old spares.old }
         requires told { FitsChange self.old spares.old (answer_of told) }
-        ensures moved { moved_by self.old.limits self.old.plan spares.old self.old.state (found_after self.old.limits taking (answer_of told)) ≡ record { state = self.new.state; spares = spares.new; end = result } }
+        ensures moved { moved_by self.old.limits self.old.plan spares.old self.old.state (found_after self.old.limits taking (answer_of told)) ≡
+            record { state = self.new.state; spares = spares.new; end = result } }
         ensures same { IsSameChange self.old self.new }
     {
         match taking.next(&self.limits, told) {

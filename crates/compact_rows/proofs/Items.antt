@@ -1,5 +1,6 @@
 -- The words of items, as they stand in a compact row and in today's rows.
-use Rattle.std.proofs.Common.{◌≡◌, ◌==◌, ◌<◌, ◌≤◌, ◌+◌, ◌*◌, ◌-◌, ◌/◌, ◌%◌, inl, inr, ℕ, zero, suc, Bool, true, false, List, [], ◌∷◌, ◌++◌, length, get_or, drop, replicate, refl, sym, ap, subst, ◌∙◌, arith, append_assoc, length-append, length-drop}
+use Rattle.std.proofs.Common.{◌≡◌, ◌==◌, ◌<◌, ◌≤◌, ◌+◌, ◌*◌, ◌-◌, ◌/◌, ◌%◌, inl, inr, ℕ, zero, suc, Bool, true, false, List, [], ◌∷◌, ◌++◌, length, get_or}
+use Rattle.std.proofs.Common.{drop, replicate, refl, sym, ap, subst, ◌∙◌, arith, append_assoc, length-append, length-drop}
 use Rattle.std.specs.Prelude.{if◌then◌else◌, ltb}
 use Rattle.std.specs.List.{All}
 use Rattle.std.proofs.lemmas.Bool.{cases_lt, cases_eq, eq-eqb, ne_eqb, lt-ltb, le-ltb}
@@ -80,7 +81,8 @@ module _ (words : List ℕ) (level at : ℕ) (item : Item) (is : IsItem level it
   content_there : drop (at + code_tail (item_code at item)) words ≡ content_text item.content ++ rest
   content_there =
       let long : length text ≡ code_tail (item_code at item) = packed_long (drop 8 item.key) ∙ sym (tail_is level at item is low) in
-      sym (drop-drop (code_tail (item_code at item)) at words) ∙ ap (drop (code_tail (item_code at item))) key_there ∙ drop_at text (content_text item.content ++ rest) (code_tail (item_code at item)) long
+      sym (drop-drop (code_tail (item_code at item)) at words) ∙ ap (drop (code_tail (item_code at item))) key_there
+      ∙ drop_at text (content_text item.content ++ rest) (code_tail (item_code at item)) long
 
   -- a word of the key
   key_word : (j : ℕ) → j < 7 → text_seen words (code_at (item_code at item)) (code_tail (item_code at item)) j ≡ get_or (text_words 7 (drop 8 item.key)) j 0

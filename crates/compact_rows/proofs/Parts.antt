@@ -1,5 +1,6 @@
 -- Where the parts of a compact row stand, and what is seen of them.
-use Rattle.std.proofs.Common.{◌≡◌, ◌==◌, ◌<◌, ◌≤◌, ◌+◌, ◌*◌, ◌-◌, ◌/◌, ◌%◌, inl, inr, ℕ, zero, suc, Bool, true, false, List, [], ◌∷◌, ◌++◌, length, get_or, drop, replicate, refl, sym, ap, subst, ◌∙◌, arith, length-append}
+use Rattle.std.proofs.Common.{◌≡◌, ◌==◌, ◌<◌, ◌≤◌, ◌+◌, ◌*◌, ◌-◌, ◌/◌, ◌%◌, inl, inr, ℕ, zero, suc, Bool, true, false, List, [], ◌∷◌, ◌++◌, length, get_or}
+use Rattle.std.proofs.Common.{drop, replicate, refl, sym, ap, subst, ◌∙◌, arith, length-append}
 use Rattle.std.specs.Prelude.{if◌then◌else◌, ltb, Option, None, Some, IfSome}
 use Rattle.std.specs.List.{All}
 use Rattle.std.proofs.lemmas.Bool.{cases_lt, cases_eq, eq-eqb, ne_eqb, lt-ltb, le-ltb}
@@ -13,7 +14,8 @@ use Rattle.record_slots.specs.Spelling.{bound_words, field_words, items_words, t
 use Rattle.record_slots.proofs.ItemLaws.{items_length}
 use Rattle.record_slots.proofs.RowLaws.{words_of_row}
 use Rattle.compact_rows.specs.Layout.{first_unit, length_unit, next_unit, second_unit}
-use Rattle.compact_rows.specs.Seen.{bound_size, count_seen, first_length, first_seen, first_text_at, item_seen, items_seen, level_seen, place_seen, second_length, second_seen, second_text_at, seen, text_seen}
+use Rattle.compact_rows.specs.Seen.{bound_size, count_seen, first_length, first_seen, first_text_at, item_seen, items_seen, level_seen, place_seen}
+use Rattle.compact_rows.specs.Seen.{second_length, second_seen, second_text_at, seen, text_seen}
 use Rattle.compact_rows.specs.Spelling.{bound_length, bound_text, codes, compact_row, first_word, heads, packed, second_word, texts, texts_at, words_for}
 use Rattle.compact_rows.proofs.Items.{codes_long, heads_long, items_there}
 use Rattle.compact_rows.proofs.Texts.{if_false, if_true, packed_long, text_long, text_there}

@@ -4,7 +4,8 @@ use Rattle.std.specs.Prelude.{if◌then◌else◌, ltb}
 use Rattle.std.proofs.lemmas.Bool.{eq-eqb, ne_eqb, lt-ltb, le-ltb}
 use Rattle.record_slots.specs.Layout.{form_unit, item_size, items_at, this_form}
 use Rattle.compact_rows.specs.Layout.{content_unit, first_unit, length_unit, next_unit}
-use Rattle.compact_rows.specs.Seen.{code_at, code_number, code_tail, count_seen, first_length, first_seen, item_seen, items_seen, level_seen, place_seen, second_length, second_seen, seen, text_seen, value_seen}
+use Rattle.compact_rows.specs.Seen.{code_at, code_number, code_tail, count_seen, first_length, first_seen, item_seen, items_seen, level_seen, place_seen}
+use Rattle.compact_rows.specs.Seen.{second_length, second_seen, seen, text_seen, value_seen}
 use Rattle.compact_rows.proofs.Parts.{four}
 use Rattle.compact_rows.proofs.Texts.{if_false, if_true}
 

@@ -30,7 +30,8 @@ one_held words level at item is low room =
     let number = code_number_is level at item is low in
     record {
       key = omega arith;
-      value = λ leaf. by item.content is.kind leaf number (let here : code_at (item_code at item) + code_tail (item_code at item) + length (content_text item.content) ≤ length words = omega arith in here);
+      value = λ leaf. by item.content is.kind leaf number
+          (let here : code_at (item_code at item) + code_tail (item_code at item) + length (content_text item.content) ≤ length words = omega arith in here);
     }
   where
     by : (content : Content) → IsOfLevel level content → level ≡ 0 → code_number (item_code at item) ≡ content_number content

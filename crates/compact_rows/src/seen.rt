@@ -1,6 +1,7 @@
 //! Each word of the row of `record_slots`, computed from the compact words of the same record.
 ghost use Rattle.std.specs.Prelude.{◌≡◌, ◌<◌, ◌≤◌, slice_index};
-ghost use Rattle.compact_rows.specs.Seen.{bound_size, code_at, code_tail, count_seen, first_length, first_seen, item_seen, items_seen, level_seen, place_seen, second_length, second_seen, seen, text_seen, value_seen};
+ghost use Rattle.compact_rows.specs.Seen.{bound_size, code_at, code_tail, count_seen, first_length, first_seen, item_seen, items_seen, level_seen, place_seen};
+ghost use Rattle.compact_rows.specs.Seen.{second_length, second_seen, seen, text_seen, value_seen};
 ghost use Rattle.compact_rows.specs.Spelling.{words_for};
 ghost use Rattle.record_slots.specs.declared.layout.TheConstants.{ROW_WORDS};
 

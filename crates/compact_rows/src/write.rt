@@ -156,8 +156,24 @@ fn write_row(
 )
     requires empty { row.old ≡ [] }
     requires few { length items.now ≤ 24 }
-    requires room { length (compact_row (record { kind = kind; level = level; count = length items.now; next = next; page = page; first = first.now; second = option_copied second }) items.now) ≤ most_words }
-    ensures words { row.new ≡ compact_row (record { kind = kind; level = level; count = length items.now; next = next; page = page; first = first.now; second = option_copied second.entry }) items.now }
+    requires room { length (compact_row (record {
+      kind = kind;
+      level = level;
+      count = length items.now;
+      next = next;
+      page = page;
+      first = first.now;
+      second = option_copied second;
+    }) items.now) ≤ most_words }
+    ensures words { row.new ≡ compact_row (record {
+      kind = kind;
+      level = level;
+      count = length items.now;
+      next = next;
+      page = page;
+      first = first.now;
+      second = option_copied second.entry;
+    }) items.now }
     ensures first { IsShort first.now }
     ensures second { IfSome (option_copied second.entry) IsShort }
     ensures items { All IsShortItem items.now }

@@ -1,5 +1,6 @@
 -- A call that is done is one whole operation of the run that it has left.
-use Rattle.std.proofs.Common.{◌≡◌, ◌<◌, ◌≤◌, ◌+◌, ℕ, zero, suc, List, [], ◌∷◌, ◌++◌, length, Bool, true, false, Option, Some, None, refl, sym, ap, subst, ◌∙◌, arith, eq-eqb, length-append, append_assoc}
+use Rattle.std.proofs.Common.{◌≡◌, ◌<◌, ◌≤◌, ◌+◌, ℕ, zero, suc, List, [], ◌∷◌, ◌++◌, length, Bool, true, false, Option, Some, None, refl, sym, ap, subst, ◌∙◌}
+use Rattle.std.proofs.Common.{arith, eq-eqb, length-append, append_assoc}
 use Rattle.std.specs.Prelude.{if◌then◌else◌, slice_get}
 use mathlib.Core.Logic.{dite}
 use native.Mathlib.Decide.{ℕ_discrete}
@@ -98,7 +99,8 @@ module _ (old new : Seat) (command : Command) (budget : ℕ) (given : Reply) (sa
       let had : length (calls_in old) ≡ 0 + begun (own_entries old.actor old.seen) = along_long [] (own_entries old.actor old.seen) in
       let one_more : length (calls_in new) ≡ length (calls_in old) + 1 = ap length is.calls ∙ length-append (calls_in old) ((command, Some given) ∷ []) in
       let parts : begun (own_entries old.actor new.seen) ≡ begun (own_entries old.actor before) + begun (own_entries old.actor (first ∷ after)) =
-      ap (λ run. begun (own_entries old.actor run)) begins.is ∙ ap begun (own_append old.actor before (first ∷ after)) ∙ begun_append (own_entries old.actor before) (own_entries old.actor (first ∷ after)) in
+      ap (λ run. begun (own_entries old.actor run)) begins.is ∙ ap begun (own_append old.actor before (first ∷ after))
+      ∙ begun_append (own_entries old.actor before) (own_entries old.actor (first ∷ after)) in
       let front : begun (own_entries old.actor before) ≡ begun (own_entries old.actor old.seen) = ap begun (own_extends old.actor old.seen before begins.extends) in
       let back : begun (own_entries old.actor (first ∷ after)) ≡ suc (begun (own_entries old.actor after)) = ap begun (own_begin old.actor command after) in
       omega arith
@@ -166,7 +168,8 @@ module _ (old first : Seat) (command : Command) (budget : ℕ) (given : Reply) (
       let order : done < length comes.begins.before = omega arith in
       record {
         done = done;
-        opens = subst (λ (run : List Entry). IsOperation run one) (sym grown) (slice_get_kept first.seen more one.start (Begin old.actor command) (opens old first command budget given same is is.begins));
+        opens = subst (λ (run : List Entry). IsOperation run one) (sym grown)
+            (slice_get_kept first.seen more one.start (Begin old.actor command) (opens old first command budget given same is is.begins));
         ends = ends;
         begins = ap (λ (run : List Entry). slice_get run (length comes.begins.before)) comes.begins.is ∙ get_middle comes.begins.before (Begin later.actor asked) comes.begins.after;
         apart = order;

@@ -1,6 +1,7 @@
 -- What commands write.
 use Rattle.op_machine.proofs.Words.{◌≡◌, ◌<◌, ◌≤◌, ℕ, Bool, true, false, List, length, Option, Some, None, is_some, refl, ap, ◌∙◌, arith, IsTrue, if◌then◌else◌, bytes_eq, is_in_range}
-use Rattle.op_machine.proofs.Words.{Record, same_Some, Command, Add, Back, Get, Insert, Upsert, Delete, DeleteIf, Swap, PageFrom, Tidy, command_key, update_of, is_writer, Value, Child, next_row, covers}
+use Rattle.op_machine.proofs.Words.{Record, same_Some, Command, Add, Back, Get, Insert, Upsert, Delete, DeleteIf, Swap, PageFrom, Tidy, command_key, update_of}
+use Rattle.op_machine.proofs.Words.{is_writer, Value, Child, next_row, covers}
 use Rattle.op_machine.proofs.Words.{is_removed, level_in, Knowledge, KeepsSparePage, linked_by, IsUsefulOver, update_over}
 use Rattle.bw_model.specs.Log.{Update, set, unset}
 use Rattle.bw_model.specs.Numbers.{number_bytes, is_number, added, sum_bytes}

@@ -29,7 +29,11 @@ module _ (task : Task) (spares : Spares) (k : Knowledge) (r : Recalled) (leaf : 
         leaf = h.level;
         covers = within;
         is = replies;
-        basis = inr (h.seeks.asked.unlinked, inl ((leaf.pid, h.page.in_hand.seen.head), h.page.alive), none_due task.actor 0 task.command (chain_value leaf.chain (command_key task.command)) unchanged);
+        basis = inr (
+          h.seeks.asked.unlinked,
+          inl ((leaf.pid, h.page.in_hand.seen.head), h.page.alive),
+          none_due task.actor 0 task.command (chain_value leaf.chain (command_key task.command)) unchanged,
+        );
       });
     },
     not_full task.command (chain_value leaf.chain (command_key task.command)) reply replies,

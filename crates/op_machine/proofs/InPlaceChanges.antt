@@ -43,10 +43,12 @@ module _ (old new : change.Change) (then : Then) (had has : Spares) (told : Answ
   }
 
   -- what is known to be in limbo then
-  pub unlinks_into : (end : Option End) → ((actor : ℕ) (k : Knowledge) → change.Shows actor old had k → Fits old.limits k (change.wanted_step old had) told → (last k).limbo ≡ limbo_after old.plan end k)
+  pub unlinks_into : (end : Option End) → ((actor : ℕ) (k : Knowledge) → change.Shows actor old had k → Fits old.limits k (change.wanted_step old had) told
+      → (last k).limbo ≡ limbo_after old.plan end k)
       → ((actor : ℕ) (k : Knowledge) → change.Shows actor old had k → Fits old.limits k (change.wanted_step old had) told → TakesFresh old.limits k old.plan end)
       → (task : Task) (k : Knowledge) (r : Recalled) → IsInChange task had k r old then → Fits task.limits k (change.wanted_step old had) told
       → UnlinksAfter task.limits k (ended_with then end) (last k).limbo
   unlinks_into None limbo fresh task k r h fits = limbo task.actor k h.shows (fits_own task k h.limits fits)
   unlinks_into (Some end) limbo fresh task k r h fits =
-      rw (← h.limits) (unlinks old.limits k task.command old.plan end then (last k).limbo h.brings (limbo task.actor k h.shows (fits_own task k h.limits fits)) (fresh task.actor k h.shows (fits_own task k h.limits fits)))
+      rw (← h.limits) (unlinks old.limits k task.command old.plan end then (last k).limbo h.brings (limbo task.actor k h.shows (fits_own task k h.limits fits))
+      (fresh task.actor k h.shows (fits_own task k h.limits fits)))

@@ -1,5 +1,6 @@
 -- A reply that goes by the value of its key isn't Full.
-use Rattle.op_machine.proofs.Words.{◌≡◌, ◌≢◌, ℕ, Bool, true, false, List, Option, Some, None, ◌∙◌, if◌then◌else◌, bytes_eq, same_Some, Command, Add, Back, Get, Insert, Upsert, Delete, DeleteIf, Swap, PageFrom}
+use Rattle.op_machine.proofs.Words.{◌≡◌, ◌≢◌, ℕ, Bool, true, false, List, Option, Some, None, ◌∙◌, if◌then◌else◌, bytes_eq, same_Some, Command, Add, Back, Get}
+use Rattle.op_machine.proofs.Words.{Insert, Upsert, Delete, DeleteIf, Swap, PageFrom}
 use Rattle.op_machine.proofs.Words.{Tidy, reply_of}
 use Rattle.bw_model.specs.Numbers.{is_number}
 use Rattle.bw_model.specs.declared.command.Reply.{Reply}

@@ -20,7 +20,8 @@ use Rattle.op_machine.proofs.Reading.{reader_reads, seeks_still, writer_reads}
 
 module _ (task : Task) (spares : Spares) (k : Knowledge) (r : Recalled) (round new : read.ReadRound) (told : Answer Record)
     (h : IsInReadRound task spares k r round) (fits : Fits task.limits k (read.wanted_step round) told) where
-  pub read_on : read.ReadsForTheSame round new → Follows read.reading k r round told new None → IsInReadRound task spares (learn k (read.wanted_step round) told) (recall r (read.wanted_step round) told) new
+  pub read_on : read.ReadsForTheSame round new → Follows read.reading k r round told new None
+      → IsInReadRound task spares (learn k (read.wanted_step round) told) (recall r (read.wanted_step round) told) new
   read_on same follows = record {
     seeks = seeks_still task spares k h.seeks task.limits (read.wanted_step round) told (reader_reads round k r h.shows) fits;
     reader = h.reader;

@@ -52,7 +52,8 @@ over : (k : Knowledge) (pid head row : ℕ) (content : Record) → IsUsefulOver 
 over k pid head row (kind.Base other) useful placed basis page is = useful basis.chain basis.read
 over k pid head row content useful placed basis page is = let e = sym placed ∙ is in cc
 
-pub usefully : (limits : Limits) (k : Knowledge) (plan : Plan) (spares : Spares) (state : State) → IsUsefulPlan k plan → change.ShowsState limits plan spares k state → IsUseful k (change.wanted_at limits plan spares state)
+pub usefully : (limits : Limits) (k : Knowledge) (plan : Plan) (spares : Spares) (state : State) → IsUsefulPlan k plan
+    → change.ShowsState limits plan spares k state → IsUseful k (change.wanted_at limits plan spares state)
 usefully limits k plan spares (Taking taking) useful shows = of_taking taking
   where
     of_taking : (t : taken.Taking) → IsUseful k (wanted_number t)
@@ -100,7 +101,8 @@ halved_empty k zero old = tt
 halved_empty k (suc slot) zero = tt
 halved_empty k (suc slot) (suc old) = tt
 
-pub halved : (limits : Limits) (k : Knowledge) (plan : Plan) (spares : Spares) (state : State) → IsUsefulPlan k plan → change.ShowsState limits plan spares k state → IsHalved k (change.wanted_at limits plan spares state)
+pub halved : (limits : Limits) (k : Knowledge) (plan : Plan) (spares : Spares) (state : State) → IsUsefulPlan k plan
+    → change.ShowsState limits plan spares k state → IsHalved k (change.wanted_at limits plan spares state)
 halved limits k plan spares (Taking taking) useful shows = of_taking taking
   where
     of_taking : (t : taken.Taking) → IsHalved k (wanted_number t)
@@ -110,7 +112,8 @@ halved limits k plan spares (Taking taking) useful shows = of_taking taking
     of_taking (Take Row from number whole) = tt
 halved limits k plan spares Ready useful shows = halved_ready k (pid_of spares) (change.base_row limits plan spares)
 halved limits k (Install pid head content) spares Link useful shows = no_split k pid head (last_row spares) (never_over k head (last_row spares) content useful shows.1)
-halved limits k (Split pid plan) spares Link useful shows = halves k pid plan.next (pid_of spares) (change.record_row limits (Split pid plan) spares) (change.base_row limits (Split pid plan) spares) plan refl useful shows.1 shows.0.0 shows.0.1
+halved limits k (Split pid plan) spares Link useful shows = halves k pid plan.next (pid_of spares) (change.record_row limits (Split pid plan) spares)
+    (change.base_row limits (Split pid plan) spares) plan refl useful shows.1 shows.0.0 shows.0.1
 halved limits k (Unlink pid head unterm removal) spares Link useful shows = no_split k pid head (last_row spares) (λ split is. let e = sym shows.1 ∙ is in cc)
 halved limits k plan spares Undo useful shows = halved_empty k (pid_of spares) (change.base_row limits plan spares)
 halved limits k plan spares Clear useful shows = halved_empty k (cleared_page plan) (cleared_row plan)

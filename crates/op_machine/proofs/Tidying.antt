@@ -1,6 +1,7 @@
 -- A tidying at the leaf of its key, where nothing is due.
 use Rattle.op_machine.proofs.Words.{◌≡◌, ◌≤◌, ◌<◌, inl, inr, ℕ, List, [], ◌∷◌, length, Bool, Option, Some, None, true, false, refl, ap, subst, arith, IsTrue, if◌then◌else◌, bytes_eq}
-use Rattle.op_machine.proofs.Words.{Command, Add, Back, Get, Insert, Upsert, Delete, DeleteIf, Swap, PageFrom, Tidy, is_writer, reply_of, IsSpellablePage, Record, covers, level_in, MayReply, IsFitted, Knowledge}
+use Rattle.op_machine.proofs.Words.{Command, Add, Back, Get, Insert, Upsert, Delete, DeleteIf, Swap, PageFrom, Tidy, is_writer, reply_of, IsSpellablePage}
+use Rattle.op_machine.proofs.Words.{Record, covers, level_in, MayReply, IsFitted, Knowledge}
 use Rattle.op_machine.proofs.Words.{Recalled, Spares, Version, from_made, of_made, IsAtLeafBelow, Task, IsIdleFor}
 use Rattle.bw_model.specs.Numbers.{is_number}
 use Rattle.bw_model.specs.declared.command.Reply.{Reply}

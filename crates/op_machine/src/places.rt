@@ -170,7 +170,10 @@ impl<R: Rows, A: Allocator> Places<R, A> {
 
     /// A reader's round to the leaf of the key begins.
     pub(crate) fn read(&mut self, key: &Key)
-        ensures { self.new ≡ record self.old { stand = StateKind.Read; reader = record self.old.reader { round = record { limits = self.old.reader.round.limits; key = key.now; goal = goal.Seek; leg = Down None; state = Root } } } }
+        ensures { self.new ≡ record self.old {
+          stand = StateKind.Read;
+          reader = record self.old.reader { round = record { limits = self.old.reader.round.limits; key = key.now; goal = goal.Seek; leg = Down None; state = Root } };
+        } }
     {
         self.reader.restart(key);
         self.stand = StateKind::Read;
@@ -190,7 +193,22 @@ impl<R: Rows, A: Allocator> Places<R, A> {
     /// A writer's round to the leaf of the key begins.
     pub(crate) fn write(&mut self, key: &Key, due: usize, tends: bool)
         requires due { 0 < due }
-        ensures { self.new ≡ record self.old { stand = StateKind.Write; writer = record self.old.writer { round = record { limits = self.old.writer.round.limits; key = key.now; due = due; tends = tends; floor = 0; goal = course.Seek; parent = None; left = None; state = Root } } } }
+        ensures { self.new ≡ record self.old {
+          stand = StateKind.Write;
+          writer = record self.old.writer {
+            round = record {
+              limits = self.old.writer.round.limits;
+              key = key.now;
+              due = due;
+              tends = tends;
+              floor = 0;
+              goal = course.Seek;
+              parent = None;
+              left = None;
+              state = Root;
+            };
+          };
+        } }
     {
         self.writer.restart(key, due, tends);
         self.stand = StateKind::Write;

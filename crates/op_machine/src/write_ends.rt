@@ -46,7 +46,8 @@ impl Task {
         ensures looks { pass.new ≡ pass.old }
         ensures stands { (k : Knowledge) (r : Recalled) → FacesWritten self.old spares.now k r (ended_write places.old.writer ended) → ShowsState self.new spares.now k r (state_of places.new) }
         ensures few { (k : Knowledge) (r : Recalled) → FacesWritten self.old spares.now k r (ended_write places.old.writer ended)
-            → with_errands self.old.limits self.new.errands (left_at self.old.limits r spares.now (state_of places.new)) ≤ with_errands self.old.limits self.old.errands (left_for self.old.limits (Outcome.Written (ended_write places.old.writer ended))) }
+            → with_errands self.old.limits self.new.errands (left_at self.old.limits r spares.now (state_of places.new)) ≤ with_errands self.old.limits
+            self.old.errands (left_for self.old.limits (Outcome.Written (ended_write places.old.writer ended))) }
         ensures asks { IsSome (wanted_at spares.now (state_of places.new)) }
         ensures same { IsSameTask self.old self.new }
         ensures have { HaveLimits self.new.limits places.new }
@@ -74,7 +75,8 @@ impl Task {
         ensures stands { (k : Knowledge) (r : Recalled) → IsAtLeafBelow self.old spares.now k r places.old.writer.round.parent places.old.writer.page
             → ShowsState self.new spares.now k r (state_of places.new) }
         ensures few { (r : Recalled)
-            → with_errands self.old.limits self.new.errands (left_at self.old.limits r spares.now (state_of places.new)) ≤ with_errands self.old.limits self.old.errands (few_changes self.old.limits + 1) }
+            → with_errands self.old.limits self.new.errands (left_at self.old.limits r spares.now (state_of places.new)) ≤ with_errands self.old.limits
+            self.old.errands (few_changes self.old.limits + 1) }
         ensures asks { IsSome (wanted_at spares.now (state_of places.new)) }
         ensures same { IsSameTask self.old self.new }
         ensures errands { self.new.errands ≡ take (length self.old.errands - 1) self.old.errands }
@@ -209,7 +211,8 @@ impl Task {
         requires have { HaveLimits self.old.limits places.old }
         ensures stands { (spares : SparesOf) (k : Knowledge) (r : Recalled) → FacesChanged self.old spares k end places.old.then → ShowsState self.new spares k r (state_of places.new) }
         ensures few { (spares : SparesOf) (r : Recalled)
-            → with_errands self.old.limits self.new.errands (left_at self.old.limits r spares (state_of places.new)) ≤ with_errands self.old.limits self.old.errands (left_for self.old.limits (Outcome.Changed end places.old.then)) }
+            → with_errands self.old.limits self.new.errands (left_at self.old.limits r spares (state_of places.new)) ≤ with_errands self.old.limits
+            self.old.errands (left_for self.old.limits (Outcome.Changed end places.old.then)) }
         ensures asks { (spares : SparesOf) → IsSome (wanted_at spares (state_of places.new)) }
         ensures same { IsSameTask self.old self.new }
         ensures errands { self.new.errands ≡ errands_after end places.old.then self.old.errands }

@@ -198,7 +198,8 @@ module _ (limits : Limits) (entries : List Entry) (run : IsRun limits entries) (
             let joined : worth * ((tally begins 0 start + tally (hinder limits entries a) 0 start) + (tally (hinder limits entries a) start (n - start) + 1))
             ≡ worth * (tally begins 0 start + tally (hinder limits entries a) 0 start) + worth * (tally (hinder limits entries a) start (n - start) + 1)
             = mul-add (worth) (tally begins 0 start + tally (hinder limits entries a) 0 start) (tally (hinder limits entries a) start (n - start) + 1) in
-            let most : (tally begins 0 start + tally (hinder limits entries a) 0 start) + (tally (hinder limits entries a) start (n - start) + 1) ≤ tally begins 0 n + tally (hinder limits entries a) 0 n = omega
+            let most : (tally begins 0 start + tally (hinder limits entries a) 0 start) +
+            (tally (hinder limits entries a) start (n - start) + 1) ≤ tally begins 0 n + tally (hinder limits entries a) 0 n = omega
             (arith, split_hinder, next, more) in
             let grown : worth * ((tally begins 0 start + tally (hinder limits entries a) 0 start) + (tally (hinder limits entries a) start (n - start) + 1))
             ≤ worth * (tally begins 0 n + tally (hinder limits entries a) 0 n) = mul-le-mul_left (worth) most in
@@ -249,7 +250,8 @@ module _ (limits : Limits) (entries : List Entry) (run : IsRun limits entries) (
       let all_begins : sum (by_actor limits entries begin_of top) limits.actors ≡ tally (passes_in is_begin entries) 0 top = sum_actors limits entries begin_of
       is_begin (one_begin limits entries run) top in
       let less = sum_less (by_actor limits entries is_step_of top) (λ a. worth * (by_actor limits entries begin_of top a + hindering)) limits.actors each_actor in
-      let each_worth : sum (λ a. worth * (by_actor limits entries begin_of top a + hindering)) limits.actors ≡ worth * (sum (by_actor limits entries begin_of top) limits.actors + limits.actors * hindering) = sum_worth
+      let each_worth : sum (λ a. worth * (by_actor limits entries begin_of top a + hindering)) limits.actors ≡ worth *
+      (sum (by_actor limits entries begin_of top) limits.actors + limits.actors * hindering) = sum_worth
       worth hindering (by_actor limits entries begin_of top) limits.actors in
       let bound : limits.actors * hindering ≤ limits.actors * (32 * count_by is_begin (take top entries) + limits.rows + limits.pids) = mul-le-mul_left
       limits.actors (omega (arith, changed, takes, taken)) in
@@ -334,7 +336,8 @@ pub by_ends : (limits : Limits) (worth steps begun ended : ℕ) → begun ≤ en
     → steps ≤ worth * (ended + limits.actors + limits.actors * (32 * (ended + limits.actors) + limits.rows + limits.pids))
 by_ends limits worth steps begun ended most few =
     let inner : limits.actors * (32 * begun + limits.rows + limits.pids) ≤ limits.actors * (32 * (ended + limits.actors) + limits.rows + limits.pids) = mul-le-mul_left limits.actors (omega arith) in
-    let outer : worth * (begun + limits.actors * (32 * begun + limits.rows + limits.pids)) ≤ worth * (ended + limits.actors + limits.actors * (32 * (ended + limits.actors) + limits.rows + limits.pids)) = mul-le-mul_left
+    let outer : worth * (begun + limits.actors * (32 * begun + limits.rows + limits.pids)) ≤ worth *
+    (ended + limits.actors + limits.actors * (32 * (ended + limits.actors) + limits.rows + limits.pids)) = mul-le-mul_left
     (worth) (omega (arith, inner)) in
     omega (arith, few, outer)
 

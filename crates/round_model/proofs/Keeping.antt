@@ -207,6 +207,7 @@ module _ (limits : Limits) (key : List ℕ) (floor : ℕ) (goal : WriteGoal) (pa
   pub reached_next : (version : Version) → Completes visit told version → HasReached limits key floor goal parent left k (learn k (wanted_step visit) told) (recall r (wanted_step visit) told) version
   reached_next version b =
       let fits = there visit FitsAt (Row version.head b.row) (answer.Content b.content) told b.asked b.is f in
-      back visit (λ v x. HasReached limits key floor goal parent left k (learn k (wanted_step v) x) (recall r (wanted_step v) x) version) (Row version.head b.row) (answer.Content b.content) told b.asked b.is
+      back visit (λ v x. HasReached limits key floor goal parent left k (learn k (wanted_step v) x) (recall r (wanted_step v) x) version)
+      (Row version.head b.row) (answer.Content b.content) told b.asked b.is
       (reaches_whole limits key floor goal parent left k r visit b.row b.content fits version b.pid b.chain b.last
       (there visit VisitsAt (Row version.head b.row) (answer.Content b.content) told b.asked b.is h))

@@ -231,7 +231,8 @@ module _ (limits : Limits) (key : List ℕ) (goal : ReadGoal) (leg : Leg) (k : K
 
     was_next : WasOn limits k (learn k (wanted_step visit) told) (recall r (wanted_step visit) told) goal version h.level h.earlier leg
     was_next =
-        back visit (λ v x. WasOn limits k (learn k (wanted_step v) x) (recall r (wanted_step v) x) goal version h.level h.earlier leg) (Row version.head b.row) (answer.Content b.content) told b.asked b.is
+        back visit (λ v x. WasOn limits k (learn k (wanted_step v) x) (recall r (wanted_step v) x) goal version h.level h.earlier leg) (Row version.head b.row)
+        (answer.Content b.content) told b.asked b.is
         (was_row limits key k r visit b.row b.content fits version b.pid b.chain version.head h.level h.earlier goal leg
         (there visit OnAt (Row version.head b.row) (answer.Content b.content) told b.asked b.is h.leg_is))
 

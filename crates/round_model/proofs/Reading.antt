@@ -197,7 +197,8 @@ module _ (old new : ReadRound) (told : Answer Record) (visit : page.Visit) where
       by_result k r result
       (treated here k (learn k (page.wanted_step visit) told) (recall r (page.wanted_step visit) told) version (whole old.limits old.key old.goal k r visit told f old.leg h version b) new result sees)
     where
-      by_result : (k : Knowledge) (r : Recalled) (o : Option ReadEnd) → After here (learn k (page.wanted_step visit) told) (recall r (page.wanted_step visit) told) new o → Follows reading k r here told new o
+      by_result : (k : Knowledge) (r : Recalled) (o : Option ReadEnd)
+          → After here (learn k (page.wanted_step visit) told) (recall r (page.wanted_step visit) told) new o → Follows reading k r here told new o
       by_result k r None a = a
       by_result k r (Some end) a = a
 
@@ -242,11 +243,13 @@ module _ (old new : ReadRound) (told : Answer Record) (visit : page.Visit) where
       less = left_on reserve old.limits s.way s.beyond k r visit s.level s.low s.earlier told s.seeks f version b
 
       more : is_removed version.chain ≡ false → (goal : ReadGoal) → old.goal ≡ goal
-          → reads_left_at old.limits reserve (recall r (page.wanted_step visit) told).walk [] Slot + read_round_kept kept goal < reads_left_in old.limits reserve r visit + read_round_kept kept old.goal
+          → reads_left_at old.limits reserve (recall r (page.wanted_step visit) told).walk [] Slot + read_round_kept kept goal < reads_left_in old.limits
+          reserve r visit + read_round_kept kept old.goal
       more alive goal e = let l = less alive in rw e (omega (arith, l))
 
       gone_on : is_removed version.chain ≡ true → (above : Version) → above_of old.leg ≡ Some above
-          → reads_left_at old.limits reserve (recall r (page.wanted_step visit) told).walk [] Slot + read_round_kept kept old.goal < reads_left_in old.limits reserve r visit + read_round_kept kept old.goal
+          → reads_left_at old.limits reserve (recall r (page.wanted_step visit) told).walk [] Slot + read_round_kept kept old.goal < reads_left_in old.limits
+          reserve r visit + read_round_kept kept old.goal
       gone_on gone above e = let l = left_round reserve old.limits s.way s.beyond k r visit s.level s.low s.earlier told s.seeks f version b gone (unpassed_at gone above e) in omega (arith, l)
 
       reserved : is_removed version.chain ≡ true → reserve < reads_left_in old.limits reserve r visit

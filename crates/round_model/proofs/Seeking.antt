@@ -97,7 +97,8 @@ module _ (limits : Limits) (way : List ℕ → Bool) (beyond : Bool) (k : Knowle
   abbrev FitsAt : Visit → Answer Record → Type 0
   FitsAt v x = Fits limits k (wanted_step v) x
 
-  pub seeks_next : (new : Visit) → FindsHead visit told new ⊎ Continues visit told new → IsSeeking limits way beyond (learn k (wanted_step visit) told) (recall r (wanted_step visit) told) new level low earlier
+  pub seeks_next : (new : Visit) → FindsHead visit told new ⊎ Continues visit told new
+      → IsSeeking limits way beyond (learn k (wanted_step visit) told) (recall r (wanted_step visit) told) new level low earlier
   seeks_next new moves =
       let P : Visit → Answer Record → Type 0 = λ v x. IsSeeking limits way beyond (learn k (wanted_step v) x) (recall r (wanted_step v) x) new level low earlier in
       elim moves [

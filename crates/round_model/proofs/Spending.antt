@@ -160,7 +160,8 @@ module _ (reserve : ℕ) (limits : Limits) (way : List ℕ → Bool) (beyond : B
       -- the base is no removal
       pub base_passed : (recall r (wanted_step visit) told).walk.passed ≡ r.walk.passed
       base_passed =
-          back visit (λ v x. (recall r (wanted_step v) x).walk.passed ≡ r.walk.passed) (Row version.head b.row) (answer.Content b.content) told b.asked b.is (rw (base_is_none b.content r.walk b.last) refl)
+          back visit (λ v x. (recall r (wanted_step v) x).walk.passed ≡ r.walk.passed) (Row version.head b.row) (answer.Content b.content) told b.asked b.is
+          (rw (base_is_none b.content r.walk b.last) refl)
 
       -- once a removed page was met, what is reserved is left
       pub left_kept : r.walk.removed ≡ true → reserve < reads_left_in limits reserve r visit

@@ -104,7 +104,8 @@ module _ (k : Knowledge) (old : Visit) where
   continues : (told : Answer Record) (new : Visit) → Continues old told new → Shows old k → Fits old.limits k (wanted_step old) told → Follows k old told new None
   continues told new b = back old (Then new None) (Row b.head b.row) (answer.Content b.content) told b.asked b.is (λ h f. rw b.goes (goes_on k old b.head b.row b.content b.under b.more h f))
 
-  completes : (told : Answer Record) (new : Visit) (version : Version) → Completes old told version → Shows old k → Fits old.limits k (wanted_step old) told → Follows k old told new (Some (Whole version))
+  completes : (told : Answer Record) (new : Visit) (version : Version) → Completes old told version → Shows old k → Fits old.limits k (wanted_step old) told
+      → Follows k old told new (Some (Whole version))
   completes told new version b =
       back old (Then new (Some (Whole version))) (Row version.head b.row) (answer.Content b.content) told b.asked b.is (λ h f. arrives_at k old b.row b.content version b.pid b.chain b.last h f)
 

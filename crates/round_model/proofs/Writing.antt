@@ -37,7 +37,8 @@ module _ (old new : WriteRound) (told : Answer Record) (visit : page.Visit) wher
       by_result k r result (treated here k (learn k (page.wanted_step visit) told) (recall r (page.wanted_step visit) told) version
       (reached_next old.limits old.key old.floor old.goal old.parent old.left k r visit told h f version b) new result sees)
     where
-      by_result : (k : Knowledge) (r : Recalled) (o : Option WriteEnd) → After here (learn k (page.wanted_step visit) told) (recall r (page.wanted_step visit) told) new o → Follows writing k r here told new o
+      by_result : (k : Knowledge) (r : Recalled) (o : Option WriteEnd)
+          → After here (learn k (page.wanted_step visit) told) (recall r (page.wanted_step visit) told) new o → Follows writing k r here told new o
       by_result k r None a = a
       by_result k r (Some end) a = a
 
@@ -60,7 +61,8 @@ module _ (old new : WriteRound) (told : Answer Record) (visit : page.Visit) wher
       less = left_on reserve old.limits way_here (is_cutting old.goal) k r visit h.level h.low h.earlier told h.seeks f version b
 
       more : is_removed version.chain ≡ false → (goal : WriteGoal) → old.goal ≡ goal
-          → reads_left_at old.limits reserve (recall r (page.wanted_step visit) told).walk [] Slot + write_round_kept kept goal < reads_left_in old.limits reserve r visit + write_round_kept kept old.goal
+          → reads_left_at old.limits reserve (recall r (page.wanted_step visit) told).walk [] Slot + write_round_kept kept goal < reads_left_in old.limits
+          reserve r visit + write_round_kept kept old.goal
       more alive goal e = let l = less alive in rw e (omega (arith, l))
 
       some_left : write_round_kept kept old.goal < reads_left_in old.limits reserve r visit + write_round_kept kept old.goal
@@ -181,7 +183,8 @@ can_see old other told (Whole version) b t =
     let f : Fits old.limits t.k (page.wanted_step visit) told = subst (λ (s : WayState). Fits old.limits t.k (wanted_step (at old s)) told) b.asked t.fits in
     let d = reached_next old.limits old.key old.floor old.goal old.parent old.left t.k t.r visit told h f version b.responds in
     record {
-      reached = reached old.limits t.k (learn t.k (page.wanted_step visit) told) (recall t.r (page.wanted_step visit) told) version d.level d.low d.earlier d.arrives (write_way old.goal old.key) d.passing;
+      reached = reached old.limits t.k (learn t.k (page.wanted_step visit) told)
+          (recall t.r (page.wanted_step visit) told) version d.level d.low d.earlier d.arrives (write_way old.goal old.key) d.passing;
       above = IfSome_then old.parent d.above (λ other i. i.kept.alive);
       meets = meets_at t.k (learn t.k (page.wanted_step visit) told) d.earlier old.goal d.passed;
     }

@@ -53,7 +53,15 @@ impl<R: Rows, A: Allocator> Model for Course<R, A> {
 
     ghost Value = { PlacedCourse };
 
-    ghost view = { λ c. record { course = record { goal = write_goal c.goal c.parent c.left; parent = kept_if c.has_parent c.parent; left = kept_if c.has_left c.left }; parent = c.parent; left = c.left } };
+    ghost view = { λ c. record {
+      course = record {
+        goal = write_goal c.goal c.parent c.left;
+        parent = kept_if c.has_parent c.parent;
+        left = kept_if c.has_left c.left;
+      };
+      parent = c.parent;
+      left = c.left;
+    } };
 }
 
 impl<R: Rows, A: Allocator + Copy> Course<R, A> {

@@ -81,7 +81,18 @@ impl<R: Rows, A: Allocator> Model for ReadRound<R, A> {
 
     ghost Value = { PlacedRead };
 
-    ghost view = { λ r. record { round = record { limits = r.descent.way.limits; key = r.key; goal = read_goal r.goal r.aside; leg = r.leg.leg; state = r.descent.way.state }; page = r.descent.page; aside = r.aside; met = r.leg.page } };
+    ghost view = { λ r. record {
+      round = record {
+        limits = r.descent.way.limits;
+        key = r.key;
+        goal = read_goal r.goal r.aside;
+        leg = r.leg.leg;
+        state = r.descent.way.state;
+      };
+      page = r.descent.page;
+      aside = r.aside;
+      met = r.leg.page;
+    } };
 }
 
 impl<R: Rows, A: Allocator + Copy> ReadRound<R, A> {
@@ -230,7 +241,8 @@ impl<R: Rows, A: Allocator> ReadRound<R, A> {
     fn next_aside(&self, rows: &R, pass: &mut R::Pass) -> Option<u32>
         requires read { AreReadFor (R.has rows.now pass.old) self.now.round self.now.page }
         ensures looks { pass.new ≡ pass.old }
-        ensures leads { MatchOption result (StaysLeft (read_way self.now.round.goal self.now.round.key) self.now.page.chain) (LeadsRight (read_way self.now.round.goal self.now.round.key) self.now.page.chain) }
+        ensures leads { MatchOption result (StaysLeft (read_way self.now.round.goal self.now.round.key) self.now.page.chain)
+            (LeadsRight (read_way self.now.round.goal self.now.round.key) self.now.page.chain) }
     {
         match self.goal {
             ReadGoalKind::Left => self.right_to_the_left(rows, pass),

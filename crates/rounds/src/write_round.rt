@@ -62,7 +62,24 @@ impl<R: Rows, A: Allocator> Model for WriteRound<R, A> {
 
     ghost Value = { PlacedWrite };
 
-    ghost view = { λ r. record { round = record { limits = r.descent.way.limits; key = r.key; due = r.due; tends = r.tends; floor = r.floor; goal = r.course.course.goal; parent = r.course.course.parent; left = r.course.course.left; state = r.descent.way.state }; page = r.descent.page; parent = r.course.parent; left = r.course.left; plan = r.plan; after = r.after } };
+    ghost view = { λ r. record {
+      round = record {
+        limits = r.descent.way.limits;
+        key = r.key;
+        due = r.due;
+        tends = r.tends;
+        floor = r.floor;
+        goal = r.course.course.goal;
+        parent = r.course.course.parent;
+        left = r.course.course.left;
+        state = r.descent.way.state;
+      };
+      page = r.descent.page;
+      parent = r.course.parent;
+      left = r.course.left;
+      plan = r.plan;
+      after = r.after;
+    } };
 }
 
 impl<R: Rows, A: Allocator + Copy> WriteRound<R, A> {
@@ -96,7 +113,19 @@ impl<R: Rows, A: Allocator> WriteRound<R, A> {
     /// where the round tends such pages.
     pub fn restart(&mut self, key: &Key, due: usize, tends: bool)
         requires due { 0 < due }
-        ensures { self.new ≡ record self.old { round = record { limits = self.old.round.limits; key = key.now; due = due; tends = tends; floor = 0; goal = goal.Seek; parent = None; left = None; state = Root } } }
+        ensures { self.new ≡ record self.old {
+          round = record {
+            limits = self.old.round.limits;
+            key = key.now;
+            due = due;
+            tends = tends;
+            floor = 0;
+            goal = goal.Seek;
+            parent = None;
+            left = None;
+            state = Root;
+          };
+        } }
     {
         self.key = KeyWords::of(key);
         self.due = due;
@@ -108,7 +137,19 @@ impl<R: Rows, A: Allocator> WriteRound<R, A> {
 
     /// Begins a round to the left of a removed page of this level, which begins at the key.
     pub fn restart_left(&mut self, key: &Key, removed: u32, level: u8)
-        ensures { self.new ≡ record self.old { round = record { limits = self.old.round.limits; key = key.now; due = 8; tends = false; floor = level; goal = goal.Left removed; parent = None; left = None; state = Root } } }
+        ensures { self.new ≡ record self.old {
+          round = record {
+            limits = self.old.round.limits;
+            key = key.now;
+            due = 8;
+            tends = false;
+            floor = level;
+            goal = goal.Left removed;
+            parent = None;
+            left = None;
+            state = Root;
+          };
+        } }
     {
         self.key = KeyWords::of(key);
         self.due = MANY_DELTAS;
@@ -284,7 +325,8 @@ impl<R: Rows, A: Allocator> WriteRound<R, A> {
     fn next_aside(&self, rows: &R, pass: &mut R::Pass) -> Option<u32>
         requires read { IsReadPage (R.has rows.now pass.old) self.now.page }
         ensures looks { pass.new ≡ pass.old }
-        ensures aside { MatchOption result (StaysLeft (write_way self.now.round.goal self.now.round.key) self.now.page.chain) (LeadsRight (write_way self.now.round.goal self.now.round.key) self.now.page.chain) }
+        ensures aside { MatchOption result (StaysLeft (write_way self.now.round.goal self.now.round.key) self.now.page.chain)
+            (LeadsRight (write_way self.now.round.goal self.now.round.key) self.now.page.chain) }
     {
         right_on_way(self.page().chain(), rows, pass, &self.key, self.is_left())
     }

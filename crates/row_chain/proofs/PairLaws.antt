@@ -51,7 +51,8 @@ among_ascends : (d : Direction) (bound : List ℕ) (items : List Item) → Ascen
 unfolding IsStrictlySortedBy
 among_ascends d bound [] h = tt
 among_ascends d bound (item ∷ items) h =
-    shown_ascends (leaves_out d bound item.key) item.key item.content (pairs_shown d bound items) (all_among (λ other. key_cmp item.key other ≡ Less) d bound items h.0) (among_ascends d bound items h.1)
+    shown_ascends (leaves_out d bound item.key) item.key item.content (pairs_shown d bound items)
+    (all_among (λ other. key_cmp item.key other ≡ Less) d bound items h.0) (among_ascends d bound items h.1)
 
 -- what they have at a key
 

@@ -60,7 +60,8 @@ packed_order : (n : ℕ) (x y : List ℕ) → AreBytes x → AreBytes y → nat_
 packed_order zero x y h g = refl
 packed_order (suc n) x y h g =
     (λ i. nat_cmp (packed_first n x i) (packed_first n y i))
-    ∙ sym (digit (256 ^ n) (get_or x 0 0) (get_or y 0 0) (big_endian n (drop 1 x)) (big_endian n (drop 1 y)) (packed_below n (drop 1 x) (behind_bytes x h)) (packed_below n (drop 1 y) (behind_bytes y g)))
+    ∙ sym (digit (256 ^ n) (get_or x 0 0) (get_or y 0 0) (big_endian n (drop 1 x)) (big_endian n (drop 1 y)) (packed_below n (drop 1 x) (behind_bytes x h))
+    (packed_below n (drop 1 y) (behind_bytes y g)))
     ∙ ap (ordering_then (nat_cmp (get_or x 0 0) (get_or y 0 0))) (packed_order n (drop 1 x) (drop 1 y) (behind_bytes x h) (behind_bytes y g))
 
 drop_one : (n : ℕ) (xs : List ℕ) → drop n (drop 1 xs) ≡ drop (suc n) xs

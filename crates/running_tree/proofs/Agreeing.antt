@@ -5,7 +5,8 @@ use Rattle.std.proofs.lemmas.Bool.{cases_lt, cases_eq, eq-eqb, ne_eqb, lt-ltb, l
 use Rattle.deltas.specs.declared.record.Record.{Record}
 use Rattle.record_slots.specs.Layout.{form_unit, item_size, items_at, part_limit, this_form}
 use Rattle.compact_rows.specs.Layout.{content_unit, first_unit, length_unit, next_unit, second_unit}
-use Rattle.compact_rows.specs.Seen.{bound_size, code_at, code_number, code_tail, count_seen, first_length, first_seen, first_text_at, item_seen, items_seen, level_seen, place_seen, second_length, second_seen, second_text_at, seen, text_seen, value_seen}
+use Rattle.compact_rows.specs.Seen.{bound_size, code_at, code_number, code_tail, count_seen, first_length, first_seen, first_text_at, item_seen, items_seen}
+use Rattle.compact_rows.specs.Seen.{level_seen, place_seen, second_length, second_seen, second_text_at, seen, text_seen, value_seen}
 use Rattle.compact_rows.specs.Spelling.{compact_words, words_for}
 use Rattle.compact_rows.specs.Spells.{IsCompact}
 use Rattle.compact_rows.specs.Spread.{HoldsText}
@@ -38,7 +39,8 @@ module _ (words ws : List ℕ) (same : (j : ℕ) → j < length words → get_or
       else if j == 9 then code_number code
       else value_same level code (j - 10) held i
 
-module _ (content : Record) (h : IsCompact content (compact_words content)) (ws : List ℕ) (same : (j : ℕ) → j < length (compact_words content) → get_or ws j 0 ≡ get_or (compact_words content) j 0) where
+module _ (content : Record) (h : IsCompact content (compact_words content)) (ws : List ℕ)
+    (same : (j : ℕ) → j < length (compact_words content) → get_or ws j 0 ≡ get_or (compact_words content) j 0) where
   abbrev words : List ℕ
   words = compact_words content
 
@@ -75,7 +77,8 @@ module _ (content : Record) (h : IsCompact content (compact_words content)) (ws 
         ap (λ n. get_or ws (2 + n + place) 0) count_same ∙ same (2 + count_seen words + place) (code_within content h place within) in
         let head = same (2 + place) (head_within content h place within) in
         (λ i. if ltb place (count_same i) then item_seen ws (level_same i) (head i) (code i) j else 0)
-        ∙ if_true (ltb place (count_seen words)) (item_seen ws (level_seen words) (get_or words (2 + place) 0) (get_or words (2 + count_seen words + place) 0) j) 0 (lt-ltb place (count_seen words) within)
+        ∙ if_true (ltb place (count_seen words)) (item_seen ws (level_seen words) (get_or words (2 + place) 0)
+        (get_or words (2 + count_seen words + place) 0) j) 0 (lt-ltb place (count_seen words) within)
         ∙ item_same words ws same (level_seen words) (get_or words (2 + place) 0) (get_or words (2 + count_seen words + place) 0) j (text_within content h place within)
         ∙ sym (if_true (ltb place (count_seen words)) (item_seen words (level_seen words) (get_or words (2 + place) 0) (get_or words (2 + count_seen words + place) 0) j) 0
         (lt-ltb place (count_seen words) within))

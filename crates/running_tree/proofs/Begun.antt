@@ -73,8 +73,10 @@ module _ (laws : HaveLaws) (limits : Limits) (a : ℕ) (seen : List Entry) (now 
             (subst (λ q. IsActorWith limits a (after_begin (knows seen a) command) q new.hand new.running) recalled shows);
         runs = has ∙ sym (ap (λ (cs : ℕ → Option Command). cs a) grows.commands ∙ replaced_same a (Some command) (command_of run));
         pays = subst (λ q. Accounts limits (run ++ Begin a command ∷ []) a (steps_due q new.hand new.running)) recalled direct.account;
-        reads = laws.readers.begun limits run a command (after_begin (knows seen a) command) blank new shows (idle_outside limits a (knows seen a) (recalls seen a) now.hand now.running idle h.shows) has;
-        writes = laws.writers.begun limits run a command (after_begin (knows seen a) command) blank new shows (idle_outside limits a (knows seen a) (recalls seen a) now.hand now.running idle h.shows) has;
+        reads = laws.readers.begun limits run a command (after_begin (knows seen a) command) blank new shows
+            (idle_outside limits a (knows seen a) (recalls seen a) now.hand now.running idle h.shows) has;
+        writes = laws.writers.begun limits run a command (after_begin (knows seen a) command) blank new shows
+            (idle_outside limits a (knows seen a) (recalls seen a) now.hand now.running idle h.shows) has;
         lacks = lack_begun limits a run command new.lacks quiet;
       }
 

@@ -67,7 +67,8 @@ large_used limits large content j low = subst (λ (b : Bool). j < (if b then len
 
 read_is : (limits : Limits) → limits.is_large ≡ false → (words : List ℕ) (memory : Memory) (row : ℕ) (read : List ℕ) → (keep : KeepMemory limits words memory) → row < limits.rows
     → IsRead limits words row read → (j : ℕ) → j < row_size → slice_index read j ≡ slice_index (words_in limits (memory.rows row)) j
-read_is limits small words memory row read keep there is j below = is j below ∙ keep.are.spells.rows row j there (let wide = (one_width limits small row).1 in omega (arith, below, wide)) (small_used limits small (memory.rows row) j below) tt
+read_is limits small words memory row read keep there is j below = is j below
+    ∙ keep.are.spells.rows row j there (let wide = (one_width limits small row).1 in omega (arith, below, wide)) (small_used limits small (memory.rows row) j below) tt
 
 -- the words that were read spell the record
 pub row_spells : (limits : Limits) → limits.is_large ≡ false → (words : List ℕ) (memory : Memory) (row : ℕ) (content : Record) (read : List ℕ)
@@ -118,7 +119,8 @@ pub row_set : (limits : Limits) (words all : List ℕ) (row j found : ℕ) → (
     → get_elem? all (row_at limits row j) ≡ some found
     → (i : ℕ) → i < j + 1 → slice_index (slice_set words j found) i ≡ slice_index all (row_at limits row i)
 row_set limits words all row j found each short at i below = dite (ℕ_discrete i j)
-    (λ same. ap (slice_index (slice_set words j found)) same ∙ get_or-set_same words j found 0 short ∙ sym (word_at all (row_at limits row j) found at) ∙ ap (λ k. slice_index all (row_at limits row k)) (sym same))
+    (λ same. ap (slice_index (slice_set words j found)) same ∙ get_or-set_same words j found 0 short ∙ sym (word_at all (row_at limits row j) found at)
+    ∙ ap (λ k. slice_index all (row_at limits row k)) (sym same))
     (λ other. get_or-set_other words j i found 0 other ∙ each i (omega (arith, below, other)))
 
 -- a word of a record of a large tree
@@ -132,8 +134,10 @@ module _ (limits : Limits) (large : limits.is_large ≡ true) (words : List ℕ)
       let there = (keep.kept row content at).there in
       let room = compact_is.room in
       let used' : j < used_in limits (memory.rows row) = subst (λ o. j < used_in limits o) (sym at) (large_used limits large content j used) in
-      let fills : length (compact_words content) ≤ width_of limits row = subst (λ (ws : List ℕ). length ws ≤ width_of limits row) (large_stored limits large content) (keep.kept row content at).fills in
-      keep.are.spells.rows row j there (omega (arith, used, fills)) used' tt ∙ ap (λ o. slice_index (words_in limits o) j) at ∙ ap (λ (ws : List ℕ). slice_index ws j) (large_stored limits large content)
+      let fills : length (compact_words content) ≤ width_of limits row =
+      subst (λ (ws : List ℕ). length ws ≤ width_of limits row) (large_stored limits large content) (keep.kept row content at).fills in
+      keep.are.spells.rows row j there (omega (arith, used, fills)) used' tt ∙ ap (λ o. slice_index (words_in limits o) j) at
+      ∙ ap (λ (ws : List ℕ). slice_index ws j) (large_stored limits large content)
 
   -- the words that are seen spell the record
   pub spread_spells : (read spread : List ℕ) → IsRead limits words row read → length spread ≡ row_size → ((j : ℕ) → j < row_size → slice_index spread j ≡ seen read j) → IsSpelling content spread

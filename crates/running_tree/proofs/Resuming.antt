@@ -1,5 +1,6 @@
 -- A call that was spent, and goes on.
-use Rattle.running_tree.proofs.Words.{◌+◌, ◌++◌, ◌∷◌, List, append_assoc, Begin, StartsWith, ℕ, ap, ◌∙◌, arith, Command, Reply, IsCalled, IsDone, IsFinished, IsResumed, IsSpent, IsStill, answered_last, calls_in, Seat, Called}
+use Rattle.running_tree.proofs.Words.{◌+◌, ◌++◌, ◌∷◌, List, append_assoc, Begin, StartsWith, ℕ, ap, ◌∙◌, arith, Command, Reply, IsCalled, IsDone, IsFinished}
+use Rattle.running_tree.proofs.Words.{IsResumed, IsSpent, IsStill, answered_last, calls_in, Seat, Called}
 use Rattle.std.specs.Prelude.{None}
 use Rattle.traces.specs.declared.trace.Entry.{Entry}
 use Rattle.running_tree.specs.Calls.{BeginsIn}

@@ -44,7 +44,9 @@ impl<'a, A: Allocator> RecordRows for ClosedRows<'a, A> {
 
 /// The record of a row of a small tree.
 fn spelt_record<A: Allocator>(rows: &ClosedRows<A>, row: u32) -> Record
-    requires stands { (memory : Memory) × (content : RecordSeen) × (AreFilled rows.now.closed.now.words.filled rows.now.closed.now.words.len × KeepMemory rows.now.limits.now rows.now.closed.now.words.items memory) × (memory.rows row ≡ Some content) }
+    requires stands { (memory : Memory) × (content : RecordSeen)
+        × (AreFilled rows.now.closed.now.words.filled rows.now.closed.now.words.len × KeepMemory rows.now.limits.now rows.now.closed.now.words.items memory)
+        × (memory.rows row ≡ Some content) }
     requires small { rows.now.limits.now.is_large ≡ false }
     ensures { (memory : Memory) → AreFilled rows.now.closed.now.words.filled rows.now.closed.now.words.len × KeepMemory rows.now.limits.now rows.now.closed.now.words.items memory
         → memory.rows row ≡ Some result }
@@ -59,7 +61,9 @@ fn spelt_record<A: Allocator>(rows: &ClosedRows<A>, row: u32) -> Record
 
 /// The record of a row of a large tree.
 fn compact_record<A: Allocator>(rows: &ClosedRows<A>, row: u32) -> Record
-    requires stands { (memory : Memory) × (content : RecordSeen) × (AreFilled rows.now.closed.now.words.filled rows.now.closed.now.words.len × KeepMemory rows.now.limits.now rows.now.closed.now.words.items memory) × (memory.rows row ≡ Some content) }
+    requires stands { (memory : Memory) × (content : RecordSeen)
+        × (AreFilled rows.now.closed.now.words.filled rows.now.closed.now.words.len × KeepMemory rows.now.limits.now rows.now.closed.now.words.items memory)
+        × (memory.rows row ≡ Some content) }
     requires large { rows.now.limits.now.is_large ≡ true }
     ensures { (memory : Memory) → AreFilled rows.now.closed.now.words.filled rows.now.closed.now.words.len × KeepMemory rows.now.limits.now rows.now.closed.now.words.items memory
         → memory.rows row ≡ Some result }

@@ -19,7 +19,8 @@ use Rattle.progress.specs.WriterStates.{IsWritersState, PaysWriter}
 abbrev pub Pays : Limits → List Entry → ℕ → Actor → Type 0
 Pays limits entries actor at = Accounts limits entries actor (steps_due (recalls entries actor) at.hand at.running)
 
--- The trace is one in which each actor obeyed its discipline, by few steps and few changes, and each reader by few for each change, and each writer met what is gone seldom. The table has the memory after it; each actor
+-- The trace is one in which each actor obeyed its discipline, by few steps and few changes, and each reader by few for each change, and each writer met what is
+-- gone seldom. The table has the memory after it; each actor
 -- keeps what shows what the trace lets it know and recall, and runs what the trace says that it has not finished.
 pub record IsCore (limits : Limits) (table : CoreTable) (actors : List Actor) (entries : List Entry) : Type 0 where
   pub state : IsState limits entries

@@ -23,7 +23,8 @@ chain_stays rows row new start [] h a = h
 chain_stays rows row new start (x ∷ xs) h a = (
   replaced_other row new rows start a.0 ∙ h.0,
   elim (next_row x) as
-      (λ o. MatchOption o (xs ≡ []) (λ next. IsChainFrom rows next xs) → Avoids row (chain_rows (unwrap_or o 0) xs) → MatchOption o (xs ≡ []) (λ next. IsChainFrom (replaced_at row new rows) next xs)) [
+      (λ o. MatchOption o (xs ≡ []) (λ next. IsChainFrom rows next xs) → Avoids row (chain_rows (unwrap_or o 0) xs)
+      → MatchOption o (xs ≡ []) (λ next. IsChainFrom (replaced_at row new rows) next xs)) [
         | None ↦ λ e b. e
         | Some next ↦ λ under b. chain_stays rows row new next xs under b
       ] h.1 a.1,

@@ -207,7 +207,8 @@ module _ (limits : Limits) (large : limits.is_large ≡ true) where
   moves_short (state.Announce announced) next (answer.Number n) limbo after sound clear moves =
       further next (compares_short (with_next n announced) limbo after next clear (omega (arith, sound)) moves)
     where
-      further : (next : Option State) → GoesShort limits (suc (limits.actors + 2 * MOST_COMPARED - suc (suc announced.count))) next after → GoesShort limits (limits.actors + 2 * MOST_COMPARED - suc announced.count) next after
+      further : (next : Option State) → GoesShort limits (suc (limits.actors + 2 * MOST_COMPARED - suc (suc announced.count))) next after
+          → GoesShort limits (limits.actors + 2 * MOST_COMPARED - suc announced.count) next after
       further None h = h
       further (Some next) h = (h.0, (let less = h.1 in omega (arith, less, sound)))
   moves_short (state.Announce announced) next answer.Start limbo after sound clear moves = absurd moves

@@ -140,7 +140,8 @@ rows_apart seen one head [] is some = absurd is
 rows_apart seen one head (x ∷ xs) is some = elim (next_row x) as (λ o. next_row x ≡ o → MatchOption o (xs ≡ []) (λ next. IsChainFrom seen next xs) →
     ((row : ℕ) → is_one (chain_rows (unwrap_or o 0) xs) row ≡ true → 0 < row) → AllPairs (λ one other. one ≢ other) (head ∷ chain_rows (unwrap_or o 0) xs)) [
       | None ↦ λ e empty more. rw empty (λ i j d before within. absurd (omega (arith, before, within)))
-      | Some next ↦ λ e under more. AllPairs-cons (λ one other. one ≢ other) head (chain_rows next xs) (is_none (chain_rows next xs) head (not_below next under)) (rows_apart seen one next xs under more)
+      | Some next ↦ λ e under more. AllPairs-cons (λ one other. one ≢ other) head (chain_rows next xs)
+          (is_none (chain_rows next xs) head (not_below next under)) (rows_apart seen one next xs under more)
     ] refl is.1 (λ row on. some row (or_right (eqb head row) (is_one (chain_rows (unwrap_or (next_row x) 0) xs) row) on))
   where
     not_below : (next : ℕ) → IsChainFrom seen next xs → is_one (chain_rows next xs) head ≡ false

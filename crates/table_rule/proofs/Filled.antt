@@ -65,16 +65,19 @@ module _ (limits : Limits) (law : Limits → List Entry → Type 0) (apart : Kee
       may_now = subst (λ k. KnowsPlaceable k row) (sym (knows_now limits law s h id actor (seen_of me) (Writing row first written) tt there)) owned
 
       -- a row of which the seat has written no word
-      other_row : (i k x other j : ℕ) (view : List Part) → i ≡ row_at limits row k → k < width_of limits row → other < limits.rows → j < width_of limits other → j < used_in limits ((memory_of limits h.run).rows other) → row ≢ other → IsSettled (set s.views id view) other
+      other_row : (i k x other j : ℕ) (view : List Part) → i ≡ row_at limits row k → k < width_of limits row → other < limits.rows → j < width_of limits other
+          → j < used_in limits ((memory_of limits h.run).rows other) → row ≢ other → IsSettled (set s.views id view) other
           → get_or (set s.words i x) (row_at limits other j) 0 ≡ get_or (words_in limits ((memory_of limits h.run).rows other)) j 0
-      other_row i k x other j view at small below short used ne st = get_or-set_other s.words i (row_at limits other j) x 0 (λ e. ne (same_place limits row other k j small short (omega (arith, e, at))))
+      other_row i k x other j view at small below short used ne st =
+          get_or-set_other s.words i (row_at limits other j) x 0 (λ e. ne (same_place limits row other k j small short (omega (arith, e, at))))
           ∙ h.spells.rows other j below short used (settled_back s.views id limits actor (seen_of me) (Writing row first written) view other there ne st)
 
       -- a row into which another seat writes
       others_row : (k x other row' j : ℕ) → k < width_of limits row → other ≢ actor → KnowsPlaceable (knows h.run other) row' → j < width_of limits row'
           → get_or (set s.words (row_at limits row k) x) (row_at limits row' j) 0 ≡ get_or s.words (row_at limits row' j) 0
       others_row k x other row' j small ne may short =
-          let no : row' ≢ row = no_other limits law apart actor other row row' h.run h.legal may_now ne may in get_or-set_other s.words (row_at limits row k) (row_at limits row' j) x 0 (λ e. no (same_place limits row' row j k short small (omega (arith, e))))
+          let no : row' ≢ row = no_other limits law apart actor other row row' h.run h.legal may_now ne may in
+          get_or-set_other s.words (row_at limits row k) (row_at limits row' j) x 0 (λ e. no (same_place limits row' row j k short small (omega (arith, e))))
 
     -- the words that are written, with one more
     stand_with : (words : List ℕ) (x : ℕ) → row_at limits row (length written + 1) < length words → ((j : ℕ) → j < length written → get_or words (row_at limits row (j + 1)) 0 ≡ get_or written j 0)
@@ -130,7 +133,8 @@ module _ (limits : Limits) (law : Limits → List Entry → Type 0) (apart : Kee
     placed_word : (s : TableState) (h : Rule limits law s) (header : ℕ) (content : Record) (j : ℕ) → IsPartWritten limits s.words h.run actor row first written
         → IsEnough limits content header first written → j < width_of limits row → j < used_in limits (Some content)
         → get_or (set s.words (row_at limits row 0) header) (row_at limits row j) 0 ≡ get_or (stored limits content) j 0
-    placed_word s h header content zero fits enough small used = let wide = h.wide in let inside = row_within limits row within in get_or-set_same s.words (row_at limits row 0) header 0 (omega arith) ∙ enough.head
+    placed_word s h header content zero fits enough small used = let wide = h.wide in let inside = row_within limits row within in
+        get_or-set_same s.words (row_at limits row 0) header 0 (omega arith) ∙ enough.head
     placed_word s h header content (suc j) fits enough small used =
         let next : suc j ≡ j + 1 = omega arith in
         get_or-set_other s.words (row_at limits row 0) (row_at limits row (suc j)) header 0 (omega arith)
@@ -152,13 +156,16 @@ module _ (limits : Limits) (law : Limits → List Entry → Type 0) (apart : Kee
         behind kind above =
             let old : used_by (get_or (words_in limits there) 0 0) ≤ length written + 1 = subst (λ (u : ℕ). used_by u ≤ length written + 1) fits.old (enough.both kind).1 in
             let new : used_by (get_or (stored limits content) 0 0) ≤ length written + 1 = subst (λ (u : ℕ). used_by u ≤ length written + 1) enough.head (enough.both kind).0 in
-            fits.behind kind (suc j) (omega (arith, above)) (let is = (one_width limits kind row).1 in omega (arith, is, small)) ∙ zero_behind_in limits kind there (λ one e. (h.kept row one e).spelling) (suc j) (omega (arith, old, above))
+            fits.behind kind (suc j) (omega (arith, above)) (let is = (one_width limits kind row).1 in omega (arith, is, small))
+            ∙ zero_behind_in limits kind there (λ one e. (h.kept row one e).spelling) (suc j) (omega (arith, old, above))
             ∙ sym (zero_behind_in limits kind (Some content) (λ one e. subst HasSpelling (same_Some content one e) enough.spelled) (suc j) (omega (arith, new, above)))
 
-    pub places : (header : ℕ) (content : Record) → IsEnough limits content header first written → length (stored limits content) ≤ width_of limits row → IsLawfulStep law limits actor (seen_of me) None (Place row content) None
+    pub places : (header : ℕ) (content : Record) → IsEnough limits content header first written → length (stored limits content) ≤ width_of limits row
+        → IsLawfulStep law limits actor (seen_of me) None (Place row content) None
         → Allows (Rule limits law) slots id me (row_at limits row 0) (λ _. header) (λ _. Places law (Place row content) me header)
     places header content enough fits may =
-        event_telling limits law slots id actor me (Writing row first written) (row_at limits row 0) (λ _. header) None (Place row content) None (λ _. Places law (Place row content) me header) tt is may
+        event_telling limits law slots id actor me (Writing row first written) (row_at limits row 0) (λ _. header) None (Place row content) None
+        (λ _. Places law (Place row content) me header) tt is may
         (λ s h there.
         let at : ℕ = row_at limits row 0 in
         let memory : Memory = memory_of limits h.run in
@@ -205,7 +212,8 @@ module _ (law : Limits → List Entry → Type 0) (key limits : Limits) (own : k
       (fills limits law apart slots id actor me row first written within is owned_of x short)
 
   pub places_at : (header : ℕ) (content : Record) (told : StepOf Record) → word ≡ row_at limits row 0 → Place row content ≡ told → IsEnough limits content header first written
-      → length (stored limits content) ≤ width_of limits row → IsLawfulStep law limits actor seen None (Place row content) None → Allows (Rule key law) slots id me word (λ _. header) (λ _. Places law told me header)
+      → length (stored limits content) ≤ width_of limits row → IsLawfulStep law limits actor seen None (Place row content) None
+      → Allows (Rule key law) slots id me word (λ _. header) (λ _. Places law told me header)
   places_at header content told at is_told enough fits may =
       subst (λ (z : Limits × ℕ × StepOf Record). Allows (Rule z.0 law) slots id me z.1 (λ _. header) (λ _. Places law z.2 me header)) (λ k. (sym own k, sym at k, is_told k))
       (places limits law apart slots id actor me row first written within is owned_of header content enough fits

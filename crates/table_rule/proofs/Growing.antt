@@ -105,6 +105,7 @@ real_time limits law s t u now later on on' actor other before old run rest comm
         let tails : entry ∷ (behind ++ grown.0) ≡ Begin other command ∷ (rest ++ began.0) = cancel run (entry ∷ (behind ++ grown.0)) (Begin other command ∷ (rest ++ began.0)) both in
         let is : entry ≡ Begin other command = cc in
         let all : old ++ stand.0 ≡ old ++ (extends.0 ++ Begin other command ∷ behind) =
-        sym stand.1 ∙ goes.2 ∙ ap (λ (e : Entry). run ++ e ∷ behind) is ∙ ap (λ (r : List Entry). r ++ Begin other command ∷ behind) extends.1 ∙ append_assoc old extends.0 (Begin other command ∷ behind) in
+        sym stand.1 ∙ goes.2 ∙ ap (λ (e : Entry). run ++ e ∷ behind) is ∙ ap (λ (r : List Entry). r ++ Begin other command ∷ behind) extends.1
+        ∙ append_assoc old extends.0 (Begin other command ∷ behind) in
         let others : stand.0 ≡ extends.0 ++ Begin other command ∷ behind = cancel old stand.0 (extends.0 ++ Begin other command ∷ behind) all in
         absurd (has_own other command extends.0 behind (ap (own_entries other) (sym others) ∙ stand.2))

@@ -21,7 +21,8 @@ use Rattle.table_rule.specs.declared.view.Reach.{Reach}
 use Rattle.table_rule.specs.declared.view.Reach.TheVariants.{Idle, Writing, Noted}
 use Rattle.table_rule.specs.declared.view.Part.{Part}
 use Rattle.table_rule.specs.Growing.{HasSeen, SeesOn}
-use Rattle.table_rule.specs.Moments.{GoesOnPlacing, IsLater, Moment, Operates, AllowedOperate, OperationsTurn, TakesStep, Turns, with_views, same, next, steps, places, sees, looks, turns, cuts, notes, joins, seats, lets_go}
+use Rattle.table_rule.specs.Moments.{GoesOnPlacing, IsLater, Moment, Operates, AllowedOperate, OperationsTurn, TakesStep, Turns, with_views, same, next, steps}
+use Rattle.table_rule.specs.Moments.{places, sees, looks, turns, cuts, notes, joins, seats, lets_go}
 use Rattle.table_rule.specs.Running.{Each, ExtendsFor, StartsWith}
 use Rattle.table_rule.specs.Steps.{Took, Watched, with_step, begin_before}
 use Rattle.table_rule.specs.Views.{IsRefreshed, Mine, SitsAt, alone, first_part, other_parts, part, part_note, seen_of, with_run}
@@ -46,7 +47,8 @@ pub only : (one other : Part) (place : ℕ) → slice_get (one ∷ []) place ≡
 only one other zero there = cc
 only one other (suc place) there = cc
 
-alone_on : (limits : Limits) (actor : ℕ) (reach reach' : Reach) (me me' : Mine) → SitsAt limits actor reach me → SitsAt limits actor reach' me' → StartsWith (seen_of me') (seen_of me) → PartsOn me.0 me'.0
+alone_on : (limits : Limits) (actor : ℕ) (reach reach' : Reach) (me me' : Mine) → SitsAt limits actor reach me → SitsAt limits actor reach' me'
+    → StartsWith (seen_of me') (seen_of me) → PartsOn me.0 me'.0
 alone_on limits actor reach reach' me me' sat sits grows place old there =
     let is : part limits actor (seen_of me) reach ≡ old = only (part limits actor (seen_of me) reach) old place (subst (λ (m : Mine). slice_get m.0 place ≡ Some old) sat there) in (
       0,
@@ -59,7 +61,8 @@ alone_on limits actor reach reach' me me' sat sits grows place old there =
 took_grows : (law : Limits → List Entry → Type 0) (me me' : Mine) (took : TakesStep law me me') → StartsWith (seen_of me') (seen_of me)
 took_grows law me me' h =
     let run : List Entry = h.took.run in
-    starts_on (seen_of me) run (seen_of me') (h.took.extends.0, h.took.extends.1) (events h.actor h.begun h.step h.answer h.reply, h.took.grown ∙ with_events run h.actor h.begun h.step h.answer h.reply)
+    starts_on (seen_of me) run (seen_of me') (h.took.extends.0, h.took.extends.1)
+    (events h.actor h.begun h.step h.answer h.reply, h.took.grown ∙ with_events run h.actor h.begun h.step h.answer h.reply)
 
 mapped : (run : List Entry) (view : List Part) → Each (λ p. ExtendsFor p.reach p.actor p.seen run) view → PartsOn view (map (with_run run) view)
 mapped run [] each place old there = cc
@@ -142,12 +145,14 @@ on_join : (views : List (List Part)) (id other : ℕ) (view others : List Part) 
     → SeeOn views (set (set views id (view ++ others)) other [])
 on_join views id other view others at ne there actor seen h = dite (ℕ_discrete h.id id)
     (λ e. let is : view ≡ h.view = same_view views id h.id view h.view at h.at e in
-    kept views last actor seen h id (view ++ others) h.place h.part here (left_of view others h.place h.part (subst (λ (v : List Part). slice_get v h.place ≡ Some h.part) (sym is) h.there)) refl (starts_self h.part.seen))
+    kept views last actor seen h id (view ++ others) h.place h.part here
+    (left_of view others h.place h.part (subst (λ (v : List Part). slice_get v h.place ≡ Some h.part) (sym is) h.there)) refl (starts_self h.part.seen))
     (λ nid. dite (ℕ_discrete h.id other)
     (λ e. let is : others ≡ h.view = same_view views other h.id others h.view there h.at e in
     let moved = right_of view others h.place h.part (subst (λ (v : List Part). slice_get v h.place ≡ Some h.part) (sym is) h.there) in
     kept views last actor seen h id (view ++ others) moved.0 h.part here moved.1 refl (starts_self h.part.seen))
-    (λ nother. kept views last actor seen h h.id h.view h.place h.part (set_else first other h.id [] nother ∙ set_else views id h.id (view ++ others) nid ∙ h.at) h.there refl (starts_self h.part.seen)))
+    (λ nother. kept views last actor seen h h.id h.view h.place h.part
+    (set_else first other h.id [] nother ∙ set_else views id h.id (view ++ others) nid ∙ h.at) h.there refl (starts_self h.part.seen)))
   where
     first : List (List Part)
     first = set views id (view ++ others)

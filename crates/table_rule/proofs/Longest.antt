@@ -48,7 +48,8 @@ ends_by limits entry [] all = (entry_actor entry, all.0, refl)
 ends_by limits first (second ∷ rest) all = ends_by limits second rest all.1
 
 -- Some actor has all of the run, wherever its seat has seen it up to its own last entry.
-pub whole : (limits : Limits) (run : List Entry) → Each (λ one. entry_actor one < limits.actors) run → (actor : ℕ) × (actor < limits.actors) × ((seen : List Entry) → Extends actor seen run → seen ≡ run)
+pub whole : (limits : Limits) (run : List Entry) → Each (λ one. entry_actor one < limits.actors) run → (actor : ℕ) × (actor < limits.actors)
+    × ((seen : List Entry) → Extends actor seen run → seen ≡ run)
 whole limits [] all = (0, omega (arith, limits.allowed.some_actor), nothing)
   where
     nothing : (seen : List Entry) → Extends 0 seen [] → seen ≡ []

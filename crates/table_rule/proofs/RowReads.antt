@@ -47,7 +47,8 @@ module _ (limits : Limits) (law : Limits → List Entry → Type 0) (apart : Kee
   settled s h actor row may id view there = each_leaves s.words h.run actor row view h.legal may (h.each id view there)
 
   -- the word j of the record of a row that the actor may read
-  word_is : (s : TableState) (h : Rule limits law s) (actor row j : ℕ) → KnowsReadable (knows h.run actor) row → row < limits.rows → j < width_of limits row → j < used_in limits ((memory_of limits h.run).rows row)
+  word_is : (s : TableState) (h : Rule limits law s) (actor row j : ℕ) → KnowsReadable (knows h.run actor) row → row < limits.rows → j < width_of limits row
+      → j < used_in limits ((memory_of limits h.run).rows row)
       → get_or s.words (row_at limits row j) 0 ≡ get_or (words_in limits ((memory_of limits h.run).rows row)) j 0
   word_is s h actor row j may within small used = h.spells.rows row j within small used (settled s h actor row may)
 
@@ -118,7 +119,8 @@ module _ (limits : Limits) (law : Limits → List Entry → Type 0) (apart : Kee
           ),
         )
 
-    reads : IsLawfulStep law limits actor (seen_of me) None (Row row) None → Allows (Rule limits law) slots id me (row_at limits row 0) (λ n. n) (ReadsRow law (step slots (row_at limits row 0) 0 0 none) me)
+    reads : IsLawfulStep law limits actor (seen_of me) None (Row row) None
+        → Allows (Rule limits law) slots id me (row_at limits row 0) (λ n. n) (ReadsRow law (step slots (row_at limits row 0) 0 0 none) me)
     reads may = event_telling limits law slots id actor me Idle (row_at limits row 0) (λ n. n) None (Row row) None (ReadsRow law (step slots (row_at limits row 0) 0 0 none) me) tt is may
         (λ s h there.
         let at : ℕ = row_at limits row 0 in
@@ -126,7 +128,8 @@ module _ (limits : Limits) (law : Limits → List Entry → Type 0) (apart : Kee
         let now = may_now s h there in
         let x = row_is s h actor row now in
         let first : n ≡ get_or (stored limits x.0) 0 0 =
-        word_is s h actor row 0 now within (let some = some_words limits row in omega (arith, some)) (some_used limits ((memory_of limits h.run).rows row)) ∙ ap (λ o. get_or (words_in limits o) 0 0) x.1 in (
+        word_is s h actor row 0 now within (let some = some_words limits row in omega (arith, some)) (some_used limits ((memory_of limits h.run).rows row))
+        ∙ ap (λ o. get_or (words_in limits o) 0 0) x.1 in (
           Content x.0,
           record {
             answered = (x.0, x.1, refl);
@@ -150,6 +153,7 @@ module _ (law : Limits → List Entry → Type 0) (key limits : Limits) (own : k
   looks_at place small at = subst (λ (z : Limits × ℕ). Allows (Rule z.0 law) slots id me z.1 (λ n. n) (Looks (step slots z.1 0 0 none) me)) (λ k. (sym own k, sym at k))
       (looks limits law apart slots id actor me row within is known place small)
 
-  pub reads_at : word ≡ row_at limits row 0 → IsLawfulStep law limits actor (seen_of me) None (Row row) None → Allows (Rule key law) slots id me word (λ n. n) (ReadsRow law (step slots word 0 0 none) me)
+  pub reads_at : word ≡ row_at limits row 0 → IsLawfulStep law limits actor (seen_of me) None (Row row) None
+      → Allows (Rule key law) slots id me word (λ n. n) (ReadsRow law (step slots word 0 0 none) me)
   reads_at at may = subst (λ (z : Limits × ℕ). Allows (Rule z.0 law) slots id me z.1 (λ n. n) (ReadsRow law (step slots z.1 0 0 none) me)) (λ k. (sym own k, sym at k))
       (reads limits law apart slots id actor me row within is known may)

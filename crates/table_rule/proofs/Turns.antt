@@ -82,7 +82,8 @@ module _ (limits : Limits) (law : Limits → List Entry → Type 0) where
     pub grows : StartsWith run' run
     pub extends : (other : ℕ) (seen : List Entry) → other ≢ actor → Extends other seen run → Extends other seen run'
     pub same : (other : ℕ) → other ≢ actor → knows run' other ≡ knows run other
-    pub writes : (other row : ℕ) → other ≢ actor → KnowsPlaceable (knows run other) row → row < limits.rows → (j : ℕ) → j < width_of limits row → get_or words' (row_at limits row j) 0 ≡ get_or words (row_at limits row j) 0
+    pub writes : (other row : ℕ) → other ≢ actor → KnowsPlaceable (knows run other) row → row < limits.rows → (j : ℕ) → j < width_of limits row
+        → get_or words' (row_at limits row j) 0 ≡ get_or words (row_at limits row j) 0
     pub records : (other row : ℕ) → other ≢ actor → KnowsPlaceable (knows run other) row → (memory_of limits run').rows row ≡ (memory_of limits run).rows row
 
   spared : (actor other : ℕ) (words words' : List ℕ) (seen run run' : List Entry) (reach : Reach) → IsApart actor other reach

@@ -43,7 +43,8 @@ reads_number limits other found has is = cc
 
 module _ (change : StepsChangeOneWord) (limits : Limits) (law : Limits → List Entry → Type 0) where
   -- what the memory answers after the longest run
-  answered : (s : TableState) (h : Rule limits law s) (actor i : ℕ) (step : Step Record) → actor < most_large_actors → HasWord limits step → operation_of step ≡ Load → i ≡ changed_word limits actor step
+  answered : (s : TableState) (h : Rule limits law s) (actor i : ℕ) (step : Step Record) → actor < most_large_actors → HasWord limits step
+      → operation_of step ≡ Load → i ≡ changed_word limits actor step
       → IsAnswer (memory_of limits h.run) step (Number (get_or s.words i 0))
   answered s h actor i step few has reads at =
       let m : Memory = memory_of limits h.run in

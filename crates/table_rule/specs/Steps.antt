@@ -86,7 +86,8 @@ pub record Watched (law : Limits → List Entry → Type 0) (limits : Limits) (a
 
 abbrev pub Watches : (Limits → List Entry → Type 0) → Made (Unit {0}) → Mine → ℕ → Mine → Type 0
 Watches law made me found me' =
-    (limits : Limits) (actor : ℕ) (step : StepOf Record) → SitsAt limits actor Idle me → actor < most_large_actors → HasWord limits step → operation_of step ≡ Load → made.word ≡ changed_word limits actor step
+    (limits : Limits) (actor : ℕ) (step : StepOf Record) → SitsAt limits actor Idle me → actor < most_large_actors → HasWord limits step
+    → operation_of step ≡ Load → made.word ≡ changed_word limits actor step
     → SitsAt limits actor Idle me' × Watched law limits actor (seen_of me) step found (seen_of me')
 
 -- A word of a row whose record was read is looked at, and the seat is as it was. It is a word of the record, if the record has so many; and

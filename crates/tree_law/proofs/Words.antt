@@ -50,7 +50,8 @@ pub use Rattle.traces.proofs.Pushes.{slice_get_below, slice_get_kept, slice_get-
 pub use Rattle.traces.proofs.RunLaws.{IsRun-push}
 pub use Rattle.traces.proofs.TraceLaws.{TakesStep-push_cases, memory_of-push, command_of-push, memory_at-push, Happens-kept, Happens-push_cases}
 pub use Rattle.traces.specs.chain.Chains.{IsChainOf, IsOnChain, chain_rows, IsChainFrom, content_in, right_in, low_in, is_removed, level_in, high_in, covers, IsFront}
-pub use Rattle.traces.specs.discipline.Discipline.{MayReply, May, root_over, IsOwn, MayExchange, IsOwnBase, IsAllowed, FitsOn, chain_value, value_of, IsUnset, IsPassed, MayFree, MayLink, MayRoot, MayAdd}
+pub use Rattle.traces.specs.discipline.Discipline.{MayReply, May, root_over, IsOwn, MayExchange, IsOwnBase, IsAllowed, FitsOn, chain_value, value_of, IsUnset}
+pub use Rattle.traces.specs.discipline.Discipline.{IsPassed, MayFree, MayLink, MayRoot, MayAdd}
 pub use Rattle.traces.specs.discipline.Discipline.{base_from, HasRead, update_record, MayPost, IsMet, MayUpdate, LacksRoom, MayAnswer, WasStanding, NamesChild, MayUnterm, MayHold, MayMerge, MaySplit}
 pub use Rattle.traces.specs.discipline.Discipline.{MayConsolidate, MayRemove}
 pub use Rattle.traces.specs.discipline.Disciplined.{IsDisciplined, IsDisciplinedFrom, own_entries, is_entry_of}
@@ -59,7 +60,8 @@ pub use Rattle.traces.specs.discipline.Fitting.{Fits}
 pub use Rattle.traces.specs.chain.HeldBack.{HoldsBack}
 pub use Rattle.traces.specs.discipline.Knowledge.{after_begin, knows, Knowledge, knows_after, after_reply, Ready, learn, learnt_next, nothing, Foreign, Empty, OwnPage}
 pub use Rattle.traces.specs.discipline.Knowledge.{Taken, Other, Gone, Written, after_filling, after_root}
-pub use Rattle.traces.specs.discipline.Knowledge.{OwnRow, after_emptying, after_exchange, split_off, linked_over, forgotten, Unstamped, handed_page, is_on_walk, LimboMark, handed_over, Absent, Stamped, passed_by}
+pub use Rattle.traces.specs.discipline.Knowledge.{OwnRow, after_emptying, after_exchange, split_off, linked_over, forgotten, Unstamped, handed_page, is_on_walk}
+pub use Rattle.traces.specs.discipline.Knowledge.{LimboMark, handed_over, Absent, Stamped, passed_by}
 pub use Rattle.traces.specs.discipline.Knowledge.{with_stamp, Readings, set_page, taken_out, next_seen, rebuilt, Limbos, after_update, learn_head}
 pub use Rattle.traces.specs.discipline.Learnt.{ShowsRow}
 pub use Rattle.traces.specs.discipline.Recalled.{recall, Recalled, blank, recalls_after, recalls, is_removal}

@@ -55,7 +55,8 @@ IsHomed m (Exchange (suc p) old (suc new)) (Whether true) row =
     ⊎ ((split : SplitOf) × (base : Page) × (m.rows (suc new) ≡ Some (Split split)) × (m.slots split.page ≡ Some row) × (m.rows row ≡ Some (Base base)))
 IsHomed m step answer row = ⊥
 
-pub record Next (a : ℕ) (m m' : Shared) (log : List Update) (o : Owners) (knows : ℕ → Knowledge) (point : ℕ → Option (List Update)) (logs : ℕ → List (List Update)) (s : StepOf Record) (x : Answer Record) (r : Option Reply) : Type
+pub record Next (a : ℕ) (m m' : Shared) (log : List Update) (o : Owners) (knows : ℕ → Knowledge) (point : ℕ → Option (List Update))
+    (logs : ℕ → List (List Update)) (s : StepOf Record) (x : Answer Record) (r : Option Reply) : Type
     0 where
   pub update : Option Update
   pub due : IfSome update (IsDue a (knows a) log)
@@ -70,7 +71,8 @@ pub record Next (a : ℕ) (m m' : Shared) (log : List Update) (o : Owners) (know
   pub is_tree : IsTree m' (grown log update) owners (put knows a (after_reply (learn (knows a) s x) r)) (put point a (log_at_point log update (point a))) (put logs a (log ∷ logs a))
 
 -- What every step leaves, also a reuse, which lets linked rows go.
-pub record After (a : ℕ) (m m' : Shared) (log : List Update) (o : Owners) (knows : ℕ → Knowledge) (point : ℕ → Option (List Update)) (logs : ℕ → List (List Update)) (s : StepOf Record) (x : Answer Record) (r : Option Reply) : Type
+pub record After (a : ℕ) (m m' : Shared) (log : List Update) (o : Owners) (knows : ℕ → Knowledge) (point : ℕ → Option (List Update))
+    (logs : ℕ → List (List Update)) (s : StepOf Record) (x : Answer Record) (r : Option Reply) : Type
     0 where
   pub update : Option Update
   pub due : IfSome update (IsDue a (knows a) log)

@@ -140,7 +140,8 @@ OrderFits o m logs p f (Some y) None = ⊤
 OrderFits o m logs p f (Some y) (Some x) = InOrder o m logs p y f x
 
 -- what an actor has read is so
-pub record Knows (o : Owners) (m : Shared) (seen : ℕ → Option Record) (learnt roots : ℕ → Bool) (heads : ℕ → Option ℕ) (before : ℕ → ℕ → Option ℕ) (linked : Option (Option ℕ)) (point : Option (List Update)) (logs : List (List Update)) : Type
+pub record Knows (o : Owners) (m : Shared) (seen : ℕ → Option Record) (learnt roots : ℕ → Bool) (heads : ℕ → Option ℕ) (before : ℕ → ℕ → Option ℕ)
+    (linked : Option (Option ℕ)) (point : Option (List Update)) (logs : List (List Update)) : Type
     0 where
   pub seen_fits : (r : ℕ) → SeenFits (o.row r) (m.rows r) (seen r)
   pub learnt_fits : (r : ℕ) → learnt r ≡ true → o.row r ≡ Linked

@@ -57,7 +57,8 @@ pub record HeldBeside (rows : ℕ → Option Record) (page_out : ℕ → Option 
   pub since : is_removed chain ≡ true → is_removed left ≡ false → right_in left ≡ Some f → NamesSince page_out entered chain
 
 -- what an actor knows, it knows from this stay, and it was in the tree when the stay began
-pub record Holds (rows : ℕ → Option Record) (row_out page_out : ℕ → Option Outing) (entered : ℕ) (inside : Bool) (seen : ℕ → Option Record) (learnt roots : ℕ → Bool) (heads : ℕ → Option ℕ) (before : ℕ → ℕ → Option ℕ) (linked : Option (Option ℕ)) : Type
+pub record Holds (rows : ℕ → Option Record) (row_out page_out : ℕ → Option Outing) (entered : ℕ) (inside : Bool) (seen : ℕ → Option Record)
+    (learnt roots : ℕ → Bool) (heads : ℕ → Option ℕ) (before : ℕ → ℕ → Option ℕ) (linked : Option (Option ℕ)) : Type
     0 where
   pub learnt_inside : (r : ℕ) → learnt r ≡ true → inside ≡ true
   pub learnt_since : (r : ℕ) → learnt r ≡ true → IsSince entered (row_out r)

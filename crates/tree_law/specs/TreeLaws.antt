@@ -40,7 +40,8 @@ BeginLaw = (m : Shared) (log : List Update) (o : Owners) (knows : ℕ → Knowle
     → (a : ℕ) (command : Command) → IsTree m log o (put knows a (after_begin (knows a) command)) (put point a None) (put logs a [])
 
 -- What a step leaves, and what actors hold then.
-pub record Stepped (limits : Limits) (memory : Memory) (log : List Update) (o : Owners) (knows : ℕ → Knowledge) (point : ℕ → Option (List Update)) (logs : ℕ → List (List Update)) (now a : ℕ) (s : StepOf Record) (x : Answer Record) (r : Option Reply) : Type
+pub record Stepped (limits : Limits) (memory : Memory) (log : List Update) (o : Owners) (knows : ℕ → Knowledge) (point : ℕ → Option (List Update))
+    (logs : ℕ → List (List Update)) (now a : ℕ) (s : StepOf Record) (x : Answer Record) (r : Option Reply) : Type
     0 where
   pub after : After a (shared_part memory) (shared_part (memory_after a s memory)) log o knows point logs s x r
   pub times : Times

@@ -168,9 +168,12 @@ all_change limits words memory actor step long spells few within bits = changes 
 pub all_apart : WordsStandApart
 all_apart limits actor (Row row) few within = absurd within
 all_apart limits actor (Place row content) few within = absurd within
-all_apart limits actor (TakePid pid) few within = let p = limits.allowed.whole_pids in record { there = omega arith; apart = λ row j below small. λ e. absurd (let inside = row_within limits row below in let few' = few_words limits row in omega arith) }
-all_apart limits actor (TakeRow row) few within = let r = limits.allowed.whole_rows in record { there = omega arith; apart = λ row j below small. λ e. absurd (let inside = row_within limits row below in let few' = few_words limits row in omega arith) }
-all_apart limits actor other few within = record { there = omega arith; apart = λ row j below small. λ e. absurd (let inside = row_within limits row below in let few' = few_words limits row in omega arith) }
+all_apart limits actor (TakePid pid) few within = let p = limits.allowed.whole_pids in
+    record { there = omega arith; apart = λ row j below small. λ e. absurd (let inside = row_within limits row below in let few' = few_words limits row in omega arith) }
+all_apart limits actor (TakeRow row) few within = let r = limits.allowed.whole_rows in
+    record { there = omega arith; apart = λ row j below small. λ e. absurd (let inside = row_within limits row below in let few' = few_words limits row in omega arith) }
+all_apart limits actor other few within =
+    record { there = omega arith; apart = λ row j below small. λ e. absurd (let inside = row_within limits row below in let few' = few_words limits row in omega arith) }
 
 pub all_leave : OperationsLeaveWords
 all_leave (Slot pid) found = refl

@@ -217,24 +217,30 @@ module _ (limits : Limits) (header place bound : ℕ) (low : 0 < place) (high : 
       subst (Free limits.rows word) (sym there)
       (subst (λ i. Free limits.rows word (get_or L2 i 0)) (omega arith) (free_inside limits.rows (row_bits_at limits 0) word L1 limits.allowed.whole_rows sr lt (let l = l1 in omega arith)))
 
-  record_word : (row j : ℕ) → row < limits.rows → j < width_of limits row → j < used_in limits ((opening limits).rows row) → get_or L7 (row_at limits row j) 0 ≡ get_or (words_in limits ((opening limits).rows row)) j 0
-  record_word row j rl jl used = let fi = first_in in let ff = first_few in let fs = first_some in let inside = row_within limits row rl in let few' = few_words limits row in elim (same_or_not row 1) [
-    | inl one ↦ subst (λ r. get_or L7 (row_at limits r j) 0 ≡ get_or (words_in limits ((opening limits).rows r)) j 0) (sym one) (let used' : j < used_in limits (Some (Base empty_leaf)) = subst (λ r. j < used_in limits ((opening limits).rows r)) one used in let low' : j < width_of limits 1 = subst (λ r. j < width_of limits r) one jl in elim (same_or_not j 0) [
-      | inl none ↦ subst (λ k. get_or L7 (row_at limits 1 k) 0 ≡ get_or (words_in limits (Some (Base empty_leaf))) k 0) (sym none) (get_or-set_other L6
-          (row_at limits 1 place) (row_at limits 1 0) bound 0 (λ e. absurd (omega arith)) ∙ get_or-set_same L5 (row_at limits 1 0) header 0
-          (let l = l5 in let s = some_rows in omega arith) ∙ sym is_header)
-      | inr some ↦ elim (same_or_not j place) [
-        | inl here ↦ subst (λ k. get_or L7 (row_at limits 1 k) 0 ≡ get_or (words_in limits (Some (Base empty_leaf))) k 0) (sym here)
-            (get_or-set_same L6 (row_at limits 1 place) bound 0 (let l = l6 in let s = some_rows in omega arith) ∙ sym is_bound)
-        | inr other ↦ nowhere (row_at limits 1 j) (let s = some_rows in omega arith) (λ e. absurd (omega arith)) (λ e. absurd (omega arith))
-            (λ e. absurd (omega arith)) (λ e. some (omega arith)) (λ e. other (omega arith)) (λ k h e. absurd (omega arith)) (λ k h e. absurd (omega arith)) ∙
-            sym (is_zero j some other (omega (arith, low', ff)) used')
+  record_word : (row j : ℕ) → row < limits.rows → j < width_of limits row → j < used_in limits ((opening limits).rows row)
+      → get_or L7 (row_at limits row j) 0 ≡ get_or (words_in limits ((opening limits).rows row)) j 0
+  record_word row j rl jl used = let fi = first_in in let ff = first_few in let fs = first_some in let inside = row_within limits row rl in let few' =
+      few_words limits row in elim (same_or_not row 1) [
+        | inl one ↦ subst (λ r. get_or L7 (row_at limits r j) 0 ≡ get_or (words_in limits ((opening limits).rows r)) j 0) (sym one)
+            (let used' : j < used_in limits (Some (Base empty_leaf)) = subst (λ r. j < used_in limits ((opening limits).rows r)) one used in
+            let low' : j < width_of limits 1 = subst (λ r. j < width_of limits r) one jl in elim (same_or_not j 0) [
+              | inl none ↦ subst (λ k. get_or L7 (row_at limits 1 k) 0 ≡ get_or (words_in limits (Some (Base empty_leaf))) k 0) (sym none) (get_or-set_other L6
+                  (row_at limits 1 place) (row_at limits 1 0) bound 0 (λ e. absurd (omega arith)) ∙ get_or-set_same L5 (row_at limits 1 0) header 0
+                  (let l = l5 in let s = some_rows in omega arith) ∙ sym is_header)
+              | inr some ↦ elim (same_or_not j place) [
+                | inl here ↦ subst (λ k. get_or L7 (row_at limits 1 k) 0 ≡ get_or (words_in limits (Some (Base empty_leaf))) k 0) (sym here)
+                    (get_or-set_same L6 (row_at limits 1 place) bound 0 (let l = l6 in let s = some_rows in omega arith) ∙ sym is_bound)
+                | inr other ↦ nowhere (row_at limits 1 j) (let s = some_rows in omega arith) (λ e. absurd (omega arith)) (λ e. absurd (omega arith))
+                    (λ e. absurd (omega arith)) (λ e. some (omega arith)) (λ e. other (omega arith)) (λ k h e. absurd (omega arith)) (λ k h e. absurd (omega arith)) ∙
+                    sym (is_zero j some other (omega (arith, low', ff)) used')
+              ]
+            ])
+        | inr apart ↦ rw (ne_eqb row 1 apart)
+            (nowhere (row_at limits row j) (omega arith) (λ e. absurd (omega arith)) (λ e. absurd (omega arith)) (λ e. absurd (omega arith))
+            (λ e. rows_apart limits row 1 j 0 apart jl (omega (arith, fs)) (omega (arith, e)))
+            (λ e. rows_apart limits row 1 j place apart jl high (omega (arith, e))) (λ k h e. absurd (omega arith)) (λ k h e. absurd (omega arith))
+            ∙ sym (get_or-replicate row_size j 0 0 (omega (arith, jl, few'))))
       ]
-    ])
-    | inr apart ↦ rw (ne_eqb row 1 apart)
-        (nowhere (row_at limits row j) (omega arith) (λ e. absurd (omega arith)) (λ e. absurd (omega arith)) (λ e. absurd (omega arith)) (λ e. rows_apart limits row 1 j 0 apart jl (omega (arith, fs)) (omega (arith, e)))
-        (λ e. rows_apart limits row 1 j place apart jl high (omega (arith, e))) (λ k h e. absurd (omega arith)) (λ k h e. absurd (omega arith)) ∙ sym (get_or-replicate row_size j 0 0 (omega (arith, jl, few'))))
-  ]
 
   opens : AreWordsOf limits (opening limits) L7
   opens = record {

@@ -45,7 +45,8 @@ walked_next old new seat later budget walk.Spent before same h =
     walked_none old new seat later before same (spent_grows old.asked seat later (command.Page h.from) budget h.run)
     (calls_alone command.Page old.asked seat later h.from budget called.Spent h.run) (ap (λ z. z.at) h.stands) (ap (λ z. z.bound) h.stands)
 walked_next old new seat later budget walk.End before same h =
-    walked_none old new seat later before same ([], ap (λ z. z.seen) h.2 ∙ sym (append-nil seat.seen)) (no_call command.Page seat later (ap commands_in h.2)) (ap (λ z. z.at) h.1) (ap (λ z. z.bound) h.1)
+    walked_none old new seat later before same ([], ap (λ z. z.seen) h.2 ∙ sym (append-nil seat.seen)) (no_call command.Page seat later (ap commands_in h.2))
+    (ap (λ z. z.at) h.1) (ap (λ z. z.bound) h.1)
 
 pub walked_on : (first mid last : Cursor) (seat between later : Seat) (before middle after : List (List ℕ × List ℕ))
     → HasWalked first seat before middle mid between → HasWalked mid between middle after last later → HasWalked first seat before after last later
@@ -93,8 +94,14 @@ module _ (first mid last : Cursor) (seat between later : Seat) (budget : ℕ) (a
 -- nothing walked yet
 pub walked_nothing : (cursor : Cursor) (seat : Seat) (pairs : List (List ℕ × List ℕ)) → (walked : HasWalked cursor seat pairs pairs cursor seat) × (length walked.pages ≡ 0)
 walked_nothing cursor seat pairs = (
-  record
-      { pages = []; shown = sym (append-nil pairs); walk = λ early was. (early, was, (refl, omega arith)); bound = refl; grows = ([], sym (append-nil seat.seen)); alone = no_call command.Page seat seat refl },
+  record {
+    pages = [];
+    shown = sym (append-nil pairs);
+    walk = λ early was. (early, was, (refl, omega arith));
+    bound = refl;
+    grows = ([], sym (append-nil seat.seen));
+    alone = no_call command.Page seat seat refl;
+  },
   refl,
 )
 

@@ -30,7 +30,8 @@ pub fn walks_tell_the_map()
 pub fn walks_go_on()
     ensures longer { (run later : List Entry) (bound at : Option (List ℕ)) (since : ℕ) (pages : List WalkedPage) (to : Option (List ℕ)) (till : ℕ)
         → StartsWith later run → IsWalk run bound at since pages to till → IsWalk later bound at since pages to till }
-    ensures joined { (run : List Entry) (bound at : Option (List ℕ)) (since : ℕ) (pages : List WalkedPage) (mid : Option (List ℕ)) (between : ℕ) (more : List WalkedPage) (to : Option (List ℕ)) (till : ℕ)
+    ensures joined { (run : List Entry) (bound at : Option (List ℕ)) (since : ℕ) (pages : List WalkedPage) (mid : Option (List ℕ)) (between : ℕ)
+        (more : List WalkedPage) (to : Option (List ℕ)) (till : ℕ)
         → IsWalk run bound at since pages mid between → IsWalk run bound mid between more to till → IsWalk run bound at since (pages ++ more) to till }
 {}
 

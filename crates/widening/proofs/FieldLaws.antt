@@ -32,7 +32,8 @@ none_back text few =
 
 -- the words of a text of few bytes end in zeros
 text_wide : (text : List ℕ) → length text ≤ first_longest → text_words text_size text ≡ text_words 4 text ++ replicate 4 0
-text_wide text few = ap (λ rest. big_endian 8 text ∷ big_endian 8 (drop 8 text) ∷ big_endian 8 (drop 8 (drop 8 text)) ∷ big_endian 8 (drop 8 (drop 8 (drop 8 text))) ∷ text_words 4 rest) (none_back text few)
+text_wide text few = ap (λ rest. big_endian 8 text ∷ big_endian 8 (drop 8 text) ∷ big_endian 8 (drop 8 (drop 8 text))
+    ∷ big_endian 8 (drop 8 (drop 8 (drop 8 text))) ∷ text_words 4 rest) (none_back text few)
 
 -- a text behind a word, whatever the word
 marked_wide : (count word : ℕ) (text rest : List ℕ) → IsNarrow text → spread_fields (suc count) (word ∷ (text_words 4 text ++ rest)) ≡ word ∷ (text_words text_size text ++ spread_fields count rest)

@@ -74,7 +74,8 @@ no_points points has answered quiet =
         let sets : updates_by 0 (Some insert) (log_at claimed_insert points n) ≡ set 0 (codes "a") (codes "1") ∷ [] = ap (λ old. option_to_list (update_of 0 insert old)) none in
         let grown : log_at claimed_insert points (suc n) ≡ log_at claimed_insert points n ++ set 0 (codes "a") (codes "1") ∷ [] =
         log_at-step claimed_insert points n (Step 0 step answer answered_by) true has.beside own.entry marked ∙ ap (λ more. log_at claimed_insert points n ++ more) (by ∙ sets) in
-        let there : logged_value (log_at claimed_insert points (suc n)) (codes "a") ≡ Some (codes "1") = rw grown (logged_value-push (log_at claimed_insert points n) (set 0 (codes "a") (codes "1")) (codes "a")) in
+        let there : logged_value (log_at claimed_insert points (suc n)) (codes "a") ≡ Some (codes "1") =
+        rw grown (logged_value-push (log_at claimed_insert points n) (set 0 (codes "a") (codes "1")) (codes "a")) in
         no_map (suc n) (omega arith) (log_at claimed_insert points (suc n)) there (quiet.at_each (suc n) (omega arith))
 
 pub not_linearized : ¬ IsLinearized small (map turn_of claimed_insert) claimed_insert

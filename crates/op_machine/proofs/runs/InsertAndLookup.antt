@@ -91,7 +91,8 @@ before n slot row = one_leaf (memory_at small insert_and_lookup n) [] (opening_l
 after : (n : ℕ) → (memory_at small insert_and_lookup n).slots 1 ≡ 2 → (memory_at small insert_and_lookup n).rows 2 ≡ Some put_a → (memory_at small insert_and_lookup n).rows 1 ≡ Some opening_leaf
     → HasMapOf (memory_at small insert_and_lookup n) (set 0 (codes "a") (codes "1") ∷ [])
 after n slot put leaf =
-    one_leaf (memory_at small insert_and_lookup n) _ (put_a ∷ opening_leaf ∷ []) (record { page = lit< tt; linked = rw slot (lit< tt); records = rw slot (put, (leaf, refl)) }) refl refl refl (λ key. by_cases (is_eq (key_cmp key (codes "a"))))
+    one_leaf (memory_at small insert_and_lookup n) _ (put_a ∷ opening_leaf ∷ [])
+    (record { page = lit< tt; linked = rw slot (lit< tt); records = rw slot (put, (leaf, refl)) }) refl refl refl (λ key. by_cases (is_eq (key_cmp key (codes "a"))))
   where
     by_cases : (b : Bool) → (if b then Some (Value (codes "1")) else None) ≡ option_map Value (if b then Some (codes "1") else None)
     by_cases true = refl

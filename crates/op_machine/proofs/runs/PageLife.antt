@@ -26,7 +26,64 @@ is_run = IsRun-from_steps small page_life (
     (refl, tt, refl),
     (
       (refl, tt, refl),
-      ((refl, tt, refl), ((refl, tt, refl), ((refl, tt, refl), ((refl, tt, refl), ((refl, tt, refl), ((refl, tt, refl), ((refl, tt, refl), ((refl, place 10 2 refl refl refl, refl), ((refl, tt, refl), ((refl, place 12 3 refl refl refl, refl), ((refl, tt, refl), ((refl, place 14 4 refl refl refl, refl), ((refl, tt, refl), ((refl, tt, refl), ((refl, place 17 5 refl refl refl, refl), ((refl, tt, refl), ((refl, place 19 6 refl refl refl, refl), ((refl, tt, refl), ((refl, place 21 7 refl refl refl, refl), ((refl, tt, refl), ((refl, place 23 8 refl refl refl, refl), ((refl, tt, refl), ((refl, tt, refl), tt))))))))))))))))))))))),
+      (
+        (refl, tt, refl),
+        (
+          (refl, tt, refl),
+          (
+            (refl, tt, refl),
+            (
+              (refl, tt, refl),
+              (
+                (refl, tt, refl),
+                (
+                  (refl, tt, refl),
+                  (
+                    (refl, tt, refl),
+                    (
+                      (refl, place 10 2 refl refl refl, refl),
+                      (
+                        (refl, tt, refl),
+                        (
+                          (refl, place 12 3 refl refl refl, refl),
+                          (
+                            (refl, tt, refl),
+                            (
+                              (refl, place 14 4 refl refl refl, refl),
+                              (
+                                (refl, tt, refl),
+                                (
+                                  (refl, tt, refl),
+                                  (
+                                    (refl, place 17 5 refl refl refl, refl),
+                                    (
+                                      (refl, tt, refl),
+                                      (
+                                        (refl, place 19 6 refl refl refl, refl),
+                                        (
+                                          (refl, tt, refl),
+                                          (
+                                            (refl, place 21 7 refl refl refl, refl),
+                                            ((refl, tt, refl), ((refl, place 23 8 refl refl refl, refl), ((refl, tt, refl), ((refl, tt, refl), tt)))),
+                                          ),
+                                        ),
+                                      ),
+                                    ),
+                                  ),
+                                ),
+                              ),
+                            ),
+                          ),
+                        ),
+                      ),
+                    ),
+                  ),
+                ),
+              ),
+            ),
+          ),
+        ),
+      ),
     ),
   ),
 )
@@ -94,7 +151,8 @@ is_quiet = record {
         → ◌≡◌ {A = List ℕ × Option (List ℕ)} (low_in right, high_in right) (codes "m", None) → right_in right ≡ None
         → ((key : List ℕ) → content_in right key ≡ None) → HasMapOf (memory_at small page_life k) []
     two_leaves k right is other range last empty = no_values (memory_at small page_life k) (record { pid = 1; chain = split_away ∷ opening_leaf ∷ [] } ∷ record { pid = 2; chain = right } ∷ [])
-        (refl, is, (refl, other, rw last refl)) (refl, (ap (λ r. r.0) range, let none : high_in right ≡ None = ap (λ r. r.1) range in rw none refl)) (λ key. absent_or_absent (not (is_below key (codes "m"))), (empty, tt))
+        (refl, is, (refl, other, rw last refl)) (refl, (ap (λ r. r.0) range, let none : high_in right ≡ None = ap (λ r. r.1) range in rw none refl))
+        (λ key. absent_or_absent (not (is_below key (codes "m"))), (empty, tt))
 
     -- the right page stands
     new_right : (k : ℕ) → (memory_at small page_life k).slots 1 ≡ 3 → (memory_at small page_life k).rows 3 ≡ Some split_away → (memory_at small page_life k).rows 1 ≡ Some opening_leaf
@@ -117,7 +175,25 @@ is_quiet = record {
         alone_leaf 1 refl refl,
         (
           alone_leaf 2 refl refl,
-          (alone_leaf 3 refl refl, (alone_leaf 4 refl refl, (alone_leaf 5 refl refl, (alone_leaf 6 refl refl, (alone_leaf 7 refl refl, (alone_leaf 8 refl refl, (alone_leaf 9 refl refl, (alone_leaf 10 refl refl, (alone_leaf 11 refl refl, (alone_leaf 12 refl refl, alone_leaf 13 refl refl)))))))))),
+          (
+            alone_leaf 3 refl refl,
+            (
+              alone_leaf 4 refl refl,
+              (
+                alone_leaf 5 refl refl,
+                (
+                  alone_leaf 6 refl refl,
+                  (
+                    alone_leaf 7 refl refl,
+                    (
+                      alone_leaf 8 refl refl,
+                      (alone_leaf 9 refl refl, (alone_leaf 10 refl refl, (alone_leaf 11 refl refl, (alone_leaf 12 refl refl, alone_leaf 13 refl refl)))),
+                    ),
+                  ),
+                ),
+              ),
+            ),
+          ),
         ),
       ),
     )
@@ -186,7 +262,25 @@ not_yet earlier h = UpTo-at NoRoot 16 (UpTo-parts NoRoot 13 2 alone split) earli
         leaf_root 1 refl refl,
         (
           leaf_root 2 refl refl,
-          (leaf_root 3 refl refl, (leaf_root 4 refl refl, (leaf_root 5 refl refl, (leaf_root 6 refl refl, (leaf_root 7 refl refl, (leaf_root 8 refl refl, (leaf_root 9 refl refl, (leaf_root 10 refl refl, (leaf_root 11 refl refl, (leaf_root 12 refl refl, leaf_root 13 refl refl)))))))))),
+          (
+            leaf_root 3 refl refl,
+            (
+              leaf_root 4 refl refl,
+              (
+                leaf_root 5 refl refl,
+                (
+                  leaf_root 6 refl refl,
+                  (
+                    leaf_root 7 refl refl,
+                    (
+                      leaf_root 8 refl refl,
+                      (leaf_root 9 refl refl, (leaf_root 10 refl refl, (leaf_root 11 refl refl, (leaf_root 12 refl refl, leaf_root 13 refl refl)))),
+                    ),
+                  ),
+                ),
+              ),
+            ),
+          ),
         ),
       ),
     )

@@ -21,7 +21,19 @@ is_run = IsRun-from_steps small row_reuse (
     (refl, tt, refl),
     (
       (refl, tt, refl),
-      ((refl, tt, refl), ((refl, tt, (opening_leaf, refl, refl)), ((refl, tt, refl), ((refl, may_place (take 6 row_reuse) 2 refl refl refl, refl), ((refl, tt, refl), ((refl, tt, refl), ((refl, tt, refl), ((refl, tt, refl), ((refl, tt, refl), ((refl, tt, refl), tt)))))))))),
+      (
+        (refl, tt, refl),
+        (
+          (refl, tt, (opening_leaf, refl, refl)),
+          (
+            (refl, tt, refl),
+            (
+              (refl, may_place (take 6 row_reuse) 2 refl refl refl, refl),
+              ((refl, tt, refl), ((refl, tt, refl), ((refl, tt, refl), ((refl, tt, refl), ((refl, tt, refl), ((refl, tt, refl), tt)))))),
+            ),
+          ),
+        ),
+      ),
     ),
   ),
 )
@@ -82,7 +94,31 @@ kept between other step answer low high is = EachAt-get (λ k e. 7 < k → k < 1
     λ low high a s b r e. absurd (omega arith),
     (
       λ low high a s b r e. absurd (omega arith),
-      (λ low high a s b r e. absurd (omega arith), (λ low high a s b r e. absurd (omega arith), (λ low high a s b r e. absurd (omega arith), (λ low high a s b r e. absurd (omega arith), (λ low high a s b r e. absurd (omega arith), (λ low high a s b r e. hands Leave s b (λ h. h) cc, (λ low high a s b r e. hands Epoch s b (λ h. h) cc, (λ low high a s b r e. hands (Retire 1) s b (λ h. h) cc, (λ low high a s b r e. hands (Announce 1) s b (λ h. h) cc, (λ low high a s b r e. absurd (omega arith), tt)))))))))),
+      (
+        λ low high a s b r e. absurd (omega arith),
+        (
+          λ low high a s b r e. absurd (omega arith),
+          (
+            λ low high a s b r e. absurd (omega arith),
+            (
+              λ low high a s b r e. absurd (omega arith),
+              (
+                λ low high a s b r e. absurd (omega arith),
+                (
+                  λ low high a s b r e. hands Leave s b (λ h. h) cc,
+                  (
+                    λ low high a s b r e. hands Epoch s b (λ h. h) cc,
+                    (
+                      λ low high a s b r e. hands (Retire 1) s b (λ h. h) cc,
+                      (λ low high a s b r e. hands (Announce 1) s b (λ h. h) cc, (λ low high a s b r e. absurd (omega arith), tt)),
+                    ),
+                  ),
+                ),
+              ),
+            ),
+          ),
+        ),
+      ),
     ),
   ),
 )

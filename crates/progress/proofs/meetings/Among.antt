@@ -69,7 +69,11 @@ module _ (limits : Limits) (actor : ℕ) where
       where
         by_goal : (goal : WriteGoal) → BeginsToWrite round.limits round.key round.floor (knows entries actor) goal → Begins now goal round.key round.floor few_meets
         by_goal Seek b = let le : 18 ≤ 21 = omega arith in le
-        by_goal (Left pid) b = inr (subst (λ (k : Key). IsTrue (is_below [] k)) b.low (above_empty b.removed.chain b.gone.in_hand.sound.is_chain.fitted b.gone.gone), (let le : 19 ≤ 21 = omega arith in le))
+        by_goal (Left pid) b = inr (
+          subst (λ (k : Key). IsTrue (is_below [] k)) b.low
+              (above_empty b.removed.chain b.gone.in_hand.sound.is_chain.fitted b.gone.gone),
+          (let le : 19 ≤ 21 = omega arith in le),
+        )
         by_goal (Merge left) b = absurd b
         by_goal (Unterm parent left) b = absurd b
 
@@ -88,7 +92,8 @@ module _ (limits : Limits) (actor : ℕ) where
             → FitsAt (memory_of limits entries) visit at
         by_visit visit Slot e v = subst (λ (s : VisitState). HasNoneRead s visit.part) e v.seeks.on_way.bare
         by_visit visit (Row head row) e v =
-            let reads : seen.Reads (knows entries actor) visit.pid head visit.part row = subst (λ (s : VisitState). seen.ShowsState (knows entries actor) visit.pid visit.part s) e v.seeks.on_way.shows.stands in
+            let reads : seen.Reads (knows entries actor) visit.pid head visit.part row =
+            subst (λ (s : VisitState). seen.ShowsState (knows entries actor) visit.pid visit.part s) e v.seeks.on_way.shows.stands in
             let f = read_front limits entries state actor visit.pid head row visit.part reads.in_slot reads.seen in
             (f.0, f.1, f.2.fits)
 
@@ -151,7 +156,8 @@ module _ (limits : Limits) (actor : ℕ) where
           at_root zeroth =
               let has : (memory_of limits entries).slots slot ≡ expected = ap (memory_of limits entries).slots zeroth ∙ same.root ∙ ap w.memory.slots (sym zeroth) ∙ holds in
               let won : entry ≡ Step actor (Exchange 0 expected d.number) (Whether true) None = wins has ∙ ap (λ (n : ℕ). Step actor (Exchange n expected d.number) (Whether true) None) zeroth in
-              let on : changes_tree (memory_of limits entries) (Step actor (Exchange 0 expected d.number) (Whether true) None) ≡ false = subst (λ (e : Entry). changes_tree (memory_of limits entries) e ≡ false) won off in
+              let on : changes_tree (memory_of limits entries) (Step actor (Exchange 0 expected d.number) (Whether true) None) ≡ false =
+              subst (λ (e : Entry). changes_tree (memory_of limits entries) e ≡ false) won off in
               cc on
 
           at_page : (knows entries actor).read.heads slot ≡ Some expected → 0 < slot → ⊥
@@ -195,7 +201,8 @@ module _ (limits : Limits) (actor : ℕ) where
         | inr on ↦ decided slot expected taken new most asked answer is stands on.0 on.1
       ]
 
-      own_step : (writer new : WriterState) (r : Recalled) (most : ℕ) (asked : StepOf Record) (answer : Answer Record) → entry ≡ Step actor asked answer None → ShowsWriter writer (knows entries actor) r
+      own_step : (writer new : WriterState) (r : Recalled) (most : ℕ) (asked : StepOf Record) (answer : Answer Record) → entry ≡ Step actor asked answer None
+          → ShowsWriter writer (knows entries actor) r
           → Stands w writer most → StepsOn (knows entries actor) writer asked answer new → IsAnswer (memory_of limits entries) asked answer → Left_with new most asked answer
       own_step (InRound round) new r most asked answer is shows stands steps told = in_round round r new most asked answer shows stands steps told
       own_step (AtChange slot expected taken) new r most asked answer is shows stands steps told = at_change slot expected taken new most asked answer is stands steps
@@ -237,7 +244,8 @@ module _ (limits : Limits) (actor : ℕ) where
         omega (arith, few, none, more, product)
 
     -- it doesn't, and so many are left after it
-    unchanged : changes_tree (memory_of limits entries) moment.entry ≡ false → (left now_met : ℕ) → left + now_met ≤ most → cond {A = ℕ} (is_meeting moment) 1 0 ≡ now_met → Stands here.0 moment.state left → Goal
+    unchanged : changes_tree (memory_of limits entries) moment.entry ≡ false → (left now_met : ℕ) → left + now_met ≤ most
+        → cond {A = ℕ} (is_meeting moment) 1 0 ≡ now_met → Stands here.0 moment.state left → Goal
     unchanged off left now_met less one stands =
         let few = rest (entries ++ moment.entry ∷ []) m.later moment.state left are (here.0, same_next limits here.0 entries moment.entry state m.next m.later m.direct off here.1, stands) in
         let same = ap (λ (n : ℕ). n * few_meets) (none_more off) in

@@ -76,7 +76,8 @@ paid_some limits entries actor m (Change now after) pays = pays_less limits entr
 paid_some limits entries actor m (Leave reply lacks) pays = pays
 
 -- in the memory of a state, wherever a writer stands
-pub at_fresh : (limits : Limits) (entries : List Entry) (actor m : ℕ) (task : Task) (hand : Hand) (k : Knowledge) (r : Recalled) → IsState limits entries → (t : State) → ShowsState task hand.spares k r t
+pub at_fresh : (limits : Limits) (entries : List Entry) (actor m : ℕ) (task : Task) (hand : Hand) (k : Knowledge) (r : Recalled) → IsState limits entries
+    → (t : State) → ShowsState task hand.spares k r t
     → is_writer task.command ≡ true → PaysMeets limits entries actor m 21 → MeetsAt limits entries actor m t
 at_fresh limits entries actor m task hand k r state Begun shows writer pays = pays
 at_fresh limits entries actor m task hand k r state Epoch shows writer pays = pays
@@ -157,7 +158,8 @@ module _ (limits : Limits) (entries : List Entry) (actor : ℕ) (step : StepOf R
     goes = inl (record { step = step; answer = answer; entry_is = refl; steps = steps });
   }
 
-  pub from_state : (s t : State) (k : Knowledge) (r new_r : Recalled) (new_task : Task) (new_hand : Hand) → ShowsState task hand.spares (knows entries actor) r s → (wanted_at hand.spares s ≡ Some step) ⊎ (s ≡ Begun)
+  pub from_state : (s t : State) (k : Knowledge) (r new_r : Recalled) (new_task : Task) (new_hand : Hand)
+      → ShowsState task hand.spares (knows entries actor) r s → (wanted_at hand.spares s ≡ Some step) ⊎ (s ≡ Begun)
       → meets step answer ≡ false ⊎ (s ≡ Begun → ⊥)
       → (step ≡ step_of.Leave → ⊥) → ShowsState new_task new_hand.spares k new_r t → is_writer new_task.command ≡ true → StepsInRound task s answer t
       → ((m : ℕ) → start < m → m ≤ length entries → MeetsAt limits entries actor m s) → (m : ℕ) → start < m → m ≤ length longer → MeetsAt limits longer actor m t
@@ -206,7 +208,8 @@ writer_steps_paid fit limits entries actor step answer reply old new state shown
     by_running : (o n : Option UnderWay) (given : Option Reply) → IsActorWith limits actor (knows entries actor) (recalls entries actor) old.hand o
         → PaysWriter limits entries actor o → wanted_by o ≡ Some step
         → IsState limits (entries ++ Step actor step answer given ∷ []) → IsDirect limits (entries ++ Step actor step answer given ∷ []) → StepsAt o answer n
-        → (step ≡ step_of.Leave → IsSome given) → IsActorWith limits actor (knows_then (knows entries actor) step answer reply) (recall (recalls entries actor) step answer) new.hand n → command_at n ≡ command_left given (command_at o)
+        → (step ≡ step_of.Leave → IsSome given) → IsActorWith limits actor (knows_then (knows entries actor) step answer reply)
+        (recall (recalls entries actor) step answer) new.hand n → command_at n ≡ command_left given (command_at o)
         → PaysWriter limits (entries ++ Step actor step answer given ∷ []) actor n
     by_running None n given shows pays wants later direct steps ends new_shows command = absurd (cc wants)
     by_running (Some running) None given shows pays wants later direct steps ends new_shows command = tt
@@ -231,7 +234,8 @@ writer_steps_paid fit limits entries actor step answer reply old new state shown
               let may : May running.op.task.actor (knows entries actor) step =
               subst (λ (s : StepOf Record). May running.op.task.actor (knows entries actor) s) (same_Some running.wanted step wants) goes.may.may in
               from_state limits entries actor step answer fit state later direct start running.op.task old.hand shows.own_actor may (slice_get_below entries start _ before.begun)
-              running.op.state now.op.state (knows_then (knows entries actor) step answer reply) (recalls entries actor) (recall (recalls entries actor) step answer) now.op.task new.hand goes.shows.stands step_is calm
+              running.op.state now.op.state (knows_then (knows entries actor) step answer reply) (recalls entries actor)
+              (recall (recalls entries actor) step answer) now.op.task new.hand goes.shows.stands step_is calm
               (λ leaves. let none : IsSome {T = Reply} None = ends leaves in cc) new_shows.goes.shows.stands (ap is_writer (same_new ∙ same) ∙ writer) steps
               (λ k low high. pays start k asked before writer low high) m after within
         ]

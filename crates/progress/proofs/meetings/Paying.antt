@@ -281,7 +281,8 @@ module _ (limits : Limits) (entries : List Entry) where
         let on = tally_most (told op.actor) op.start (suc n - op.start) f.js f.apart
         (each_mapped (λ j. (op.start + j ≤ n) × (told op.actor (op.start + j) ≡ true)) (λ j. (j < suc n - op.start) × (told op.actor (op.start + j) ≡ true)) f.js
         (λ j h. ((let le : op.start + j ≤ n = h.0 in omega arith), h.1)) f.each) in
-        let paid = paid_by limits entries run op (λ c. IsCauseBefore c × (told op.actor c ≡ false)) miss_pays p.off p.off_apart (all_of (λ c. IsCauseBefore c × (told op.actor c ≡ false)) p.off p.off_each) in
+        let paid = paid_by limits entries run op (λ c. IsCauseBefore c × (told op.actor c ≡ false)) miss_pays p.off p.off_apart
+        (all_of (λ c. IsCauseBefore c × (told op.actor c ≡ false)) p.off p.off_each) in
         let off = tally_most (beside limits entries op.actor) op.start (suc n - op.start) paid.numbers paid.distinct (all_beside p.off paid.numbers p.off_each paid.each) in
         let many = p.many in
         let as_many = f.as_many in

@@ -2,7 +2,8 @@
 use Rattle.std.proofs.Common.{◌≡◌, ◌<◌, ◌≤◌, ◌+◌, ◌-◌, ◌*◌, ◌++◌, ℕ, suc, List, [], ◌∷◌, length, drop, Bool, true, false, cond, refl, sym, ap, ◌∙◌, arith}
 use Rattle.std.specs.Prelude.{◌&&◌, ◌==◌}
 use Rattle.std.proofs.lemmas.List.{drop-append-le, drop_all}
-use Rattle.progress.proofs.Words.{either, Memory, add-mul, if◌then◌else◌, All-push, All-weaker, All, count_by, Limits, Entry, Happens, memory_of, increasing_push, pushed_length, ChangesTree, IsState, changes_tree}
+use Rattle.progress.proofs.Words.{either, Memory, add-mul, if◌then◌else◌, All-push, All-weaker, All, count_by, Limits, Entry, Happens, memory_of}
+use Rattle.progress.proofs.Words.{increasing_push, pushed_length, ChangesTree, IsState, changes_tree}
 use Rattle.traces.proofs.TraceLaws.{Happens-kept, Happens-last}
 use Rattle.progress.specs.WriterStates.{MeetsFewer, PaysForWriter, PaysMeets}
 use Rattle.progress.specs.WritersAmong.{few_meets, IsLawfulWriting, WriterMoment, WriterState, changes_among, meets_at, own_meets}
@@ -176,5 +177,6 @@ goes_on limits entries actor writer moment m lawful within pays = either (change
         }
 
 -- a writer from the end of a state on
-pub writer_fresh : (limits : Limits) (entries : List Entry) (actor : ℕ) (writer : WriterState) (m : ℕ) → IsState limits entries → PaysMeets limits entries actor m 21 → PaysForWriter limits entries actor writer m
+pub writer_fresh : (limits : Limits) (entries : List Entry) (actor : ℕ) (writer : WriterState) (m : ℕ) → IsState limits entries
+    → PaysMeets limits entries actor m 21 → PaysForWriter limits entries actor writer m
 writer_fresh limits entries actor writer m state pays = record { left = 21; few = few_fresh limits actor entries writer state; pays = pays }

@@ -36,7 +36,8 @@ empties limits k zero old some ready went fits = absurd (omega (arith, some))
 empties limits k (suc slot) zero some ready went fits = fits
 empties limits k (suc slot) (suc old) some ready went fits = fits.0 ready
 
-clears_it : (limits : Limits) (k : Knowledge) (actor slot old : ℕ) → k.own.pages slot ≡ Gone → ReadsRemoved k slot old → MayExchange actor k slot old 0 → (went : Bool) → FitsExchange limits k slot old 0 went
+clears_it : (limits : Limits) (k : Knowledge) (actor slot old : ℕ) → k.own.pages slot ≡ Gone → ReadsRemoved k slot old → MayExchange actor k slot old 0
+    → (went : Bool) → FitsExchange limits k slot old 0 went
     → went ≡ true
 clears_it limits k actor zero old gone reads may went fits = absurd (let both : Gone ≡ Ready may.base_row = sym gone ∙ may.ready in cc)
 clears_it limits k actor (suc slot) zero gone reads may went fits = fits
@@ -77,7 +78,8 @@ module _ (limits : Limits) (task : Task) (spares : Spares) (k : Knowledge) (r : 
       by_plan (plan_is.Root left root) e = inl (ap slot_of e)
       by_plan (plan_is.Unlink pid head unterm removal) e = inr (rw e (rw e at placed))
 
-  pub decides : now.state ≡ at.Link → May task.actor k (wanted_at now.limits now.plan spares now.state) → Decides k (slot_of now.plan) (head_of now.plan) (wanted_at now.limits now.plan spares now.state)
+  pub decides : now.state ≡ at.Link → May task.actor k (wanted_at now.limits now.plan spares now.state)
+      → Decides k (slot_of now.plan) (head_of now.plan) (wanted_at now.limits now.plan spares now.state)
   decides is may =
       let enough : AreEnough now.limits now.plan spares = subst (λ (s : State). IsSoundState now.limits now.plan spares s) is shows.sound.state in
       let here : May task.actor k (wanted_at now.limits now.plan spares at.Link) = subst (λ (s : State). May task.actor k (wanted_at now.limits now.plan spares s)) is may in
@@ -124,5 +126,6 @@ module _ (limits : Limits) (task : Task) (spares : Spares) (k : Knowledge) (r : 
       calm_exchange limits k (cleared_page now.plan) (cleared_row now.plan) 0 answer asks.0
       (clears_it limits k task.actor (cleared_page now.plan) (cleared_row now.plan) gone.1 (cleared sound) asks.1.1)
 
-  pub calm : (now.state ≡ at.Link → ⊥) → Fits limits k (wanted_at now.limits now.plan spares now.state) answer → May task.actor k (wanted_at now.limits now.plan spares now.state) → meets (wanted_at now.limits now.plan spares now.state) answer ≡ false
+  pub calm : (now.state ≡ at.Link → ⊥) → Fits limits k (wanted_at now.limits now.plan spares now.state) answer
+      → May task.actor k (wanted_at now.limits now.plan spares now.state) → meets (wanted_at now.limits now.plan spares now.state) answer ≡ false
   calm other fits may = by_state now.state refl other (fits, may)

@@ -124,21 +124,27 @@ module _ (w : Standing) where
       enough = elim r [
         | inl f ↦
             let bare : visit.part ≡ [] = subst (λ (s : VisitState). HasNoneRead s visit.part) f.asked v.bare in
-            let before : owed (is_removed v.page.chain) (has_removal visit.part) ≡ owed (is_removed v.page.chain) false = ap (λ (p : List Record). owed (is_removed v.page.chain) (has_removal p)) bare in
-            let after : owed (is_removed v.page.chain) (has_removal next.part) ≡ owed (is_removed v.page.chain) false = ap (λ (n : Visit). owed (is_removed v.page.chain) (has_removal n.part)) f.goes in
+            let before : owed (is_removed v.page.chain) (has_removal visit.part) ≡ owed (is_removed v.page.chain) false =
+            ap (λ (p : List Record). owed (is_removed v.page.chain) (has_removal p)) bare in
+            let after : owed (is_removed v.page.chain) (has_removal next.part) ≡ owed (is_removed v.page.chain) false =
+            ap (λ (n : Visit). owed (is_removed v.page.chain) (has_removal n.part)) f.goes in
             let none : meets_now (page.wanted_step visit) told ≡ 0 = ap (λ (s : VisitState). meets_now (page.wanted_at visit.pid s) told) f.asked ∙ meets_none visit.pid f.row told f.is f.some in
             let few = v.few in
             omega (arith, before, after, none, few)
         | inr c ↦
             let part : next.part ≡ visit.part ++ c.content ∷ [] = ap (λ (n : Visit). n.part) c.goes in
-            let is_left : IsLeft w.memory v.page.chain (visit.part ++ c.content ∷ []) (Row c.head c.under) g.left = subst (λ (n : Visit). IsLeft w.memory v.page.chain n.part n.state g.left) c.goes g.is_left in
+            let is_left : IsLeft w.memory v.page.chain (visit.part ++ c.content ∷ []) (Row c.head c.under) g.left =
+            subst (λ (n : Visit). IsLeft w.memory v.page.chain n.part n.state g.left) c.goes g.is_left in
             let whole : visit.part ++ c.content ∷ is_left.0 ≡ v.page.chain = sym (append_assoc visit.part (c.content ∷ []) is_left.0) ∙ is_left.3 in
             let fitted = subst IsFitted (sym whole) v.stands.fits.fitted in
             let pays = owed_next visit.part is_left.0 c.content fitted in
             let here : owed (is_removed v.page.chain) (has_removal (visit.part ++ c.content ∷ [])) + cond (is_removal c.content) 1 0 ≤ owed (is_removed v.page.chain) (has_removal visit.part) = subst
-            (λ (chain : List Record). owed (is_removed chain) (has_removal (visit.part ++ c.content ∷ [])) + cond (is_removal c.content) 1 0 ≤ owed (is_removed chain) (has_removal visit.part)) whole pays in
-            let after : owed (is_removed v.page.chain) (has_removal next.part) ≡ owed (is_removed v.page.chain) (has_removal (visit.part ++ c.content ∷ [])) = ap (λ (p : List Record). owed (is_removed v.page.chain) (has_removal p)) part in
-            let one : meets_now (page.wanted_step visit) told ≡ cond (is_removal c.content) 1 0 = ap (λ (s : VisitState). meets_now (page.wanted_at visit.pid s) told) c.asked ∙ meets_record c.row c.content told c.is in
+            (λ (chain : List Record). owed (is_removed chain) (has_removal (visit.part ++ c.content ∷ [])) + cond (is_removal c.content) 1 0 ≤ owed
+            (is_removed chain) (has_removal visit.part)) whole pays in
+            let after : owed (is_removed v.page.chain) (has_removal next.part) ≡ owed (is_removed v.page.chain) (has_removal (visit.part ++ c.content ∷ [])) =
+            ap (λ (p : List Record). owed (is_removed v.page.chain) (has_removal p)) part in
+            let one : meets_now (page.wanted_step visit) told ≡ cond (is_removal c.content) 1 0 =
+            ap (λ (s : VisitState). meets_now (page.wanted_at visit.pid s) told) c.asked ∙ meets_record c.row c.content told c.is in
             let few = v.few in
             omega (arith, here, after, one, few)
       ]
@@ -245,12 +251,15 @@ module _ (w : Standing) (memory : Memory) where
         let asked : IsAnswer memory (page.wanted_at visit.pid (Row c.head c.row)) told = subst (λ (s : VisitState). IsAnswer memory (page.wanted_at visit.pid s) told) c.asked answer in
         let g = goes_on memory visit.limits visit.pid visit.part (visit.part ++ rest.0) (Row c.head c.row) (length rest.0) told next (rest.0, refl, rest.1, refl) asked
         (record { head = c.head; row = c.row; content = c.content; under = c.under; asked = refl; is = c.is; more = c.more; goes = c.goes }) in
-        let is_left : IsLeft memory (visit.part ++ rest.0) (visit.part ++ c.content ∷ []) (Row c.head c.under) g.left = subst (λ (n : Visit). IsLeft memory (visit.part ++ rest.0) n.part n.state g.left) c.goes g.is_left in
+        let is_left : IsLeft memory (visit.part ++ rest.0) (visit.part ++ c.content ∷ []) (Row c.head c.under) g.left =
+        subst (λ (n : Visit). IsLeft memory (visit.part ++ rest.0) n.part n.state g.left) c.goes g.is_left in
         let whole : visit.part ++ c.content ∷ is_left.0 ≡ visit.part ++ rest.0 = sym (append_assoc visit.part (c.content ∷ []) is_left.0) ∙ is_left.3 in
         let once = once_next visit.part is_left.0 c.content (subst IsFitted (sym whole) rest.2.fitted) in
         let after : cond {A = ℕ} (has_removal next.part) 1 0 ≡ cond (has_removal (visit.part ++ c.content ∷ [])) 1 0 = ap (λ (p : List Record). cond {A = ℕ} (has_removal p) 1 0) part in
-        let one : meets_now (page.wanted_step visit) told ≡ cond (is_removal c.content) 1 0 = ap (λ (s : VisitState). meets_now (page.wanted_at visit.pid s) told) c.asked ∙ meets_record c.row c.content told c.is in
-        less most (meets_now (page.wanted_step visit) told) (cond {A = ℕ} (is_removal c.content) 1 0) (cond {A = ℕ} (has_removal visit.part) 1 0) (cond {A = ℕ} (has_removal next.part) 1 0) one (omega (arith, once, after)) few
+        let one : meets_now (page.wanted_step visit) told ≡ cond (is_removal c.content) 1 0 =
+        ap (λ (s : VisitState). meets_now (page.wanted_at visit.pid s) told) c.asked ∙ meets_record c.row c.content told c.is in
+        less most (meets_now (page.wanted_step visit) told) (cond {A = ℕ} (is_removal c.content) 1 0) (cond {A = ℕ} (has_removal visit.part) 1 0)
+        (cond {A = ℕ} (has_removal next.part) 1 0) one (omega (arith, once, after)) few
         (one_bool (has_removal visit.part)) (one_bool (is_removal c.content))
   ]
     where
@@ -301,7 +310,8 @@ module _ (w : Standing) (memory : Memory) where
       small true = omega arith
       small false = omega arith
 
-      treated : (old : WriteRound) (visit : Visit) (version : Version) (new : WriteRound) (result : Option WriteEnd) (most : ℕ) → 21 ≤ most + cond (has_removal visit.part) 1 0 → IsPageChain version.chain
+      treated : (old : WriteRound) (visit : Visit) (version : Version) (new : WriteRound) (result : Option WriteEnd) (most : ℕ)
+          → 21 ≤ most + cond (has_removal visit.part) 1 0 → IsPageChain version.chain
           → (has_removal visit.part ≡ true → is_removed version.chain ≡ true) → TreatsWrite (at old (Page visit)) version new result → StaleThen w new result most
       treated old visit version new None most few fitted gone t = elim t [
         | inl g ↦ let none = none_read visit.part version.chain gone g.alive in let le : 21 ≤ most + 0 = omega (arith, few, none) in on new _ most g.goes le

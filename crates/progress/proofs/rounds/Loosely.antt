@@ -258,7 +258,8 @@ module _ (w : Standing) where
     ]
   ]
     where
-      comes : (leg : Leg) (goal : ReadGoal) (next : ℕ) → new ≡ reading_on_to next (on leg (toward goal old)) → IsPlace w.tree next → IsLegIn w.tree leg → IsGoalIn w.tree goal → Moves new (suc (most w))
+      comes : (leg : Leg) (goal : ReadGoal) (next : ℕ) → new ≡ reading_on_to next (on leg (toward goal old)) → IsPlace w.tree next → IsLegIn w.tree leg
+          → IsGoalIn w.tree goal → Moves new (suc (most w))
       comes leg goal next e place leg_is goal_is = goes old new leg goal next (most w) (suc (most w)) e place leg_is goal_is (omega arith) (λ page level is_pid stands. few_any w leg level page stands)
 
       leading : {way : Key → Bool} {chain : List Record} → NamesPlaces w.tree chain → (next : ℕ) → LeadsOn way chain next → IsPlace w.tree next

@@ -81,7 +81,8 @@ module _ (w : Standing) where
   Then old new (Some (Leaf leaf)) cost later = ⊤
   Then old new (Some (Beside left removed)) cost later = ⊤
 
-  into : (leg : Leg) (goal : ReadGoal) (key : Key) (page : LivePage) (cost later : ℕ) → IsPlain leg → OnWay w (read_way goal key) (above_of leg) page cost → Keeps goal key later → At leg goal key page cost later
+  into : (leg : Leg) (goal : ReadGoal) (key : Key) (page : LivePage) (cost later : ℕ) → IsPlain leg → OnWay w (read_way goal key) (above_of leg) page cost
+      → Keeps goal key later → At leg goal key page cost later
   into (Down above) Beyond key page cost later plain o k = absurd k
   into (Past above) Beyond key page cost later plain o k = absurd k
   into (Round removed) goal key page cost later plain o k = absurd plain
@@ -92,7 +93,8 @@ module _ (w : Standing) where
   onto (Past above) key page cost later plain o = o
   onto (Round removed) key page cost later plain o = absurd plain
 
-  gone : (old new : ReadRound) (leg : Leg) (goal : ReadGoal) (next cost later : ℕ) → new ≡ reading_on_to next (on leg (toward goal old)) → (c : Comes w next cost (λ page left. At leg goal old.key page left later)) → Goes new old.key cost later
+  gone : (old new : ReadRound) (leg : Leg) (goal : ReadGoal) (next cost later : ℕ) → new ≡ reading_on_to next (on leg (toward goal old))
+      → (c : Comes w next cost (λ page left. At leg goal old.key page left later)) → Goes new old.key cost later
   gone old new leg goal next cost later e c = subst (λ (r : ReadRound). Goes r old.key cost later) (sym e) (record {
     page = c.page;
     level = c.level;
@@ -108,7 +110,8 @@ module _ (w : Standing) where
   turned next cost P Q f c = record { page = c.page; is_pid = c.is_pid; level = c.level; stands = c.stands; left = c.left; fewer = c.fewer; at = f c.page c.left c.at }
 
   -- the leaf to the left of a removed one
-  left_leaf : (old : ReadRound) (version removed : Version) (cost later : ℕ) → OnWay w (read_way old.goal old.key) (above_of old.leg) (live version) cost → Keeps old.goal old.key later → IsLeftLeaf old version removed
+  left_leaf : (old : ReadRound) (version removed : Version) (cost later : ℕ) → OnWay w (read_way old.goal old.key) (above_of old.leg) (live version) cost
+      → Keeps old.goal old.key later → IsLeftLeaf old version removed
       → On w 0 (live version) × (left_from w 0 (low_in version.chain) ≤ cost) × IsBelow (low_in version.chain) (low_in removed.chain) × Keeps (Left removed) old.key later
   left_leaf old version removed cost later o k l = elim o.is [
     | inl here ↦
@@ -135,7 +138,8 @@ module _ (w : Standing) where
     pub beyond : IsBeyond w low other
     pub rest : times w (removed_after w key low) ≤ later
 
-  beside_leaf : (key : Key) (next later : ℕ) (removed : Version) (page : LivePage) → Keeps (Left removed) key later → On w 0 page → IsBelow (low_of page) (low_in removed.chain) → right_in page.chain ≡ Some removed.pid → LeadsRight (reaches key) removed.chain next
+  beside_leaf : (key : Key) (next later : ℕ) (removed : Version) (page : LivePage) → Keeps (Left removed) key later → On w 0 page
+      → IsBelow (low_of page) (low_in removed.chain) → right_in page.chain ≡ Some removed.pid → LeadsRight (reaches key) removed.chain next
       → Onto key next page later
   beside_leaf key next later removed page k on below is_right leads = elim k [
     | inl termed ↦ from termed.0 termed.1
@@ -145,9 +149,18 @@ module _ (w : Standing) where
       from : IsRemovedLeaf w (live removed) → times w (removed_after w key (low_in removed.chain)) ≤ later → Onto key next page later
       from r rest =
           let q = beside_right w key next (live removed) page r on is_right leads in
-          record { other = q.0; is_pid = q.1; passing = q.2; after = below_upto (low_of page) (low_in removed.chain) (low_of q.0) below (below_not (low_in removed.chain) (low_of q.0) q.3); low = low_in removed.chain; beyond = q.4; rest = rest }
+          record {
+            other = q.0;
+            is_pid = q.1;
+            passing = q.2;
+            after = below_upto (low_of page) (low_in removed.chain) (low_of q.0) below (below_not (low_in removed.chain) (low_of q.0) q.3);
+            low = low_in removed.chain;
+            beyond = q.4;
+            rest = rest;
+          }
 
-  past_leaf : (key : Key) (next later : ℕ) (removed : Version) (page : LivePage) → Keeps (Left removed) key later → On w 0 page → right_in page.chain ≢ Some removed.pid → StaysLeft (left_of removed) page.chain → LeadsRight (reaches key) page.chain next
+  past_leaf : (key : Key) (next later : ℕ) (removed : Version) (page : LivePage) → Keeps (Left removed) key later → On w 0 page
+      → right_in page.chain ≢ Some removed.pid → StaysLeft (left_of removed) page.chain → LeadsRight (reaches key) page.chain next
       → Onto key next page later
   past_leaf key next later removed page k on apart stays leads = elim k [
     | inl termed ↦
@@ -166,7 +179,8 @@ module _ (w : Standing) where
         }
   ]
 
-  on_leaf : (key : Key) (low : Key) (other page : LivePage) (next cost later : ℕ) → other.pid ≡ next → reaches key (low_of other) ≡ true → IsBeyond w low other → On w 0 page → IsBelow (low_of page) (low_of other) → left_from w 0 (low_of page) ≤ cost
+  on_leaf : (key : Key) (low : Key) (other page : LivePage) (next cost later : ℕ) → other.pid ≡ next → reaches key (low_of other) ≡ true → IsBeyond w low other
+      → On w 0 page → IsBelow (low_of page) (low_of other) → left_from w 0 (low_of page) ≤ cost
       → times w (removed_after w key low) ≤ later → Comes w next cost (λ page left. OnLeaves key page left later)
   on_leaf key low other page next cost later is_pid pass beyond on after few rest = record {
     page = other;
@@ -179,33 +193,39 @@ module _ (w : Standing) where
   }
 
   -- down and to the right, to the leaf of the key, or to the left of a removed leaf
-  plain_on : (old : ReadRound) (version : Version) (new : ReadRound) (cost later : ℕ) → IsPlain old.leg → OnWay w (read_way old.goal old.key) (above_of old.leg) (live version) cost → Keeps old.goal old.key later → TreatsRead old version new None
+  plain_on : (old : ReadRound) (version : Version) (new : ReadRound) (cost later : ℕ) → IsPlain old.leg
+      → OnWay w (read_way old.goal old.key) (above_of old.leg) (live version) cost → Keeps old.goal old.key later → TreatsRead old version new None
       → Goes new old.key cost later
   plain_on old version new cost later plain o k treats = elim treats [
     | inl r ↦ gone old new old.leg old.goal r.next cost later r.goes
-        (turned r.next cost (OnWay w way (above_of old.leg)) (λ page left. At old.leg old.goal old.key page left later) (λ page left h. into old.leg old.goal old.key page left later plain h k) (way_right w way (above_of old.leg) (above_of old.leg) r.next cost version o r.alive r.leads))
+        (turned r.next cost (OnWay w way (above_of old.leg)) (λ page left. At old.leg old.goal old.key page left later)
+        (λ page left h. into old.leg old.goal old.key page left later plain h k) (way_right w way (above_of old.leg) (above_of old.leg) r.next cost version o r.alive r.leads))
     | inr rest ↦ elim rest [
       | inl r ↦ gone old new (below version old.leg) old.goal r.next cost later r.goes
           (turned r.next cost (OnWay w way (Some version)) (λ page left. At (below version old.leg) old.goal old.key page left later)
-          (λ page left h. into (below version old.leg) old.goal old.key page left later (plain_below old.leg version plain) (subst (λ (a : Option Version). OnWay w way a page left) (sym (above_below old.leg version plain)) h) k)
+          (λ page left h. into (below version old.leg) old.goal old.key page left later (plain_below old.leg version plain)
+          (subst (λ (a : Option Version). OnWay w way a page left) (sym (above_below old.leg version plain)) h) k)
           (way_down w way is_way (above_of old.leg) r.next cost version o r.alive r.stays r.index r.leads))
       | inr rest ↦ elim rest [
         | inl r ↦
             let l = left_leaf old version r.removed cost later o k r.left in
             let q = beside_leaf old.key r.next later r.removed (live version) l.3 l.0 l.2 r.beside r.leads in
             gone old new (level_on old.leg) Beyond r.next cost later r.goes
-            (turned r.next cost (λ page left. OnLeaves old.key page left later) (λ page left. At (level_on old.leg) Beyond old.key page left later) (λ page left h. onto old.leg old.key page left later plain h)
+            (turned r.next cost (λ page left. OnLeaves old.key page left later) (λ page left. At (level_on old.leg) Beyond old.key page left later)
+            (λ page left h. onto old.leg old.key page left later plain h)
             (on_leaf old.key q.low q.other (live version) r.next cost later q.is_pid q.passing q.beyond l.0 q.after l.1 q.rest))
         | inr rest ↦ elim rest [
           | inl r ↦
               let l = left_leaf old version r.removed cost later o k r.left in
               let q = past_leaf old.key r.next later r.removed (live version) l.3 l.0 r.merged r.left.ends.stays r.leads in
               gone old new (level_on old.leg) Beyond r.next cost later r.goes
-              (turned r.next cost (λ page left. OnLeaves old.key page left later) (λ page left. At (level_on old.leg) Beyond old.key page left later) (λ page left h. onto old.leg old.key page left later plain h)
+              (turned r.next cost (λ page left. OnLeaves old.key page left later) (λ page left. At (level_on old.leg) Beyond old.key page left later)
+              (λ page left h. onto old.leg old.key page left later plain h)
               (on_leaf old.key q.low q.other (live version) r.next cost later q.is_pid q.passing q.beyond l.0 q.after l.1 q.rest))
           | inr rest ↦ elim rest [
             | inl r ↦ gone old new (Round version) old.goal r.next cost later r.goes
-                (turned r.next cost (OnRound w way version) (λ page left. At (Round version) old.goal old.key page left later) (λ page left h. (h, k)) (way_round w way is_way (above_of old.leg) r.next cost version r.above o r.gone r.is_above r.leads))
+                (turned r.next cost (OnRound w way version) (λ page left. At (Round version) old.goal old.key page left later) (λ page left h. (h, k))
+                (way_round w way is_way (above_of old.leg) r.next cost version r.above o r.gone r.is_above r.leads))
             | inr rest ↦ elim rest [
               | inl r ↦ not_round old.leg r.removed plain r.left.leg
               | inr rest ↦ elim rest [
@@ -229,7 +249,8 @@ module _ (w : Standing) where
       is_way = is_way_of old.goal old.key
 
   -- it isn't lost, and ends at a removed leaf on the way to a key alone
-  plain_lost : (old : ReadRound) (version : Version) (cost : ℕ) → IsPlain old.leg → OnWay w (read_way old.goal old.key) (above_of old.leg) (live version) cost → IsLost old version ⊎ IsOffLevel old version → ⊥
+  plain_lost : (old : ReadRound) (version : Version) (cost : ℕ) → IsPlain old.leg → OnWay w (read_way old.goal old.key) (above_of old.leg) (live version) cost
+      → IsLost old version ⊎ IsOffLevel old version → ⊥
   plain_lost old version cost plain o treats = elim treats [
     | inl lost ↦ let f = way_found w (read_way old.goal old.key) (above_of old.leg) cost version o lost.gone in f.2 (lacking old.leg version f.0 f.1 lost.lacks)
     | inr off ↦ not_round old.leg off.removed plain off.leg
@@ -239,10 +260,12 @@ module _ (w : Standing) where
       → IsPageOn w.limits w.memory 0 (live version) × Under w way above 0 (live version)
   under_leaf way above version cost o removed leaf = elim o.is [
     | inl here ↦ absurd (let both : true ≡ false = sym removed ∙ here.0.alive in cc)
-    | inr here ↦ let zeroth : o.level ≡ 0 = sym o.stands.level_is ∙ leaf in (subst (λ (n : ℕ). IsPageOn w.limits w.memory n (live version)) zeroth o.stands, subst (λ (n : ℕ). Under w way above n (live version)) zeroth here.0)
+    | inr here ↦ let zeroth : o.level ≡ 0 = sym o.stands.level_is
+        ∙ leaf in (subst (λ (n : ℕ). IsPageOn w.limits w.memory n (live version)) zeroth o.stands, subst (λ (n : ℕ). Under w way above n (live version)) zeroth here.0)
   ]
 
-  plain_gone : (goal : ReadGoal) (key : Key) (above : Option Version) (version : Version) (cost later : ℕ) → OnWay w (read_way goal key) above (live version) cost → Keeps goal key later → is_removed version.chain ≡ true → level_in version.chain ≡ 0
+  plain_gone : (goal : ReadGoal) (key : Key) (above : Option Version) (version : Version) (cost later : ℕ)
+      → OnWay w (read_way goal key) above (live version) cost → Keeps goal key later → is_removed version.chain ≡ true → level_in version.chain ≡ 0
       → IsRemovedLeaf w (live version) × (one_round w + times w (removed_after w key (low_in version.chain)) ≤ later)
   plain_gone Seek key above version cost later o k removed leaf =
       let u = under_leaf (reaches key) above version cost o removed leaf in
@@ -256,15 +279,18 @@ module _ (w : Standing) where
       ]
   plain_gone Beyond key above version cost later o k removed leaf = absurd k
 
-  plain_end : (old : ReadRound) (version : Version) (new : ReadRound) (cost later : ℕ) (end : ReadEnd) → IsPlain old.leg → OnWay w (read_way old.goal old.key) (above_of old.leg) (live version) cost → Keeps old.goal old.key later
+  plain_end : (old : ReadRound) (version : Version) (new : ReadRound) (cost later : ℕ) (end : ReadEnd) → IsPlain old.leg
+      → OnWay w (read_way old.goal old.key) (above_of old.leg) (live version) cost → Keeps old.goal old.key later
       → TreatsRead old version new (Some end) → Then old new (Some end) cost later
   plain_end old version new cost later Again plain o k treats = plain_lost old version cost plain o treats
   plain_end old version new cost later (Removed removed) plain o k at =
-      subst (λ (v : Version). IsRemovedLeaf w (live v) × (one_round w + times w (removed_after w old.key (low_in v.chain)) ≤ later)) (sym at.is) (plain_gone old.goal old.key (above_of old.leg) version cost later o k at.gone at.leaf)
+      subst (λ (v : Version). IsRemovedLeaf w (live v) × (one_round w + times w (removed_after w old.key (low_in v.chain)) ≤ later)) (sym at.is)
+      (plain_gone old.goal old.key (above_of old.leg) version cost later o k at.gone at.leaf)
   plain_end old version new cost later (Leaf leaf) plain o k at = tt
   plain_end old version new cost later (Beside left removed) plain o k at = tt
 
-  plain_treats : (old : ReadRound) (version : Version) (new : ReadRound) (cost later : ℕ) (result : Option ReadEnd) → IsPlain old.leg → OnWay w (read_way old.goal old.key) (above_of old.leg) (live version) cost → Keeps old.goal old.key later
+  plain_treats : (old : ReadRound) (version : Version) (new : ReadRound) (cost later : ℕ) (result : Option ReadEnd) → IsPlain old.leg
+      → OnWay w (read_way old.goal old.key) (above_of old.leg) (live version) cost → Keeps old.goal old.key later
       → TreatsRead old version new result → Then old new result cost later
   plain_treats old version new cost later None plain o k treats = plain_on old version new cost later plain o k treats
   plain_treats old version new cost later (Some end) plain o k treats = plain_end old version new cost later end plain o k treats
@@ -291,7 +317,12 @@ module _ (w : Standing) where
           let q = right w (reaches key) 0 r.next (live version) o.beyond.on r.leads in
           gone on_leaves new leg Beyond r.next cost later r.goes
           (turned r.next cost (λ page left. OnLeaves key page left later) (λ page left. At leg Beyond key page left later) (onto_here later)
-          (on_leaf key o.low q.0 (live version) r.next cost later q.1 q.3 (record { on = q.2; up = upto_trans o.low (low_in version.chain) (low_of q.0) o.beyond.up (below_not (low_in version.chain) (low_of q.0) q.4); after = λ g. upto_below o.low (low_in version.chain) (low_of q.0) o.beyond.up q.4 })
+          (on_leaf key o.low q.0 (live version) r.next cost later q.1 q.3
+          (record {
+            on = q.2;
+            up = upto_trans o.low (low_in version.chain) (low_of q.0) o.beyond.up (below_not (low_in version.chain) (low_of q.0) q.4);
+            after = λ g. upto_below o.low (low_in version.chain) (low_of q.0) o.beyond.up q.4;
+          })
           o.beyond.on q.4 o.few o.rest))
       | inr rest ↦ elim rest [
         | inl r ↦ no_index version cost later o r.index
@@ -317,14 +348,16 @@ module _ (w : Standing) where
         onto_here : (later : ℕ) (page : LivePage) (left : ℕ) → OnLeaves key page left later → At leg Beyond key page left later
         onto_here later page left h = onto_same leg plain page left later h
 
-    leaves_treat : (version : Version) (new : ReadRound) (cost later : ℕ) (result : Option ReadEnd) → OnLeaves key (live version) cost later → TreatsRead on_leaves version new result → Then on_leaves new result cost later
+    leaves_treat : (version : Version) (new : ReadRound) (cost later : ℕ) (result : Option ReadEnd) → OnLeaves key (live version) cost later
+        → TreatsRead on_leaves version new result → Then on_leaves new result cost later
     leaves_treat version new cost later None o treats = leaves_on version new cost later o treats
     leaves_treat version new cost later (Some Again) o treats = elim treats [ inl lost ↦ no_index version cost later o lost.index | inr off ↦ not_round leg off.removed plain off.leg ]
     leaves_treat version new cost later (Some (Removed removed)) o at =
         let fewer = fewer_after w key o.low (live version) o.beyond.on at.gone (o.beyond.after at.gone) o.passing in
         let up = times_up w (suc (removed_after w key (low_in version.chain))) (removed_after w key o.low) fewer in
         let rest = o.rest in
-        subst (λ (v : Version). IsRemovedLeaf w (live v) × (one_round w + times w (removed_after w key (low_in v.chain)) ≤ later)) (sym at.is) (of_level w (live version) o.beyond.on at.gone, omega (arith, up, rest))
+        subst (λ (v : Version). IsRemovedLeaf w (live v) × (one_round w + times w (removed_after w key (low_in v.chain)) ≤ later)) (sym at.is)
+        (of_level w (live version) o.beyond.on at.gone, omega (arith, up, rest))
     leaves_treat version new cost later (Some (Leaf leaf)) o at = tt
     leaves_treat version new cost later (Some (Beside left removed)) o at = tt
 
@@ -336,11 +369,13 @@ module _ (w : Standing) where
     one_removed : (other : Version) → Round removed ≡ Round other → other ≡ removed
     one_removed other e = cc
 
-    goes_on : (new : ReadRound) (above : Option Version) (next cost later : ℕ) → new ≡ reading_on_to next (on (Past above) on_round) → Keeps goal key later → Comes w next cost (OnWay w (read_way goal key) above) → Goes new key cost later
+    goes_on : (new : ReadRound) (above : Option Version) (next cost later : ℕ) → new ≡ reading_on_to next (on (Past above) on_round) → Keeps goal key later
+        → Comes w next cost (OnWay w (read_way goal key) above) → Goes new key cost later
     goes_on new above next cost later e k c = gone on_round new (Past above) goal next cost later e
         (turned next cost (OnWay w (read_way goal key) above) (λ page left. At (Past above) goal key page left later) (λ page left h. into (Past above) goal key page left later tt h k) c)
 
-    round_on : (version : Version) (new : ReadRound) (cost later : ℕ) → OnRound w (read_way goal key) removed (live version) cost → Keeps goal key later → TreatsRead on_round version new None → Goes new key cost later
+    round_on : (version : Version) (new : ReadRound) (cost later : ℕ) → OnRound w (read_way goal key) removed (live version) cost → Keeps goal key later
+        → TreatsRead on_round version new None → Goes new key cost later
     round_on version new cost later o k treats = elim treats [
       | inl r ↦ absurd r.plain
       | inr rest ↦ elim rest [
@@ -360,12 +395,17 @@ module _ (w : Standing) where
                 | inr rest ↦ elim rest [
                   | inl r ↦
                       let same = one_removed r.removed r.left.leg in
-                      goes_on new None r.next cost later r.goes k (round_through w (read_way goal key) is_way r.next cost removed (live version) o (subst (λ (v : Version). right_in version.chain ≡ Some v.pid) same r.beside) (subst (λ (v : Version). LeadsOn (read_way goal key) v.chain r.next) same r.leads))
+                      goes_on new None r.next cost later r.goes k
+                      (round_through w (read_way goal key) is_way r.next cost removed (live version) o
+                      (subst (λ (v : Version). right_in version.chain ≡ Some v.pid) same r.beside)
+                      (subst (λ (v : Version). LeadsOn (read_way goal key) v.chain r.next) same r.leads))
                   | inr rest ↦ elim rest [
                     | inl r ↦
                         let same = one_removed r.removed r.there.left.leg in
                         goes_on new None r.next cost later r.goes k
-                        (round_merged_right w (read_way goal key) r.next cost removed (live version) o (subst (λ (v : Version). right_in version.chain ≢ Some v.pid) same r.there.merged) (subst (λ (v : Version). StaysLeft (left_of v) version.chain) same r.there.stays) r.leads)
+                        (round_merged_right w (read_way goal key) r.next cost removed (live version) o
+                        (subst (λ (v : Version). right_in version.chain ≢ Some v.pid) same r.there.merged)
+                        (subst (λ (v : Version). StaysLeft (left_of v) version.chain) same r.there.stays) r.leads)
                     | inr r ↦ goes_on new (Some version) r.next cost later r.goes k (round_merged_down w (read_way goal key) is_way r.next cost removed version o r.ends r.index r.leads)
                   ]
                 ]
@@ -391,22 +431,30 @@ module _ (w : Standing) where
       ]
     ]
 
-    round_treat : (version : Version) (new : ReadRound) (cost later : ℕ) (result : Option ReadEnd) → OnRound w (read_way goal key) removed (live version) cost → Keeps goal key later → TreatsRead on_round version new result → Then on_round new result cost later
+    round_treat : (version : Version) (new : ReadRound) (cost later : ℕ) (result : Option ReadEnd) → OnRound w (read_way goal key) removed (live version) cost
+        → Keeps goal key later → TreatsRead on_round version new result → Then on_round new result cost later
     round_treat version new cost later None o k treats = round_on version new cost later o k treats
     round_treat version new cost later (Some Again) o k treats = round_lost version cost o treats
     round_treat version new cost later (Some (Removed other)) o k at = absurd at.plain
     round_treat version new cost later (Some (Leaf leaf)) o k at = tt
     round_treat version new cost later (Some (Beside left other)) o k at = tt
 
-  by_leg : (limits : Limits) (key : Key) (goal : ReadGoal) (leg : Leg) (state : WayState) (version : Version) (new : ReadRound) (cost later : ℕ) (result : Option ReadEnd) → At leg goal key (live version) cost later
-      → TreatsRead (record { limits = limits; key = key; goal = goal; leg = leg; state = state }) version new result → Then (record { limits = limits; key = key; goal = goal; leg = leg; state = state }) new result cost later
+  by_leg : (limits : Limits) (key : Key) (goal : ReadGoal) (leg : Leg) (state : WayState) (version : Version) (new : ReadRound) (cost later : ℕ)
+      (result : Option ReadEnd) → At leg goal key (live version) cost later
+      → TreatsRead (record { limits = limits; key = key; goal = goal; leg = leg; state = state }) version new result
+      → Then (record { limits = limits; key = key; goal = goal; leg = leg; state = state }) new result cost later
   by_leg limits key goal (Round removed) state version new cost later result at treats = round_treat limits key goal removed state version new cost later result at.0 at.1 treats
-  by_leg limits key Seek (Down above) state version new cost later result at treats = plain_treats (record { limits = limits; key = key; goal = Seek; leg = Down above; state = state }) version new cost later result tt at.0 at.1 treats
-  by_leg limits key (Left removed) (Down above) state version new cost later result at treats = plain_treats (record { limits = limits; key = key; goal = Left removed; leg = Down above; state = state }) version new cost later result tt at.0 at.1 treats
+  by_leg limits key Seek (Down above) state version new cost later result at treats =
+      plain_treats (record { limits = limits; key = key; goal = Seek; leg = Down above; state = state }) version new cost later result tt at.0 at.1 treats
+  by_leg limits key (Left removed) (Down above) state version new cost later result at treats =
+      plain_treats (record { limits = limits; key = key; goal = Left removed; leg = Down above; state = state }) version new cost later result tt at.0 at.1 treats
   by_leg limits key Beyond (Down above) state version new cost later result at treats = leaves_treat limits key (Down above) state tt version new cost later result at treats
-  by_leg limits key Seek (Past above) state version new cost later result at treats = plain_treats (record { limits = limits; key = key; goal = Seek; leg = Past above; state = state }) version new cost later result tt at.0 at.1 treats
-  by_leg limits key (Left removed) (Past above) state version new cost later result at treats = plain_treats (record { limits = limits; key = key; goal = Left removed; leg = Past above; state = state }) version new cost later result tt at.0 at.1 treats
+  by_leg limits key Seek (Past above) state version new cost later result at treats =
+      plain_treats (record { limits = limits; key = key; goal = Seek; leg = Past above; state = state }) version new cost later result tt at.0 at.1 treats
+  by_leg limits key (Left removed) (Past above) state version new cost later result at treats =
+      plain_treats (record { limits = limits; key = key; goal = Left removed; leg = Past above; state = state }) version new cost later result tt at.0 at.1 treats
   by_leg limits key Beyond (Past above) state version new cost later result at treats = leaves_treat limits key (Past above) state tt version new cost later result at treats
 
-  pub treats : (old : ReadRound) (version : Version) (new : ReadRound) (cost later : ℕ) (result : Option ReadEnd) → At old.leg old.goal old.key (live version) cost later → TreatsRead old version new result → Then old new result cost later
+  pub treats : (old : ReadRound) (version : Version) (new : ReadRound) (cost later : ℕ) (result : Option ReadEnd)
+      → At old.leg old.goal old.key (live version) cost later → TreatsRead old version new result → Then old new result cost later
   treats old version new cost later result at t = by_leg old.limits old.key old.goal old.leg old.state version new cost later result at t

@@ -14,7 +14,15 @@ abbrev pub deleted_leaf : List Record
 deleted_leaf = delta.Delete (record { next = 2; key = codes "a" }) ∷ put_leaf
 
 abbrev pub leaf : Page
-leaf = record { level = 0; low = codes "a"; high = None; right = None; removed = false; items = record { key = codes "k08"; content = Value (codes "v08") } ∷ record { key = codes "k09"; content = Value (codes "v09") } ∷ [] }
+leaf = record {
+  level = 0;
+  low = codes "a";
+  high = None;
+  right = None;
+  removed = false;
+  items = record { key = codes "k08"; content = Value (codes "v08") }
+      ∷ record { key = codes "k09"; content = Value (codes "v09") } ∷ [];
+}
 
 -- a leaf split at "k09" to the new page 2
 abbrev pub split : Record
@@ -106,7 +114,8 @@ one_held = child [] 1 false ∷ child (codes "a") 2 false ∷ child (codes "b") 
 
 abbrev pub four_held : List Item
 four_held =
-    child [] 1 false ∷ child (codes "a") 2 true ∷ child (codes "b") 3 false ∷ child (codes "c") 4 true ∷ child (codes "d") 5 false ∷ child (codes "e") 6 true ∷ child (codes "f") 7 false ∷ child (codes "g") 8 true ∷ child (codes "h") 9 false ∷ child (codes "i") 10 false ∷ []
+    child [] 1 false ∷ child (codes "a") 2 true ∷ child (codes "b") 3 false ∷ child (codes "c") 4 true ∷ child (codes "d") 5 false ∷ child (codes "e") 6 true
+    ∷ child (codes "f") 7 false ∷ child (codes "g") 8 true ∷ child (codes "h") 9 false ∷ child (codes "i") 10 false ∷ []
 
 abbrev pub index_of : List Item → List Record
 index_of items = delta.Base (record index { items = items }) ∷ []

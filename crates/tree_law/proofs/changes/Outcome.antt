@@ -19,7 +19,8 @@ use Rattle.tree_law.proofs.changes.Linked.{Costs, linked, stored}
 use Rattle.tree_law.proofs.changes.Steady.{clear_store, root_store, steady}
 
 -- the memory after an exchange of a page's slot that won
-exchanged : (m : Memory) (a p x y : ℕ) → eqb (m.slots (suc p)) x ≡ true → shared_part (memory_after a (Exchange (suc p) x y) m) ≡ record (shared_part m) { slots = put (slot_in m.slots) (suc p) (row_in y) }
+exchanged : (m : Memory) (a p x y : ℕ) → eqb (m.slots (suc p)) x ≡ true
+    → shared_part (memory_after a (Exchange (suc p) x y) m) ≡ record (shared_part m) { slots = put (slot_in m.slots) (suc p) (row_in y) }
 exchanged m a p x y t = rw t (rw (put_other m.slots (suc p) y 0 (λ i. absurd (cc))) (rw (slot_put m.slots p y) refl))
 
 -- and after one of slot 0

@@ -27,7 +27,8 @@ use Rattle.tree_law.proofs.changes.Outcome.{outcome}
 use Rattle.tree_law.proofs.changes.Totals.{bounded}
 
 -- so much is in store at most
-store_bound : (limits : Limits) (entries : List Entry) (state : IsState limits entries) (worths : ℕ → ℕ) → ((page : ℕ) → IsWorth state.owners (shared_part (memory_of limits entries)) page (worths page))
+store_bound : (limits : Limits) (entries : List Entry) (state : IsState limits entries) (worths : ℕ → ℕ)
+    → ((page : ℕ) → IsWorth state.owners (shared_part (memory_of limits entries)) page (worths page))
     → store limits entries state worths ≤ 154 * limits.pids + 8 * limits.actors
 store_bound limits entries state worths each =
     let lives = bounded (λ page. life (state.owners.page page) ((shared_part (memory_of limits entries)).slots page)) 40 limits.pids

@@ -51,7 +51,10 @@ module _ {limits : Limits} {m : Memory} {log : List Update} {o : Owners} {knows 
         (put knows a (after_reply (record (knows a) { own = record (knows a).own { rows = put (knows a).own.rows (suc y) Foreign }; asked = record (knows a).asked { linked = l } }) r))
         (suc now) (t1 g T a p x y)
     handed l learnt =
-        filled_timed (after_reply (record (knows a) { own = record (knows a).own { rows = put (knows a).own.rows (suc y) Foreign }; asked = record (knows a).asked { linked = l } }) r) refl refl refl refl
+        filled_timed (after_reply (record (knows a) {
+          own = record (knows a).own { rows = put (knows a).own.rows (suc y) Foreign };
+          asked = record (knows a).asked { linked = l };
+        }) r) refl refl refl refl
         learnt (own_less (knows a).own.rows (suc y)) (T.gone_pages a)
         (same_limbo (after_reply (record (knows a) { own = record (knows a).own { rows = put (knows a).own.rows (suc y) Foreign }; asked = record (knows a).asked { linked = l } }) r) refl)
         still_ready (T.apart a)

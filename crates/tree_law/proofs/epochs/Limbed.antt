@@ -1,7 +1,8 @@
 -- What a step makes of its actor's limbos.
 use Rattle.tree_law.proofs.Words.{false, ◌⊎◌, ap, refl, cond, Option, suc, None, List, true, inl, inr, ◌∷◌, sym, ℕ, ◌≡◌, Bool, zero, ◌∙◌, arith, Some, same_Some, Contains, MatchOption, unwrap_or}
 use Rattle.tree_law.proofs.Words.{is_among, Answer, Whether, Content, Number, StepOf, ReuseRows, ReusePids, TakePid, Row, TakeRow, Slot, Epoch, PidBits, Exchange, RowBits, Announce, next_row, Record}
-use Rattle.tree_law.proofs.Words.{chain_rows, IsChainFrom, Knowledge, learn, Other, Gone, after_exchange, Unstamped, is_on_walk, LimboMark, Absent, passed_by, with_stamp, taken_out, next_seen, Limbos, []}
+use Rattle.tree_law.proofs.Words.{chain_rows, IsChainFrom, Knowledge, learn, Other, Gone, after_exchange, Unstamped, is_on_walk, LimboMark, Absent, passed_by}
+use Rattle.tree_law.proofs.Words.{with_stamp, taken_out, next_seen, Limbos, []}
 use Rattle.tree_law.proofs.shape.Puts.{by_equal, decided}
 use Rattle.tree_law.proofs.links.Exchanged.{exchanging, clears, rebuilds}
 
@@ -60,11 +61,13 @@ module _ (k : Knowledge) where
   won_rows p x y row = elim (exchanging p x y k) as
       (λ p x y k' v. LimboCase (Exchange p x y) (Whether true) (k.limbo.rows row) (k'.limbo.rows row) (RowOut k (Exchange p x y) (Whether true) row) (FreesRows (Exchange p x y))) [
         | clears p x e ↦ walked k (Exchange (suc p) x 0) (Whether true) row x (λ i. record { page = p; old = x; new = 0; step = refl; won = refl; walk = i; whose = inl (e, refl) })
-        | rebuilds p x y w o e ↦ walked k (Exchange (suc p) x (suc y)) (Whether true) row x (λ i. record { page = p; old = x; new = suc y; step = refl; won = refl; walk = i; whose = inr (o, (y, refl)) })
+        | rebuilds p x y w o e ↦ walked k (Exchange (suc p) x (suc y)) (Whether true) row x
+            (λ i. record { page = p; old = x; new = suc y; step = refl; won = refl; walk = i; whose = inr (o, (y, refl)) })
         | v ↦ as_it_was refl
       ]
 
-  won_pids : (p x y q : ℕ) → LimboCase (Exchange p x y) (Whether true) (k.limbo.pids q) ((after_exchange p x y k).limbo.pids q) (PageOut k (Exchange p x y) (Whether true) q) (FreesPids (Exchange p x y))
+  won_pids : (p x y q : ℕ) → LimboCase (Exchange p x y) (Whether true) (k.limbo.pids q) ((after_exchange p x y k).limbo.pids q)
+      (PageOut k (Exchange p x y) (Whether true) q) (FreesPids (Exchange p x y))
   won_pids p x y q = elim (exchanging p x y k) as
       (λ p x y k' v. LimboCase (Exchange p x y) (Whether true) (k.limbo.pids q) (k'.limbo.pids q) (PageOut k (Exchange p x y) (Whether true) q) (FreesPids (Exchange p x y))) [
         | clears p x e ↦ by_equal q (suc p)

@@ -68,7 +68,8 @@ put_cleared f f' c l0 s0 st n was e q b l s i = ap (λ (h : ℕ → PageOwner). 
 module _ {limits : Limits} {m : Memory} {log : List Update} {o : Owners} {knows : ℕ → Knowledge} {point : ℕ → Option (List Update)}
     {logs : ℕ → List (List Update)} {now : ℕ} {t : Times} (g : IsTree (shared_part m) log o knows point logs) (T : Timed limits m o knows now t) (a : ℕ) where
   abbrev pub After : Memory → StepOf Record → Answer Record → Option Reply → Type 0
-  After m' s x r = (n : Next a (shared_part m) (shared_part m') log o knows point logs s x r) → Timed limits m' n.owners (put knows a (after_reply (learn (knows a) s x) r)) (suc now) (times_after a m o now s x t)
+  After m' s x r = (n : Next a (shared_part m) (shared_part m') log o knows point logs s x r)
+      → Timed limits m' n.owners (put knows a (after_reply (learn (knows a) s x) r)) (suc now) (times_after a m o now s x t)
 
   still_spare : (b : ℕ) (free : Bool) (v v' : Owner) → v ≡ Spare b → (v' ≡ Linked → v ≡ Linked) → IsMoved a free v v' → v' ≡ Spare b
   still_spare b free v v' e back (inl i) = i ∙ e

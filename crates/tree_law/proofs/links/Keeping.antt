@@ -1,6 +1,7 @@
 -- What a step leaves, and what the tree says of a slot.
 use Rattle.tree_law.proofs.Words.{false, ◌⊎◌, ap, refl, Option, None, List, true, inl, ◌≤◌, inr, ◌∷◌, subst, sym, ℕ, ◌≡◌, ◌∙◌, arith, Some, same_Some, Update, Command, Reply, Answer, []}
-use Rattle.tree_law.proofs.Words.{Done, Leave, Enter, ContentOf, Child, Record, right_in, low_in, is_removed, level_in, HasRead, IsMet, NamesChild, after_begin, Knowledge, after_reply, learn, forgotten, Key}
+use Rattle.tree_law.proofs.Words.{Done, Leave, Enter, ContentOf, Child, Record, right_in, low_in, is_removed, level_in, HasRead, IsMet, NamesChild, after_begin}
+use Rattle.tree_law.proofs.Words.{Knowledge, after_reply, learn, forgotten, Key}
 use Rattle.tree_law.proofs.Words.{Owners, Reached, IsOut, Owner, LinkFits, InOrder, IsChain, IsClosed, SpellsLog, leaf_map, ChainNames, OwnsPages, Owns, Placed, Indexed}
 use Rattle.tree_law.proofs.Words.{PageOwner, Fresh, rank, Removed, Held, Merged, Stage, rank_of, child_of, mark, put, Shared, IsTree, spec, IsOff, Off, SidePage, InPlace, HasLevels, KnowsBy}
 use Rattle.traces.specs.discipline.Discipline.{IsBeyond}

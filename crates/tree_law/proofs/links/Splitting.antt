@@ -39,7 +39,8 @@ module _ {m : Shared} {log : List Update} {o : Owners} {knows : ℕ → Knowledg
             (λ i is. rw is (by_equal j h.row (λ i t. rw t (row_own (ap o.row i ∙ lower.0))) (λ i t. rw t (row_same refl refl))));
         page = λ j. by_equal j h.right (λ i is. rw is (page_own (ap o.page i ∙ ready.0)))
             (λ i is. rw is (by_equal j p (λ i t. rw t
-            (page_link place.stage place.stage (level_in c) (low_in c) (ap o.page i ∙ place.placed) (ap o.page i ∙ place.placed) (omega arith) x y c (ap m.slots i ∙ s) f.stands basis.alive refl upper.0))
+            (page_link place.stage place.stage (level_in c) (low_in c) (ap o.page i ∙ place.placed) (ap o.page i ∙ place.placed) (omega arith) x y c
+            (ap m.slots i ∙ s) f.stands basis.alive refl upper.0))
             (λ i t. rw t (page_same refl refl))));
       } in
       let linked_lower : o'.row h.row ≡ Linked = by_equal h.row y (λ i t. rw t) (λ i t. rw t (put_same o.row h.row Linked)) in

@@ -5,7 +5,8 @@ use Rattle.tree_law.proofs.Words.{Child, Memory, replaced_at, next_row, Record, 
 use Rattle.tree_law.proofs.Words.{root_over, MayExchange, FitsOn, MayLink, MayRoot}
 use Rattle.tree_law.proofs.Words.{base_from, HasRead, update_record, MayPost, IsMet, MayUpdate, MayUnterm, MayHold, MayMerge, MaySplit, MayConsolidate}
 use Rattle.tree_law.proofs.Words.{MayRemove, IsFitted, IsUnheld, Knowledge, after_reply, Ready}
-use Rattle.tree_law.proofs.Words.{learn, Empty, OwnPage, Gone, Written, after_filling, after_emptying, IsAnswer, memory_after, IsAdded, Key, put_key, IsReuse, IsMoved, Next, IsHomed, Linked, Owners, Spare}
+use Rattle.tree_law.proofs.Words.{learn, Empty, OwnPage, Gone, Written, after_filling, after_emptying, IsAnswer, memory_after, IsAdded, Key, put_key, IsReuse}
+use Rattle.tree_law.proofs.Words.{IsMoved, Next, IsHomed, Linked, Owners, Spare}
 use Rattle.tree_law.proofs.Words.{PageFits, Placed, Indexed, PageOwner, Cleared, Keeps, Fresh, Removed, Held, Merged, Phased, LinkMoves, put, shared_part, slot_in, row_in, Shared, IsTree, []}
 use Rattle.tree_law.proofs.shape.{read_linked, chain_stands, by_equal, put_other, own_spare}
 use Rattle.tree_law.proofs.links.Keeping.{idles, enters, leaves, slot_of, met_placed}
@@ -162,7 +163,8 @@ module _ (memory : Memory) {log : List Update} {o : Owners} {knows : ℕ → Kno
       (written : (knows a).own.rows (suc y) ≡ Written content) (fits : FitsOn basis.chain content) where
     -- the memory in which the row is linked on the page
     abbrev pub Linking : Type 0
-    Linking = Next a (shared_part memory) (record (shared_part memory) { slots = put (slot_in memory.slots) (suc p) (Some (suc y)) }) log o knows point logs (Exchange (suc p) (suc x) (suc y)) (Whether true) r
+    Linking = Next a (shared_part memory) (record (shared_part memory) { slots = put (slot_in memory.slots) (suc p) (Some (suc y)) }) log o knows point logs
+        (Exchange (suc p) (suc x) (suc y)) (Whether true) r
 
     -- the row is linked, some pages go on, and no update is made
     one : (w : Record) → (knows a).own.rows (suc y) ≡ Written w → IfSome (next_row w) (λ n. n ≡ suc x) → IsAdded o memory.rows (suc y)
@@ -278,8 +280,13 @@ module _ (memory : Memory) {log : List Update} {o : Owners} {knows : ℕ → Kno
     by_merge : MayMerge (knows a) (suc x) basis.chain content → Linking
     by_merge h =
         let n = merges g a (suc p) (suc x) (suc y) s basis content written h r in
-        delta _ h.is refl (λ remove is. absurd (cc)) _ _
-        (h.other, level_in basis.chain, n.1, refl, (suc x, basis.chain, s, chain_stands o (shared_part memory) (knows a).read.seen (g.sound a).seen_fits basis.chain (Some (suc x)) basis.read, h.right))
+        delta _ h.is refl (λ remove is. absurd (cc)) _ _ (
+          h.other,
+          level_in basis.chain,
+          n.1,
+          refl,
+          (suc x, basis.chain, s, chain_stands o (shared_part memory) (knows a).read.seen (g.sound a).seen_fits basis.chain (Some (suc x)) basis.read, h.right),
+        )
         n.0
 
     by_unterm : MayUnterm (knows a) (suc p) (suc x) basis.chain content → Linking

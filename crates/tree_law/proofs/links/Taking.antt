@@ -1,6 +1,7 @@
 -- Taking rows and pages, placing records in own rows and rows in the slots of own pages keep the invariant.
 use Rattle.tree_law.proofs.Words.{false, ap, refl, Option, None, List, true, inl, inr, ◌∷◌, ℕ, ◌≡◌, ◌∙◌, Some, Update, Reply, Whether, Done, TakePid, Place, TakeRow, Record, IsOwn}
-use Rattle.tree_law.proofs.Words.{Knowledge, after_reply, learn, Empty, OwnPage, Taken, Written, Key, Owners, Spare, OwnFits, PageFits, Nobody, Placed, Cleared, Keeps, Merged, Stage, put, Shared, IsTree}
+use Rattle.tree_law.proofs.Words.{Knowledge, after_reply, learn, Empty, OwnPage, Taken, Written, Key, Owners, Spare, OwnFits, PageFits, Nobody, Placed, Cleared}
+use Rattle.tree_law.proofs.Words.{Keeps, Merged, Stage, put, Shared, IsTree}
 use Rattle.tree_law.proofs.shape.{by_equal, put_same, put_other, put_all, tree_kept, exact_same, row_free, row_own, row_same, page_free, page_own, page_same, Change}
 use Rattle.tree_law.proofs.shape.{kept_change, closed_kept, own_spare}
 use Rattle.tree_law.proofs.links.Keeping.{put_tree, mine_at, tree_at, off_still}

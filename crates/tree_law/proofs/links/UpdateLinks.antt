@@ -100,7 +100,10 @@ module _ (m : Memory) {log : List Update} {o : Owners} {knows : ℕ → Knowledg
       (n : After a (shared_part m) (shared_part (memory_after a s m)) log o knows point logs s x r) where
     after : LinkFits n.owners (shared_part (memory_after a s m)) (log_at_point log n.update (point a)) (learn (knows a) s x).asked.linked
     after = subst (λ (z : Option (List Update) × Option (Option ℕ)). LinkFits n.owners (shared_part (memory_after a s m)) z.0 z.1)
-        (λ i. (put_same point a (log_at_point log n.update (point a)) i, ap (λ (k : Knowledge). k.asked.linked) (put_same knows a (after_reply (learn (knows a) s x) r)) i)) (n.is_tree.sound a).linked_fits
+        (λ i. (
+          put_same point a (log_at_point log n.update (point a)) i,
+          ap (λ (k : Knowledge). k.asked.linked) (put_same knows a (after_reply (learn (knows a) s x) r)) i,
+        )) (n.is_tree.sound a).linked_fits
 
     -- an update is linked by the step
     is_linked : IsSome n.update → ((knows a).asked.linked ≡ None) × IsLinked (learn (knows a) s x)

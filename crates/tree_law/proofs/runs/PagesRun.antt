@@ -1,6 +1,8 @@
 -- Each step of the runs with cursor pages is allowed.
-use Rattle.tree_law.proofs.Words.{false, [], refl, cond, suc, None, Option, List, true, inl, ◌++◌, inr, ◌∷◌, subst, sym, ℕ, ◌≡◌, zero, ◌<◌, arith, Some, take, lit<, Contains, IsTrue, not, slice_index_or}
-use Rattle.tree_law.proofs.Words.{codes, is_in_range, is_below, ArePairsOf, Record, MayReply, chain_value, value_of, MayAdd, IsMet, IsDisciplined, HoldsBack, knows, Entry, Knowledge, small, right_term}
+use Rattle.tree_law.proofs.Words.{false, [], refl, cond, suc, None, Option, List, true, inl, ◌++◌, inr, ◌∷◌, subst, sym, ℕ, ◌≡◌, zero, ◌<◌, arith, Some, take}
+use Rattle.tree_law.proofs.Words.{lit<, Contains, IsTrue, not, slice_index_or}
+use Rattle.tree_law.proofs.Words.{codes, is_in_range, is_below, ArePairsOf, Record, MayReply, chain_value, value_of, MayAdd, IsMet, IsDisciplined, HoldsBack}
+use Rattle.tree_law.proofs.Words.{knows, Entry, Knowledge, small, right_term}
 use Rattle.tree_law.proofs.Words.{root_a, a, hold_a, other_put, helped_term, helped_split, Key, removal, upper_c, b}
 use Rattle.std.specs.List.Sorted.{IsStrictlySortedBy}
 use Rattle.bw_model.specs.declared.command.Reply.TheVariants as reply
@@ -116,7 +118,20 @@ shows_last = record {
   command = page_b;
   going = refl;
   justified =
-      inr (inl (record { from = b; asks = refl; row = 9; chain = last; read = (refl, (refl, refl)); leaf = refl; covers = refl; pairs = (b, codes "2") ∷ []; exact = one_pair None refl; is = refl; unlinked = refl; basis = inl ((4, refl), refl) }));
+      inr (inl (record {
+        from = b;
+        asks = refl;
+        row = 9;
+        chain = last;
+        read = (refl, (refl, refl));
+        leaf = refl;
+        covers = refl;
+        pairs = (b, codes "2") ∷ [];
+        exact = one_pair None refl;
+        is = refl;
+        unlinked = refl;
+        basis = inl ((4, refl), refl);
+      }));
 }
 
 -- and so it is backward

@@ -39,7 +39,11 @@ module _ (memory : Memory) {log : List Update} {o : Owners} {knows : ℕ → Kno
       there = listed (leaves memory g).side (Some 1) (Some []) (leaves memory g).whole page ((leaves memory g).listed page (low_in chain) place.stage place.placed place.on)
 
       same : live there.0 ≡ record { pid = page; chain = chain }
-      same = λ i. record { pid = there.1 i; chain = (one_chain o (shared_part memory) 0 (leaf_map log) (leaf_map log) (record { page = page; row = row; chain = chain }) there.0 place there.3 there.1) i }
+      same = λ i. record {
+        pid = there.1 i;
+        chain = (one_chain o (shared_part memory) 0 (leaf_map log) (leaf_map log)
+            (record { page = page; row = row; chain = chain }) there.0 place there.3 there.1) i;
+      }
 
 valued : (content : Option ContentOf) (value : Key) → value_of content ≡ Some value → content ≡ Some (Value value)
 valued (Some (Value v)) value e = ap (λ (w : Key). Some (Value w)) (let f : v ≡ value = cc in f)

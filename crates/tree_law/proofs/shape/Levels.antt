@@ -1,7 +1,8 @@
 -- The index is exact at each moment of a trace: that of the moment after all entries is the invariant's.
 use Rattle.tree_law.proofs.Words.{false, [], ap, refl, Option, suc, List, true, inl, length, ◌++◌, ◌≤◌, inr, ◌∷◌, subst, sym, ℕ, ◌≡◌, Bool, ◌∙◌, arith, Some, cases_lt, Update, Limits, Child, Memory}
 use Rattle.tree_law.proofs.Words.{IsChainOf-unique, level_in, Knowledge, memory_at, memory_of, Entry, IsLeftmost, IsRootLevel, Indexes, HasPhaseOfTerm, indexed, IsInPhase}
-use Rattle.tree_law.proofs.Words.{Phase, held, removed, merged, IsFirst, HasMark, IsIndexed, Owners, Placed, Indexed, PageOwner, Fresh, Removed, Held, Merged, Stage, mark, shared_part, phase_of, IsTree}
+use Rattle.tree_law.proofs.Words.{Phase, held, removed, merged, IsFirst, HasMark, IsIndexed, Owners, Placed, Indexed, PageOwner, Fresh, Removed, Held, Merged}
+use Rattle.tree_law.proofs.Words.{Stage, mark, shared_part, phase_of, IsTree}
 use Rattle.tree_law.specs.Indexed.{IsIndexedAlong}
 use Rattle.tree_law.proofs.shape.Exactness.{is_indexed, below_top, root_indexed}
 use Rattle.tree_law.proofs.trace.Marks.{take_whole}

@@ -34,7 +34,8 @@ module _ (memory : Memory) (o : Owners) (lv : ℕ) (mp : Key → Option ContentO
   side_from (g ∷ gs) (Some p) low h = (sym (same_Some p g.page h.0), rw (same_Some p g.page h.0) (chain_of g h.2), side_from gs (right_in g.chain) (high_in g.chain) h.3)
   side_from gs p low h = absurd (cc h.0)
 
-  pub whole_from : (gs : List SidePage) (p : Option ℕ) (low : Option Key) → IsPart o (shared_part memory) lv mp gs p low None None → MatchOption low (map live gs ≡ []) (λ k. IsWholeFrom k (map live gs))
+  pub whole_from : (gs : List SidePage) (p : Option ℕ) (low : Option Key) → IsPart o (shared_part memory) lv mp gs p low None None
+      → MatchOption low (map live gs ≡ []) (λ k. IsWholeFrom k (map live gs))
   whole_from [] p None h = refl
   whole_from (g ∷ gs) p (Some k) h = (sym (same_Some k (low_in g.chain) h.1), whole_from gs (right_in g.chain) (high_in g.chain) h.3)
   whole_from gs p low h = absurd (cc h.1)

@@ -7,7 +7,8 @@ use Rattle.tree_law.proofs.shape.KeyOrder.{not_below, below_not, upto_same, upto
 use Rattle.tree_law.proofs.shape.Puts.{by_equal}
 use Rattle.tree_law.proofs.shape.Chains.{chain_unique}
 use Rattle.tree_law.proofs.shape.Kept.{Kept}
-use Rattle.tree_law.proofs.shape.Sides.{all_pages, part_join, Located, locate, StartsFrom, under_start, begins_after, one_chain, all_in, Rest, Stays, place_kept, part_kept, has_left, has_right, has_other, stays_by, replaced}
+use Rattle.tree_law.proofs.shape.Sides.{all_pages, part_join, Located, locate, StartsFrom, under_start, begins_after, one_chain, all_in, Rest, Stays}
+use Rattle.tree_law.proofs.shape.Sides.{place_kept, part_kept, has_left, has_right, has_other, stays_by, replaced}
 
 -- a level stays where its slots do
 pub level_kept : {o o' : Owners} {m m' : Shared} (lv : ℕ) (mp mp' : Key → Option ContentOf) (first : ℕ) → IsClosed o m → Kept o o' m m'

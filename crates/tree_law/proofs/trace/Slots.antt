@@ -1,9 +1,12 @@
 -- Which slots hold rows, after a step.
 use Rattle.tree_law.proofs.Words.{false, ◌⊎◌, ap, refl, Option, suc, None, List, true, inl, ◌≢◌, inr, subst, sym, ℕ, ◌≡◌, zero, ◌∙◌, Some, eqb, same_Some, Update, Reply, Answer, Whether}
 use Rattle.tree_law.proofs.Words.{Content, Number, StepOf, ReuseRows, ReusePids, TakePid, Row, Place, TakeRow, Slot, Epoch, PidBits, Exchange, RowBits, Announce, Memory, replaced_at, Record, Remove}
-use Rattle.tree_law.proofs.Words.{Base, Hold, Split, Merge, Term, Unterm, low_in, level_in, May, IsOwn, MayExchange, IsOwnBase, Knowledge, after_reply, Ready, learn, Empty, OwnPage, Other, Gone, Written}
-use Rattle.tree_law.proofs.Words.{after_filling, after_root, OwnRow, after_emptying, after_exchange, split_off, linked_over, IsAnswer, memory_after, Key, IsReuse, IsMoved, Linked, Owners, Reached, Spare, OwnFits}
-use Rattle.tree_law.proofs.Words.{Placed, Indexed, PageOwner, Cleared, Keeps, Fresh, Removed, Held, Merged, Stage, Phased, LinkMoves, put, shared_part, slot_in, Shared, IsReadyPage, IsInTree, IsTree, []}
+use Rattle.tree_law.proofs.Words.{Base, Hold, Split, Merge, Term, Unterm, low_in, level_in, May, IsOwn, MayExchange, IsOwnBase, Knowledge, after_reply, Ready}
+use Rattle.tree_law.proofs.Words.{learn, Empty, OwnPage, Other, Gone, Written}
+use Rattle.tree_law.proofs.Words.{after_filling, after_root, OwnRow, after_emptying, after_exchange, split_off, linked_over, IsAnswer, memory_after, Key}
+use Rattle.tree_law.proofs.Words.{IsReuse, IsMoved, Linked, Owners, Reached, Spare, OwnFits}
+use Rattle.tree_law.proofs.Words.{Placed, Indexed, PageOwner, Cleared, Keeps, Fresh, Removed, Held, Merged, Stage, Phased, LinkMoves, put, shared_part, slot_in}
+use Rattle.tree_law.proofs.Words.{Shared, IsReadyPage, IsInTree, IsTree, []}
 use Rattle.base_page.specs.Pages as pages
 use Rattle.tree_law.proofs.shape.{by_equal, put_same, put_other, own_spare}
 use Rattle.tree_law.proofs.links.Stepping.{root_apart, slot_put}

@@ -2,7 +2,8 @@
 use Rattle.tree_law.proofs.Words.{false, ◌⊎◌, ap, refl, Option, suc, List, true, inl, length, ◌++◌, ◌≤◌, inr, ◌∷◌, subst, sym, ℕ, ◌≡◌, ◌∙◌, ◌<◌, arith, Some, slice_get, Update, Command, Reply, Limits}
 use Rattle.tree_law.proofs.Words.{Answer, Number, StepOf, Slot, Memory, Record, [], take-push, take-push_whole, IsChainFrom, right_in, low_in, is_removed, level_in, May, WasStanding}
 use Rattle.tree_law.proofs.Words.{Knowledge, learn, Readings, LivePage, IsAnswer, memory_after, memory_at, command_of, Entry, Begin, Step, Operation, Key, Linked, Owners, Reached}
-use Rattle.tree_law.proofs.Words.{InOrder, shared_part, slot_in, row_in, Shared, operation_from, IsUnended, HaveStood, WasRead, WereRead, WasLeafWith, IsLeafWith, IsTree, spec, Level, InPlace, same_Some}
+use Rattle.tree_law.proofs.Words.{InOrder, shared_part, slot_in, row_in, Shared, operation_from, IsUnended, HaveStood, WasRead, WereRead, WasLeafWith}
+use Rattle.tree_law.proofs.Words.{IsLeafWith, IsTree, spec, Level, InPlace, same_Some}
 use Rattle.tree_law.proofs.links.Exchanged.{exchanged_alike}
 use Rattle.tree_law.proofs.links.Keeping.{alive_place, met_placed}
 use Rattle.tree_law.proofs.links.Learning.{learning, at_page, wins, leaves}

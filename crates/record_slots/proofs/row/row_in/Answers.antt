@@ -13,7 +13,8 @@ returns-in_err-header c =
 pub returns-then-not-are_zeros : goal.returns-then-not-are_zeros
 returns-then-not-are_zeros c row is =
     let all = zeros_behind c.args.words.now c.in_ok-header.header c.in_ok-header.ensures row is in
-    let answer : c.are_zeros.result ≡ are_zeros (take (row_size - (items_at + item_size * c.in_ok-header.header.count)) (drop (items_at + item_size * c.in_ok-header.header.count) c.args.words.now)) = c.are_zeros.ensures
+    let answer : c.are_zeros.result ≡ are_zeros
+    (take (row_size - (items_at + item_size * c.in_ok-header.header.count)) (drop (items_at + item_size * c.in_ok-header.header.count) c.args.words.now)) = c.are_zeros.ensures
     in
     let end = up_to_end c.args.words.now (items_at + item_size * c.in_ok-header.header.count) c.told-words in
     let turned : true ≡ false = sym all ∙ ap are_zeros (sym end) ∙ sym answer ∙ c.if-not-are_zeros.true in

@@ -13,7 +13,8 @@ loop-j-preserved g c =
     (λ (i : ℕ). get_elem? c.args.closed.now.words.items i ≡ some c.word.result) place c.word.ensures in
     record {
       long = length-set c.loop-j.words c.loop-j.j c.word.result ∙ c.loop-j.invariant.long;
-      read = row_set c.args.limits.now c.loop-j.words c.args.closed.now.words.items c.args.row c.loop-j.j c.word.result c.loop-j.invariant.read (omega (arith, c.loop-j-test.true, c.loop-j.invariant.long)) there;
+      read = row_set c.args.limits.now c.loop-j.words c.args.closed.now.words.items c.args.row c.loop-j.j c.word.result c.loop-j.invariant.read
+          (omega (arith, c.loop-j-test.true, c.loop-j.invariant.long)) there;
     }
 
 pub overflow_add-base : goal.overflow_add-base

@@ -26,7 +26,14 @@ invariant_of-self c =
     let items_is : c.args.self.now.items ++ c.args.neighbour.now.items ≡ c.append.new.self = sym (appended c.args.self.now c.args.neighbour.now
     c.self.inside.items c.neighbour.inside.items c.append.new.self c.append.ensures.items (ap (λ (page : Page). page.items) c.self.view_is)
     (ap (λ (next : Page). next.items) c.neighbour.view_is)) in
-    let page_is : c.args.self.now ≡ record { level = c.self.inside.level; low = c.self.inside.low; high = c.self.inside.high; right = c.self.inside.right; removed = c.self.inside.removed; items = c.self.inside.items } = sym
+    let page_is : c.args.self.now ≡ record {
+      level = c.self.inside.level;
+      low = c.self.inside.low;
+      high = c.self.inside.high;
+      right = c.self.inside.right;
+      removed = c.self.inside.removed;
+      items = c.self.inside.items;
+    } = sym
     c.self.view_is in
     subst IsPage (λ i. record { level = (page_is i).level; low = (page_is i).low; high = high_is i; right = c.neighbour.inside.right; removed = (page_is i).removed; items = items_is i }) joined
 

@@ -21,7 +21,8 @@ returns-clause-shows c actor k may keeps rest =
     let limits = c.args.limits.now in
     let plan = c.args.plan.now in
     let spares = c.args.spares.now in
-    let is = is_bare c.make.new.self limits plan (first_state limits plan spares) c.make.ensures.same.limits (c.make.ensures.same.plan ∙ c.swap.ensures.x_after) (c.make.ensures.state ∙ c.first_state-self-inside.ensures) in
+    let is = is_bare c.make.new.self limits plan (first_state limits plan spares) c.make.ensures.same.limits (c.make.ensures.same.plan ∙ c.swap.ensures.x_after)
+    (c.make.ensures.state ∙ c.first_state-self-inside.ensures) in
     shows_bare_of actor c.make.new.self spares k (subst (λ change. Shows actor change spares k) is (shows_first actor limits k plan spares may keeps rest.are rest.unset))
   where
     shows_bare_of : (actor : ℕ) (change : Change) (spares : _) (k : _) → Shows actor (bare change) spares k → Shows actor change spares k
@@ -32,7 +33,8 @@ returns-clause-sound c =
     let limits = c.args.limits.now in
     let plan = c.args.plan.now in
     let spares = c.args.spares.now in
-    let is = is_bare c.make.new.self limits plan (first_state limits plan spares) c.make.ensures.same.limits (c.make.ensures.same.plan ∙ c.swap.ensures.x_after) (c.make.ensures.state ∙ c.first_state-self-inside.ensures) in
+    let is = is_bare c.make.new.self limits plan (first_state limits plan spares) c.make.ensures.same.limits (c.make.ensures.same.plan ∙ c.swap.ensures.x_after)
+    (c.make.ensures.state ∙ c.first_state-self-inside.ensures) in
     let begun : IsSoundChange (bare_at limits plan (first_state limits plan spares)) spares = record { room = c.requires.room; state = first_sound limits plan spares c.requires.target } in
     let sound = subst (λ change. IsSoundChange change spares) is begun in
     record { room = sound.room; state = sound.state }
@@ -51,7 +53,8 @@ returns-clause-few c after =
     let limits = c.args.limits.now in
     let plan = c.args.plan.now in
     let spares = c.args.spares.now in
-    let is = is_bare c.make.new.self limits plan (first_state limits plan spares) c.make.ensures.same.limits (c.make.ensures.same.plan ∙ c.swap.ensures.x_after) (c.make.ensures.state ∙ c.first_state-self-inside.ensures) in
+    let is = is_bare c.make.new.self limits plan (first_state limits plan spares) c.make.ensures.same.limits (c.make.ensures.same.plan ∙ c.swap.ensures.x_after)
+    (c.make.ensures.state ∙ c.first_state-self-inside.ensures) in
     subst (λ (change : Change). steps_left after change spares ≤ few_steps limits) is (few_first limits after plan spares)
 
 pub returns-clause-first : goal.returns-clause-first

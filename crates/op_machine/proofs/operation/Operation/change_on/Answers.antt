@@ -28,7 +28,8 @@ pub returns-in_default-clause-asks : goal.returns-in_default-clause-asks
 returns-in_default-clause-asks g c =
     let told = rw (← c.self.view_is) at c.requires.told in
     rw (← c.self.view_is) (goes_on _ _ _ _ told.told_on _ _ c.ended.ensures.makes (ap (λ o. change_out (ended_with c.self.inside.places.then o)) c.in_default.is)
-    (change_goes_on c.self.inside.places c.ended.new.places _ c.self.inside.task (is_change c.self.inside.places (rw (← c.self.view_is) at c.requires.changing)) c.ended.ensures.only c.ended.ensures.plan
+    (change_goes_on c.self.inside.places c.ended.new.places _ c.self.inside.task
+    (is_change c.self.inside.places (rw (← c.self.view_is) at c.requires.changing)) c.ended.ensures.only c.ended.ensures.plan
     (rw c.in_default.is at c.ended.ensures.decides)))
 
 pub returns-in_default-clause-keeps : goal.returns-in_default-clause-keeps

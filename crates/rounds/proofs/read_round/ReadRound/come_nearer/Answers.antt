@@ -14,4 +14,10 @@ returns-in-Some-clause-treats g c =
     let old = c.args.self.now in
     let level : IsOnLevelOf old.page old.met = search rules in
     inr (inr (inr (inr
-    (inr (inl (record { removed = old.met; left = record { leg = c.requires.round; alive = level.alive; same = level.same }; next = c.in-Some.right; leads = c.in-Some.ensures.leads; goes = rw (← c.self.view_is, c.go_to.ensures) refl }))))))
+    (inr (inl (record {
+      removed = old.met;
+      left = record { leg = c.requires.round; alive = level.alive; same = level.same };
+      next = c.in-Some.right;
+      leads = c.in-Some.ensures.leads;
+      goes = rw (← c.self.view_is, c.go_to.ensures) refl;
+    }))))))

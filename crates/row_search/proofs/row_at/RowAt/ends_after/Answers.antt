@@ -13,9 +13,11 @@ returns-then-kind-eq-SPLIT-clause-ends g c =
     ∙ ap (is_under c.args.key.now) (high_split c.args.self.now.content (sym c.kind-kind.ensures ∙ c.if-kind-eq-SPLIT.true))
 
 pub returns-then-kind-eq-MERGE-clause-ends : goal.returns-then-kind-eq-MERGE-clause-ends
-returns-then-kind-eq-MERGE-clause-ends g c = c.is_below_second-then-kind-eq-MERGE.ensures.under ∙ ap (is_under c.args.key.now) (high_merge c.args.self.now.content (sym c.kind-kind.ensures ∙ c.if-kind-eq-MERGE.true))
+returns-then-kind-eq-MERGE-clause-ends g c = c.is_below_second-then-kind-eq-MERGE.ensures.under
+    ∙ ap (is_under c.args.key.now) (high_merge c.args.self.now.content (sym c.kind-kind.ensures ∙ c.if-kind-eq-MERGE.true))
 
 pub returns-clause-ends : goal.returns-clause-ends
 returns-clause-ends g c =
     let k = c.kind-kind.ensures in
-    sym (ap (is_under c.args.key.now) (high_ends_not c.args.self.now.content (λ e. c.if-kind-eq-BASE.false (k ∙ e)) (λ e. c.if-kind-eq-SPLIT.false (k ∙ e)) (λ e. c.if-kind-eq-MERGE.false (k ∙ e)) None))
+    sym (ap (is_under c.args.key.now) (high_ends_not c.args.self.now.content (λ e. c.if-kind-eq-BASE.false (k ∙ e)) (λ e. c.if-kind-eq-SPLIT.false (k ∙ e))
+    (λ e. c.if-kind-eq-MERGE.false (k ∙ e)) None))

@@ -25,13 +25,15 @@ module _ {limits : Limits} {a : ℕ} {seen later : List Entry} {asked : Step Rec
   told_taken : {taken : Taken} {told : ToldOf} → taken ≡ Told told → HasTaken limits a seen asked taken later → (asked ≢ Leave) × Took IsLawfulRun limits a seen None asked (answer_of told) None later
   told_taken is took = subst (λ t. HasTaken limits a seen asked t later) is took
 
-  took_of : {row : ℕ} {content read : Record} → asked ≡ Row row → content ≡ read → Took IsLawfulRun limits a seen None (Row row) (Content read) None later → Took IsLawfulRun limits a seen None asked (Content content) None later
+  took_of : {row : ℕ} {content read : Record} → asked ≡ Row row → content ≡ read → Took IsLawfulRun limits a seen None (Row row) (Content read) None later
+      → Took IsLawfulRun limits a seen None asked (Content content) None later
   took_of is same took = rw (is, same) took
 
 leave_taken : (limits : Limits) (a : ℕ) (seen later : List Entry) {asked : Step Record} {taken : Taken} → taken ≡ Leaving → HasTaken limits a seen asked taken later → asked ≡ Leave
 leave_taken limits a seen later {asked = asked} is took = subst (λ t. HasTaken limits a seen asked t later) is took
 
-took_after : {limits : Limits} {a : ℕ} {before seen later : List Entry} {reply : Option Reply} → before ≡ seen → Took IsLawfulRun limits a before None Leave Done reply later → Took IsLawfulRun limits a seen None Leave Done reply later
+took_after : {limits : Limits} {a : ℕ} {before seen later : List Entry} {reply : Option Reply} → before ≡ seen
+    → Took IsLawfulRun limits a before None Leave Done reply later → Took IsLawfulRun limits a seen None Leave Done reply later
 took_after same took = rw (← same) took
 
 not_leave : {step : Step Record} {row : ℕ} → step ≡ Row row → step ≢ Leave
@@ -86,7 +88,8 @@ pub take-taken-requires-clause-within : goal.take-taken-requires-clause-within
 take-taken-requires-clause-within g c = within c.laws_of_runs.ensures _ _ _ _ c.self.invariant.seated (busy_of _ _ c.self.view_is c.requires.busy) (step_of_loan c.wanted.result) c.wanted.ensures
 
 pub take-taken-requires-clause-may : goal.take-taken-requires-clause-may
-take-taken-requires-clause-may g c other = may_go c.laws_of_runs.ensures _ _ _ _ c.self.invariant.seated (busy_of _ _ c.self.view_is c.requires.busy) (step_of_loan c.wanted.result) c.wanted.ensures other
+take-taken-requires-clause-may g c other = may_go c.laws_of_runs.ensures _ _ _ _ c.self.invariant.seated (busy_of _ _ c.self.view_is c.requires.busy)
+    (step_of_loan c.wanted.result) c.wanted.ensures other
 
 pub of-record-requires-clause-spelt : goal.of-record-requires-clause-spelt
 of-record-requires-clause-spelt g c =

@@ -8,7 +8,8 @@ use Rattle.running_tree.proofs.tree.Tree.note.Goals as goal
 pub invariant_of-result : goal.invariant_of-result
 invariant_of-result g c =
     let me : Mine = c.seat.inside.desk.place.me in
-    let is : c.note.result.me ≡ (alone c.seat.inside.limits c.seat.inside.desk.number (seen_of me) Noted, []) = c.note.ensures.noted ∙ ap (λ (m : Mine). (part_note m.0, [])) c.seat.invariant.place in (
+    let is : c.note.result.me ≡ (alone c.seat.inside.limits c.seat.inside.desk.number (seen_of me) Noted, []) = c.note.ensures.noted
+    ∙ ap (λ (m : Mine). (part_note m.0, [])) c.seat.invariant.place in (
       c.seat.inside.desk.number,
       subst (λ (run : List Entry). c.note.result.me ≡ (alone c.seat.inside.limits c.seat.inside.desk.number run Noted, [])) (sym (ap seen_of is)) is,
     )
