@@ -197,15 +197,15 @@ BWTREE_INLINE uint32_t bwtree_limits_for_keys(uint64_t actors, uint64_t keys, bw
     return bwtree_raw_limits_for_keys(actors, keys, limits);
 }
 
-/* Limits for a large tree of pairs of any length: up to 27 million keys, in some 450 bytes each. OK with `limits`; BAD_LIMITS, of 0 or more than 63 seats, and
- * of too many keys. */
+/* Limits for a large tree of pairs of any length: up to 27 million keys, in some 500 bytes each, and with several seats in 26 MB more if the keys are few: so
+ * 16,384 updates have room while a thread is stopped inside a call. OK with `limits`; BAD_LIMITS, of 0 or more than 63 seats, and of too many keys. */
 BWTREE_INLINE uint32_t bwtree_limits_for_many_keys(uint64_t actors, uint64_t keys, bwtree_limits *limits) {
     if (!limits) return BWTREE_NULL;
     return bwtree_raw_limits_for_many_keys(actors, keys, limits);
 }
 
-/* Limits for a large tree of pairs whose keys and values mostly have at most so many bytes, of 16 and 8 in some 131 bytes a key; longer pairs are taken, too,
- * as far as wide records suffice, one for each 32 pages. OK with `limits`; BAD_LIMITS, of more than 64 bytes, too. */
+/* Limits for a large tree of pairs whose keys and values mostly have at most so many bytes, of 16 and 8 in some 141 bytes a key, and 7 MB; longer pairs are
+ * taken, too, as far as wide records suffice, one for each 64 pages. OK with `limits`; BAD_LIMITS, of more than 64 bytes, too. */
 BWTREE_INLINE uint32_t bwtree_limits_for_pairs(uint64_t actors, uint64_t keys, uint64_t key_bytes, uint64_t value_bytes, bwtree_limits *limits) {
     if (!limits) return BWTREE_NULL;
     return bwtree_raw_limits_for_pairs(actors, keys, key_bytes, value_bytes, limits);

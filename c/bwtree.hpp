@@ -352,14 +352,15 @@ public:
         detail::must(bwtree_limits_for_keys(seats, keys, &limits));
         return tree(limits);
     }
-    // A large tree for up to 27 million different keys, in some 450 bytes each. Throws what an empty tree throws.
+    // A large tree for up to 27 million different keys, in some 500 bytes each, and with several seats in 26 MB more if the keys are few. Throws what an empty tree
+    // throws.
     static tree for_many_keys(uint64_t seats, uint64_t keys) {
         bwtree_limits limits;
         detail::must(bwtree_limits_for_many_keys(seats, keys, &limits));
         return tree(limits);
     }
-    // The same for pairs whose keys and values mostly have at most so many bytes, of 16 and 8 in some 131 bytes a key; longer pairs are taken, too, as far as
-    // there is room. Throws what an empty tree throws.
+    // The same for pairs whose keys and values mostly have at most so many bytes, of 16 and 8 in some 141 bytes a key, and 7 MB; longer pairs are taken,
+    // too, as far as there is room. Throws what an empty tree throws.
     static tree for_pairs(uint64_t seats, uint64_t keys, uint64_t key_bytes, uint64_t value_bytes) {
         bwtree_limits limits;
         detail::must(bwtree_limits_for_pairs(seats, keys, key_bytes, value_bytes, &limits));

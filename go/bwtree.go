@@ -137,8 +137,9 @@ func LimitsForKeys(seats, keys uint64) (Limits, error) {
 	return shown(limits), nil
 }
 
-// LimitsForPairs are limits for a large tree of pairs whose keys and values mostly have at most so many bytes, of 16 and 8 in some 131 bytes a key. Longer pairs
-// are taken, too, as far as there is room. It returns ErrBadLimits for no seats or more than 63, for too many keys, and for more than 64 bytes.
+// LimitsForPairs are limits for a large tree of pairs whose keys and values mostly have at most so many bytes, of 16 and 8 in some 141 bytes a key, and with
+// several seats in 7 MB more if the keys are few. Longer pairs are taken, too, as far as there is room. It returns ErrBadLimits for no seats or more than 63,
+// for too many keys, and for more than 64 bytes.
 func LimitsForPairs(seats, keys, keyBytes, valueBytes uint64) (Limits, error) {
 	var limits C.bwtree_limits
 	if err := settled(C.bwtree_limits_for_pairs(C.uint64_t(seats), C.uint64_t(keys), C.uint64_t(keyBytes), C.uint64_t(valueBytes), &limits)); err != nil {
@@ -147,8 +148,9 @@ func LimitsForPairs(seats, keys, keyBytes, valueBytes uint64) (Limits, error) {
 	return shown(limits), nil
 }
 
-// LimitsForManyKeys are limits for a large tree of pairs of any length: up to 27 million keys, in some 450 bytes each. It returns ErrBadLimits for no seats or
-// more than 63, and for too many keys.
+// LimitsForManyKeys are limits for a large tree of pairs of any length: up to 27 million keys, in some 500 bytes each, and with several seats in 26 MB more if
+// the keys are few: so 16,384 updates have room while a thread is stopped inside a call. It returns ErrBadLimits for no seats or more than 63, and for too many
+// keys.
 func LimitsForManyKeys(seats, keys uint64) (Limits, error) {
 	var limits C.bwtree_limits
 	if err := settled(C.bwtree_limits_for_many_keys(C.uint64_t(seats), C.uint64_t(keys), &limits)); err != nil {

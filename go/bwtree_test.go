@@ -91,7 +91,7 @@ func TestLimits(t *testing.T) {
 		t.Fatal(err)
 	}
 	limits, err := LimitsForPairs(1, 1000, 16, 8)
-	if err != nil || !limits.Large || limits.Widths.PageWords != 72 {
+	if err != nil || !limits.Large || limits.Widths.PageWords != 88 {
 		t.Fatal(limits, err)
 	}
 	tree, err := Open(limits)

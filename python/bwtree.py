@@ -122,8 +122,9 @@ def _must(status: int) -> int:
 
 class Tree:
     """A tree with so many seats, for so many different keys, all counted that it ever has; or with so many pages and records. It has 1 to 16 seats, a large
-    one 1 to 63. A large tree takes up to 27 million keys, in some 450 bytes each; where key_bytes and value_bytes are given, as many as keys and values mostly
-    have at most, in fewer: of 16 and 8 in some 131. Longer pairs are taken, too, as far as there is room. It has the given pairs, whose keys ascend.
+    one 1 to 63. A large tree takes up to 27 million keys, in some 500 bytes each; where key_bytes and value_bytes are given, as many as keys and values mostly
+    have at most, in fewer: of 16 and 8 in some 141. With several seats it takes 26 or 7 MB more if its keys are few. Longer pairs are taken, too, as far as there
+    is room. It has the given pairs, whose keys ascend.
 
     Raises Error with the status BAD_LIMITS (22), BAD_ORDER (26) of pairs whose keys don't ascend, or NO_MEMORY (23); Full where the pairs don't all fit;
     ValueError for a key or value of more than 64 bytes, and for pages without records; TypeError for what has no bytes. No tree is open then."""

@@ -90,12 +90,12 @@ static void limits(void) {
     CHECK(bwtree_limits_for_many_keys(2, 1000000000, &limits) == BWTREE_BAD_LIMITS && limits.actors == 3);
     CHECK(bwtree_limits_for_many_keys(2, 1000, &limits) == BWTREE_OK && limits.actors == 2 && limits.large == 2);
     CHECK(limits.narrow_records % 64 == 0 && limits.wide_from > limits.narrow_records && limits.records > limits.wide_from);
-    CHECK(limits.narrow_words == 24 && limits.page_words == 296 && bwtree_open(&limits, &tree) == BWTREE_OK && bwtree_close(&tree) == BWTREE_OK);
+    CHECK(limits.narrow_words == 24 && limits.page_words == 344 && bwtree_open(&limits, &tree) == BWTREE_OK && bwtree_close(&tree) == BWTREE_OK);
     /* by the lengths of pairs; longer ones are taken, too */
     CHECK(bwtree_limits_for_pairs(1, 1000, 16, 8, NULL) == BWTREE_NULL && bwtree_limits_for_pairs(1, 1000, 65, 8, &limits) == BWTREE_BAD_LIMITS);
     CHECK(bwtree_limits_for_pairs(1, 1000, 16, 65, &limits) == BWTREE_BAD_LIMITS && bwtree_limits_for_pairs(0, 1000, 16, 8, &limits) == BWTREE_BAD_LIMITS);
-    CHECK(limits.page_words == 296 && bwtree_limits_for_pairs(1, 1000, 16, 8, &limits) == BWTREE_OK && limits.large == 2);
-    CHECK(limits.narrow_words == 8 && limits.page_words == 72 && bwtree_open(&limits, &of_pairs) == BWTREE_OK);
+    CHECK(limits.page_words == 344 && bwtree_limits_for_pairs(1, 1000, 16, 8, &limits) == BWTREE_OK && limits.large == 2);
+    CHECK(limits.narrow_words == 8 && limits.page_words == 88 && bwtree_open(&limits, &of_pairs) == BWTREE_OK);
     for (int i = 0; i < 1000; i++) {
         bwtree_bytes old;
         char key[64] = {0};
@@ -115,7 +115,7 @@ static void limits(void) {
     for (int i = 0; i < 8; i++) {
         bwtree_limits wrong = limits;
         *(uint64_t *[]){&wrong.narrow_records, &wrong.wide_from, &wrong.wide_from, &wrong.narrow_words, &wrong.narrow_words, &wrong.page_words, &wrong.page_words,
-                        &wrong.large}[i] = (uint64_t[]){1, 0, limits.records, 7, 80, 16, 513, 3}[i];
+                        &wrong.large}[i] = (uint64_t[]){1, 0, limits.records, 7, 96, 16, 513, 3}[i];
         CHECK(bwtree_open(&wrong, &of_pairs) == BWTREE_BAD_LIMITS);
     }
     static const bwtree_limits bad[] = {{0, 64, 64, 1, 0},   {17, 64, 64, 1, 0},    {1, 0, 64, 1, 0},  {1, 65, 64, 1, 0},

@@ -42,12 +42,12 @@ static const struct mix MIXES[] = {
 static const struct mix *mix = &MIXES[0];
 
 static struct {
-    uint64_t seats, pages, records, epoch, large, threads, keys, calls, pairs, seed, stops, cores, yields, proposed, key_bytes, value_bytes;
-} set = {4, 256, 2624, 1, 0, 4, 100, 5000, 0, 1, 0, 0, 0, 0, 64, 64};
+    uint64_t seats, pages, records, epoch, large, threads, keys, calls, pairs, seed, stops, cores, yields, proposed, key_bytes, value_bytes, spare;
+} set = {4, 256, 2624, 1, 0, 4, 100, 5000, 0, 1, 0, 0, 0, 0, 64, 64, 1};
 static const struct { const char *name; uint64_t *to; } settings[] = {
     {"seats", &set.seats}, {"pages", &set.pages}, {"records", &set.records}, {"epoch", &set.epoch}, {"large", &set.large}, {"threads", &set.threads}, {"keys", &set.keys},
     {"calls", &set.calls}, {"pairs", &set.pairs}, {"seed", &set.seed},       {"stops", &set.stops}, {"cores", &set.cores}, {"yields", &set.yields},
-    {"proposed", &set.proposed}, {"key_bytes", &set.key_bytes}, {"value_bytes", &set.value_bytes},
+    {"proposed", &set.proposed}, {"key_bytes", &set.key_bytes}, {"value_bytes", &set.value_bytes}, {"spare", &set.spare},
 };
 
 static bwtree tree;
@@ -293,6 +293,15 @@ static void use_some_cores(void) {
     CHECK(sched_setaffinity(0, sizeof cores, &cores) == 0);
 }
 
+/* Takes out what the limits of a tree with several seats spare for calls beside a stopped one: all but 128 of 8,192 pages, and all but 64 of 192 wide
+ * records. Otherwise few records would be used again. */
+static void take_spare_out(bwtree_limits *limits) {
+    const uint64_t pages = 8064;
+    if (limits->actors == 1) return;
+    limits->pages -= pages, limits->narrow_records -= 2 * pages, limits->wide_from -= 3 * pages;
+    limits->records -= 3 * pages + 128;
+}
+
 /* The tree's limits: those that are named, or those that are proposed for so many keys, of a large tree with records of three widths. */
 static bwtree_limits limits_of_tree(void) {
     bwtree_limits limits = {set.seats, set.pages, set.records, set.epoch, set.large};
@@ -301,6 +310,7 @@ static bwtree_limits limits_of_tree(void) {
         CHECK(bwtree_limits_for_many_keys(set.seats, set.proposed, &limits) == BWTREE_OK);
     else CHECK(bwtree_limits_for_pairs(set.seats, set.proposed, set.key_bytes, set.value_bytes, &limits) == BWTREE_OK);
     CHECK(limits.large == 2);
+    if (!set.spare) take_spare_out(&limits);
     limits.epoch = set.epoch;
     return limits;
 }

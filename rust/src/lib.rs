@@ -171,7 +171,8 @@ impl Limits {
         Ok(limits.into())
     }
 
-    /// For a large tree of pairs of any length: up to 27 million keys, in some 450 bytes each.
+    /// For a large tree of pairs of any length: up to 27 million keys, in some 500 bytes each, and with several seats in 26 MB more if the keys are few: so 16,384
+    /// updates have room while a thread is stopped inside a call.
     ///
     /// ```
     /// assert!(bwtree::Limits::for_many_keys(63, 1_000_000)?.large);
@@ -188,8 +189,8 @@ impl Limits {
         Ok(limits.into())
     }
 
-    /// For a large tree of pairs whose keys and values mostly have at most so many bytes, of 16 and 8 in some 131 bytes a key. Longer pairs are taken, too, as
-    /// far as there is room.
+    /// For a large tree of pairs whose keys and values mostly have at most so many bytes, of 16 and 8 in some 141 bytes a key, and 7 MB. Longer pairs are taken,
+    /// too, as far as there is room.
     ///
     /// ```
     /// use bwtree::{Error, Limits};

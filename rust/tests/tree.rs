@@ -38,7 +38,7 @@ fn limits_are_tested() {
     assert_eq!(Limits::for_many_keys(64, 1), Err(Error::BadLimits));
     let limits = Limits::for_pairs(1, 1000, 16, 8).unwrap();
     let widths = limits.widths.unwrap();
-    assert!(limits.large && widths.page_words == 72 && Tree::open(limits).unwrap().seat().unwrap().insert(&[b'k'; 64], &[b'v'; 64]).is_ok());
+    assert!(limits.large && widths.page_words == 88 && Tree::open(limits).unwrap().seat().unwrap().insert(&[b'k'; 64], &[b'v'; 64]).is_ok());
     for wrong in [Limits { large: false, ..limits }, Limits { widths: Some(Widths { narrow_words: 7, ..widths }), ..limits }] {
         assert_eq!(Tree::open(wrong).err(), Some(Error::BadLimits));
     }

@@ -1,4 +1,4 @@
-//! Does one thing again and again, as often as the command line says: a program for bench/rows.sh, bench/tree.sh and bench/windows.sh.
+//! Does one thing again and again, as often as the command line says: a program for scripts of bench/.
 //!
 //! Look first at `What` (worker). Called by nobody but those scripts; it has no contract, and no claim rests on it.
 //!
@@ -9,11 +9,12 @@
 //! bytes, 16 at least, by one seat. That is all where WHAT is `load`, or `ascend`, which inserts them in ascending order. Where it is `reads`,
 //! `half` or `scans`, each of so many threads then does so many operations on drawn keys: lookups, upserts and lookups by turns, or pages of
 //! 100 pairs. Where it is `steps` or `writes`, they do lookups or upserts, and count their steps. Where it is `window`, the tree has 256 PIDs
-//! and is empty; keys come at its end, and go at its front once there are SIZE. Where it is `rows`, `ways` or
-//! `looks`, there is no tree: an operation loads the words of SIZE rows, drawn ones, or those of a way over five levels, or of these the words
-//! that a search looks at. It prints how many operations
-//! succeeded or steps were taken by what came last, and on standard error how many nanoseconds that took. bench/tree.sh, bench/large.sh and
-//! bench/windows.sh run it.
+//! and is empty; keys come at its end, and go at its front once there are SIZE. Where it is `passing` they do in a large tree of the limits
+//! that are proposed for SIZE keys, and where it is `hot` one key is upserted there: an operation that is refused is made again, and those
+//! that were not refused succeed. Where it is `rows`, `ways` or `looks`, there is no tree: an operation loads the words of SIZE rows, drawn
+//! ones, or those of a way over five levels, or of these the words that a search looks at. It prints how many operations succeeded or steps
+//! were taken by what came last, and on standard error how many nanoseconds that took. bench/tree.sh, bench/large.sh, bench/windows.sh and
+//! bench/stops.sh run it.
 #![tactic(auto)]
 
 mod amounts;

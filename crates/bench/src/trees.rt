@@ -32,7 +32,9 @@ pub(crate) fn run<R: Threads + Clock + Sync>(
         return None;
     };
     match what {
-        What::Window => in_threads(rt, alloc, &tree, &mut seats, what, scale),
+        What::Window | What::Passing | What::Hot => {
+            in_threads(rt, alloc, &tree, &mut seats, what, scale)
+        }
         _ => on_loaded(rt, alloc, &tree, &mut seats, what, scale),
     }
 }
@@ -41,6 +43,7 @@ pub(crate) fn run<R: Threads + Clock + Sync>(
 fn limits_for(what: What, scale: Scale) -> Result<Limits, BadLimits> {
     match what {
         What::Window => Limits::new(4, 256, 4096, 1),
+        What::Passing | What::Hot => Limits::for_pairs(4, u64::from(scale.size), 16, VALUE_BYTES),
         _ if scale.size <= FEW_KEYS => Limits::new(4, 4096, 16384, 1),
         _ => {
             let key_bytes = u64::from(scale.key_bytes).clamp(16, 64);

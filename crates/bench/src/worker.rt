@@ -14,6 +14,9 @@ use seats::{called, called_in, reply, resumed};
 /// More steps than an operation takes.
 const MOST_STEPS: u32 = 1 << 16;
 
+/// How often an operation is made that is refused.
+const MOST_TURNS: u32 = 1 << 30;
+
 /// How many pairs a scan shows.
 const SCANNED: usize = 100;
 
@@ -42,6 +45,10 @@ pub(crate) enum What {
     Writes,
     /// Every second operation inserts the next key at the end, the others delete the first one, once there are as many as there are to be.
     Window,
+    /// The same in a tree of proposed limits. An operation that is refused is made again.
+    Passing,
+    /// One key is upserted, in such a tree. An operation that is refused is made again.
+    Hot,
 }
 
 impl What {
@@ -56,6 +63,8 @@ impl What {
             "steps" => Some(What::Steps),
             "writes" => Some(What::Writes),
             "window" => Some(What::Window),
+            "passing" => Some(What::Passing),
+            "hot" => Some(What::Hot),
             _ => None,
         }
     }
@@ -92,7 +101,8 @@ impl Worker {
         let drawn = self.drawn.next_word();
         let number = drawn.checked_rem(self.scale.size).unwrap_or(0);
         match self.what {
-            What::Window => self.moved(operation),
+            What::Window | What::Passing => self.moved(operation),
+            What::Hot => Command::Upsert(self.key(0), value(operation)),
             What::Load | What::Ascend => Command::Insert(self.key(operation), value(operation)),
             What::Scans => Command::Page(self.key(number)),
             What::Half if operation % 2 == 0 => Command::Upsert(self.key(number), value(operation)),
@@ -117,9 +127,24 @@ impl Worker {
         }
     }
 
+    /// Whether an operation is done and not refused at first. Where it is refused, it is made again.
+    fn is_taken(&mut self, tree: &Tree, seat: &mut BwSeat, operation: u32) -> bool
+        requires own { IsSeatOf tree.now seat.old }
+        ensures same { IsSame seat.old seat.new }
+    {
+        for turn in 0..MOST_TURNS {
+            let command = self.command(operation);
+            let done = called_in(tree, seat, command, MOST_STEPS, &mut self.last) == Some(true);
+            if !matches!(self.last, Reply::Full) {
+                return done && turn == 0;
+            }
+        }
+        false
+    }
+
     /// What the digits of a number's key say: neighbours among the numbers are none among the keys, but in a window and where they ascend.
     fn digits(&self, number: u32) -> u64 {
-        if matches!(self.what, What::Window | What::Ascend) {
+        if matches!(self.what, What::Window | What::Passing | What::Ascend) {
             return u64::from(number);
         }
         let product = u64::from(number).wrapping_mul(SCATTER);
@@ -141,11 +166,14 @@ impl Worker {
 impl Work for Worker {
     fn work(&mut self, tree: &Tree, seat: &mut BwSeat) {
         for operation in 0..self.scale.operations {
-            let command = self.command(operation);
             let done = match self.what {
-                What::Steps | What::Writes => steps(tree, seat, command),
-                What::Scans => u64::from(shows(tree, seat, command)),
-                _ => u64::from(succeeds(tree, seat, command, &mut self.last)),
+                What::Steps | What::Writes => steps(tree, seat, self.command(operation)),
+                What::Scans => u64::from(shows(tree, seat, self.command(operation))),
+                What::Passing | What::Hot => u64::from(self.is_taken(tree, seat, operation)),
+                _ => {
+                    let command = self.command(operation);
+                    u64::from(succeeds(tree, seat, command, &mut self.last))
+                }
             };
             self.done = self.done.saturating_add(done);
         }

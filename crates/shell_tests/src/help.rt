@@ -50,18 +50,18 @@ fn help_lists_each_refusal(rt: HostRuntime) -> Result<(), Fail> {
     Ok(())
 }
 
-// The numbers are those that the rule proposes, of a large tree without its wide rows: here all rows are wide.
+// The numbers are those that the rule proposes. Of a large tree they are without the room for what others take out while a seat is stopped.
 #[test]
 fn help_sizes_a_tree(rt: HostRuntime) -> Result<(), Fail> {
     let alloc = rt.alloc();
     let help = help_of(alloc, "help")?;
     let small = Limits::for_keys(4, 1000).expect(&rt, "limits for a thousand keys");
-    let large = Limits::for_many_keys(4, 100_000).expect(&rt, "limits for 100,000 keys");
     let small_words = format!(in alloc; "--pids {} --rows {}", small.pids, small.rows)?;
-    let large_words = format!(in alloc;
-        "--large --pids {} --rows {}",
-        large.pids, large.wide_from
-    )?;
+    let leaves: u64 = 100_000 / 8 + 1;
+    let pages = leaves + leaves / 6 + 1;
+    let pids = (pages + pages / 16 + 1 + 22 * 4).div_ceil(64) * 64;
+    let rows = (3 * pids + 240 * 4).div_ceil(64) * 64;
+    let large_words = format!(in alloc; "--large --pids {pids} --rows {rows}")?;
     assert!(rt;
         help.as_str().contains(small_words.as_str()),
         "{small_words} isn't in {help}"

@@ -3,6 +3,7 @@
 ghost use Rattle.running_tree.specs.Trees.{AreSeatsOf};
 
 use crate::orders::{Order, but_eighths, numbers};
+use crate::trees::without_stops;
 use crate::turns::done;
 use crate::works::Work;
 use bw_model::Limits;
@@ -39,12 +40,12 @@ enum Kind {
 }
 
 impl Kind {
-    /// The limits that are proposed for so many keys.
+    /// The limits that are proposed for so many keys, where no seat is stopped.
     fn limits(self, actors: u64, keys: u32) -> Option<Limits> {
         let keys = u64::from(keys);
         match self {
             Kind::Small => Limits::for_keys(actors, keys).ok(),
-            Kind::Large => Limits::for_many_keys(actors, keys).ok(),
+            Kind::Large => without_stops(Limits::for_many_keys(actors, keys)),
         }
     }
 }

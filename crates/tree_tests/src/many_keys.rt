@@ -3,7 +3,7 @@
 ghost use Rattle.running_tree.specs.Trees.{AreSeatsOf};
 
 use crate::orders::{Order, numbers};
-use crate::trees::new_tree;
+use crate::trees::{new_tree, without_stops};
 use crate::turns::done;
 use crate::works::{Work, key, value};
 use bw_model::{Key, Limits, Value};
@@ -45,7 +45,7 @@ fn are_all(pairs: &[(Key, Value)]) -> bool {
 
 /// For how many keys each work is done on a new tree, and whether it lists all of them as it is closed.
 fn held(alloc: Global) -> Option<([u32; 3], bool)> {
-    let limits = Limits::for_many_keys(SEATS, u64::from(KEYS)).ok();
+    let limits = without_stops(Limits::for_many_keys(SEATS, u64::from(KEYS)));
     let (tree, mut seats) = new_tree(alloc, limits)?;
     let counts = counts(alloc, &tree, &mut seats);
     let pairs = tree.close(alloc, seats).ok()?;

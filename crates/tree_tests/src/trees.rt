@@ -113,6 +113,30 @@ pub(crate) fn by_width((seats, pids, rows): Size) -> Result<Limits, BadLimits> {
     Limits::with_widths(seats, pids, rows.saturating_mul(3), 1, widths)
 }
 
+/// The spare pages of proposed limits that are for operations beside a stopped seat. 128 are left, more than a sixteenth of the pages that
+/// 13,000 keys make.
+const FOR_STOPS: u64 = 8064;
+
+/// Limits that are proposed for a large tree, without what is spare for operations beside a stopped seat.
+pub(crate) fn without_stops(proposed: Result<Limits, BadLimits>) -> Option<Limits> {
+    let limits = proposed.ok()?;
+    if limits.actors == 1 {
+        return Some(limits);
+    }
+    let wide_rows = limits.rows.checked_sub(limits.wide_from)?;
+    let narrow_rows = limits.narrow_rows.checked_sub(2 * FOR_STOPS)?;
+    let wide_from = limits.wide_from.checked_sub(3 * FOR_STOPS)?;
+    let widths = Widths {
+        narrow_rows,
+        wide_from,
+        narrow_words: limits.narrow_words,
+        page_words: limits.page_words,
+    };
+    let pids = limits.pids.checked_sub(FOR_STOPS)?;
+    let rows = wide_from.checked_add(wide_rows)?;
+    Limits::with_widths(limits.actors, pids, rows, 1, widths).ok()
+}
+
 /// Whether these runs go right on a tree of this size, on a large one, and on one that has so many rows of each width.
 fn go_right_in_each(alloc: Global, (seats, pids, rows): Size, all: &[Run]) -> bool {
     go_right(alloc, Limits::new(seats, pids, rows, 1), 1, all)
