@@ -9,7 +9,9 @@ use Rattle.running_tree.specs.declared.filling.TheConstants.{LOAD_BUDGET}
 use Rattle.running_tree.specs.Loaded.{AreLoaded, IsStopped, KeysAscend}
 use Rattle.running_tree.specs.Seats.{Seat}
 use Rattle.running_tree.specs.Trees.{Tree}
+use Rattle.bw_tree_c.specs.Handles.{opened_in}
 use Rattle.bw_tree_c.specs.Shown.{ShowsLimits, bytes_in}
+use Rattle.bw_tree_c.specs.Slots.{HaveSeats}
 use Rattle.bw_tree_c.specs.declared.statuses.TheConstants.{BAD_LIMITS, BAD_ORDER, FULL, NO_MEMORY, OK, OPEN, SPENT, TOO_LONG}
 use Rattle.bw_tree_c.specs.declared.c_types.Pair.{Pair}
 use Rattle.bw_tree_c.specs.declared.c_types.TreeLimits.{TreeLimits}
@@ -32,10 +34,16 @@ pub record IsLoadedWith (asked : Limits) (pairs : List (List ℕ × List ℕ)) (
   pub limits : tree.limits ≡ asked
   pub loaded : AreLoaded tree seats pairs
 
+-- The slots of the handle have those seats.
+pub record IsLoadedIn (asked : Limits) (pairs : List (List ℕ × List ℕ)) (shared : Shared) : Type 0 where
+  pub seats : List Seat
+  pub have : HaveSeats (opened_in shared) seats
+  pub loaded : IsLoadedWith asked pairs seats
+
 -- The pairs that are given are short, and the handle has the seats of a tree of the limits that are shown, which was opened with them.
 abbrev pub HasOpenedWith : TreeLimits → List Pair → Option Shared → Type 0
 HasOpenedWith shows given None = ⊥
-HasOpenedWith shows given (Some shared) = AreShort given × (limits : Limits) × ShowsLimits limits shows × IsLoadedWith limits (map given_pair given) shared.log.shared.key.items
+HasOpenedWith shows given (Some shared) = AreShort given × (limits : Limits) × ShowsLimits limits shows × IsLoadedIn limits (map given_pair given) shared
 
 -- Why no tree of these limits is opened with the pairs: the pairs that are given are too long, or not in order; or the upsert of one of them, in a tree
 -- that is let go then, found nothing free or was spent; or memory was refused.

@@ -1,14 +1,15 @@
 -- What a handle keeps once its tree is opened.
-use Rattle.std.specs.Prelude.{◌≡◌, ◌+◌, ◌∷◌, [], ℕ, List, Option, Some, None}
-use Rattle.atomic_table.specs.Seated.{TableId}
+use Rattle.std.specs.Prelude.{◌≡◌, ◌+◌, [], ℕ, List, Option, Some, None}
 use Rattle.call_log.specs.declared.log.Authors.TheVariants.{AllFrom}
-use Rattle.call_log.specs.Rule.{known, receipt}
+use Rattle.call_log.specs.Rule.{knows}
 use Rattle.tree_limits.specs.declared.limits.Limits.{Limits}
 use Rattle.tree_limits.specs.Room.{large_pids_for, large_rows_for, narrow_rows_for, narrow_words_for, page_words_for, pids_for, rows_for, wide_rows_for}
 use Rattle.running_tree.specs.Seats.{Seat}
 use Rattle.running_tree.specs.Trees.{AreFresh, Tree}
-use Rattle.bw_tree_c.specs.Hands.{SeatHand}
+use Rattle.bw_tree_c.specs.Handles.{opened_in}
+use Rattle.bw_tree_c.specs.Receipts.{SeatHand}
 use Rattle.bw_tree_c.specs.Shown.{ShowsLimits}
+use Rattle.bw_tree_c.specs.Slots.{HaveSeats}
 use Rattle.bw_tree_c.specs.declared.c_types.TreeLimits.{TreeLimits}
 use Rattle.bw_tree_c.specs.declared.handle.shared.Shared.{Shared}
 
@@ -18,21 +19,21 @@ pub record IsOpenedAt (asked : Limits) (seats : List Seat) : Type 0 where
   pub limits : tree.limits ≡ asked
   pub fresh : AreFresh tree seats
 
+-- The slots of the handle have those seats.
+pub record IsOpenedIn (asked : Limits) (shared : Shared) : Type 0 where
+  pub seats : List Seat
+  pub have : HaveSeats (opened_in shared) seats
+  pub opened : IsOpenedAt asked seats
+
 -- The handle has the seats of a new tree of the limits that are shown.
 abbrev pub HasOpened : TreeLimits → Option Shared → Type 0
 HasOpened shows None = ⊥
-HasOpened shows (Some shared) = (limits : Limits) × ShowsLimits limits shows × IsOpenedAt limits shared.log.shared.key.items
-
--- The hand has all authors of this log, into which nothing is written.
-pub record HasAllAuthors (which : TableId) (opened : List Seat) (hand : SeatHand) : Type 0 where
-  pub table : hand.table_id ≡ which
-  pub authors : hand.me.0.authors ≡ AllFrom 0
-  pub logs : hand.me.0.logs ≡ known opened [] ∷ []
+HasOpened shows (Some shared) = (limits : Limits) × ShowsLimits limits shows × IsOpenedIn limits shared
 
 -- The note is a receipt of the handle's log with all its authors, into which nothing is written.
 pub record IsFirstNote (shared : Shared) (note : SeatHand) : Type 0 where
-  pub table : note.table_id ≡ shared.log.shared.table_id
-  pub me : note.me ≡ (receipt (AllFrom 0) (known shared.log.shared.key.items [] ∷ []), [])
+  pub table : note.table_id ≡ shared.table.shared.table_id
+  pub me : note.me ≡ (knows (AllFrom 0) (opened_in shared) [], [])
 
 -- The limits that are shown are those of the rule for so many actors and keys.
 pub record ProposesLimits (seats keys : ℕ) (shows : TreeLimits) : Type 0 where

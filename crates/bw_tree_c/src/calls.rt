@@ -6,11 +6,11 @@ ghost use Rattle.bw_tree_c.specs.Calls.{ComesToValue, ComesTidied, ComesWithin};
 ghost use Rattle.bw_tree_c.specs.Handles.{MayCall, MayCallOn};
 
 use crate::c_types::Bytes;
+use crate::handle::TreeHandle;
 use crate::handle::shared::Shared;
-use crate::handle::{Taken, TreeHandle, take_in};
 use crate::receipt::{Receipt, Told};
-use crate::slot::finish;
 use crate::statuses::{CLOSED, SPENT, TOO_LONG};
+use crate::taking::{Taken, finish, take};
 use bw_model::{Command, Key, Value};
 use seats::BUDGET;
 
@@ -43,7 +43,7 @@ impl TreeHandle {
 
 /// Runs a command on a seat of a handle.
 fn run_in(
-    shared: &'static Shared,
+    shared: &Shared,
     seat: u32,
     command: Command,
     budget: u32,
@@ -52,27 +52,29 @@ fn run_in(
 ) -> Told
     requires may { MayCall shared.now since }
     requires some { 1 ≤ budget }
-    ensures { ComesWithin (Some shared.now) seat command budget since result old.old old.new }
+    ensures called { ComesWithin (Some shared.now) seat command budget since result old.old old.new }
+    ensures may { MayCall shared.now result.receipt }
 {
-    let Taken { slot, mut place } = match take_in(shared, seat) {
+    let Taken { hand, mut place } = match take(shared, seat, since) {
         Ok(taken) => taken,
-        Err(refusal) => return Told::refused(refusal.status(), since),
+        Err(told) => return told,
     };
     let status = place.run(command, budget, old);
-    finish(shared, slot, place, status, since)
+    finish(shared, seat, hand, place, status)
 }
 
 /// Does upkeep on a seat of a handle.
-fn tidy_in(shared: &'static Shared, seat: u32, key: Key, since: Receipt) -> Told
+fn tidy_in(shared: &Shared, seat: u32, key: Key, since: Receipt) -> Told
     requires { MayCall shared.now since }
-    ensures { ComesTidied (Some shared.now) seat (command.Tidy key) since result }
+    ensures called { ComesTidied (Some shared.now) seat (command.Tidy key) since result }
+    ensures may { MayCall shared.now result.receipt }
 {
-    let Taken { slot, mut place } = match take_in(shared, seat) {
+    let Taken { hand, mut place } = match take(shared, seat, since) {
         Ok(taken) => taken,
-        Err(refusal) => return Told::refused(refusal.status(), since),
+        Err(told) => return told,
     };
     let status = place.tidy(key);
-    finish(shared, slot, place, status, since)
+    finish(shared, seat, hand, place, status)
 }
 
 /// Looks a key up.

@@ -1,21 +1,19 @@
 //! A tree is closed.
-ghost use Rattle.std.specs.Prelude.{◌≡◌, ◌≢◌, ◌⊎◌, None};
-ghost use Rattle.bw_tree_c.specs.Closing.{CanEmpty, CanForget, HasClosed, IsClosedBy, IsForgotten};
+ghost use Rattle.std.specs.Prelude.{◌≡◌, ◌⊎◌, None, Some};
+ghost use Rattle.bw_tree_c.specs.Closing.{HasClosed, IsBusy, IsClosed, IsClosedBy};
 ghost use Rattle.bw_tree_c.specs.Handles.{MayCall, MayCallOn};
+ghost use Rattle.bw_tree_c.specs.Shutting.{FromOpen, IsOpenClosing};
 
-mod all_seats;
+pub(crate) mod emptying;
 pub(crate) mod pairs;
-pub(crate) mod waiting;
+pub(crate) mod whole;
 
-use crate::closing::waiting::{leave_left, take_left};
+use crate::closing::emptying::Begun;
 use crate::handle::TreeHandle;
-use crate::handle::log::SeatHand;
 use crate::handle::shared::Shared;
+use crate::handle::slots::{Inside, SeatHand};
 use crate::receipt::{Receipt, Told};
-use crate::refusal::Refusal;
-use crate::slot::close_all;
 use crate::statuses::{BUSY, CLOSED, OK};
-use call_log::{copied, emptied, looked, observed};
 
 /// Closes the tree, and frees it, unless a call is inside a seat.
 #[unsafe(no_mangle)]
@@ -24,68 +22,46 @@ pub extern "C" fn bwtree_raw_close(tree: &TreeHandle, since: Receipt) -> Told
     ensures never { tree.now.kept.value ≡ None → result.status ≡ CLOSED }
     ensures told { (result.status ≡ OK) ⊎ (result.status ≡ CLOSED) ⊎ (result.status ≡ BUSY) }
     ensures ok { result.status ≡ OK → HasClosed tree.now.kept.value since result.receipt }
-    ensures back { result.status ≢ OK → result.receipt ≡ since }
+    ensures busy { result.status ≡ BUSY → IsBusy tree.now.kept.value since result.receipt }
+    ensures closed { result.status ≡ CLOSED → IsClosed tree.now.kept.value since result.receipt }
     ensures may { MayCallOn tree.now.kept.value result.receipt }
 {
-    let Some(shared) = tree.shared() else {
-        return tree.refused(CLOSED, since);
-    };
-    shared.close(since)
+    match tree.shared() {
+        Some(shared) => shared.close(since),
+        None => tree.refused(CLOSED, since),
+    }
 }
 
 impl Shared {
-    /// Closes the tree.
+    /// Closes the tree, or drops what it left.
     fn close(&self, since: Receipt) -> Told
         requires { MayCall self.now since }
         ensures told { (result.status ≡ OK) ⊎ (result.status ≡ CLOSED) ⊎ (result.status ≡ BUSY) }
         ensures ok { result.status ≡ OK → IsClosedBy self.now since result.receipt }
-        ensures back { result.status ≢ OK → result.receipt ≡ since }
+        ensures busy { result.status ≡ BUSY → IsBusy (Some self.now) since result.receipt }
+        ensures closed { result.status ≡ CLOSED → IsClosed (Some self.now) since result.receipt }
     {
-        match close_all(self, self.slots.as_slice()) {
-            Ok(Some(hand)) => self.forget_since(hand, since),
-            Ok(None) => Told::refused(CLOSED, since),
-            Err(Refusal::Closed) => self.forget_left(since),
-            Err(_) => Told::refused(BUSY, since),
-        }
-    }
-
-    /// Writes into the log that nothing waits any more, behind all that the caller had seen.
-    fn forget_since(&self, mut hand: SeatHand, since: Receipt) -> Told
-        requires can { CanEmpty self.now hand }
-        requires may { MayCall self.now since }
-        ensures told { result.status ≡ OK }
-        ensures closed { IsClosedBy self.now since result.receipt }
-    {
-        observed(&self.log.shared, &mut hand, self.seen_by(since));
-        self.forget(hand)
-    }
-
-    /// Writes into the log that nothing waits any more.
-    pub(crate) fn forget(&self, mut hand: SeatHand) -> Told
-        requires { CanForget self.now hand }
-        ensures told { result.status ≡ OK }
-        ensures closed { IsForgotten self.now hand result.receipt }
-    {
-        emptied(&self.log.shared, &mut hand);
-        let note = copied(&self.log.shared, &mut hand);
-        Told::of(OK, note)
-    }
-
-    /// Drops the pairs that a closed tree has left, if there are any.
-    fn forget_left(&self, since: Receipt) -> Told
-        requires { MayCall self.now since }
-        ensures told { (result.status ≡ OK) ⊎ (result.status ≡ CLOSED) ⊎ (result.status ≡ BUSY) }
-        ensures ok { result.status ≡ OK → IsClosedBy self.now since result.receipt }
-        ensures back { result.status ≢ OK → result.receipt ≡ since }
-    {
-        let (_, spare) = looked(&self.log.shared);
-        let Ok(left) = take_left(&self.left, spare) else {
-            return Told::refused(BUSY, since);
+        let Begun { hand, inside } = match self.begin_closing(since) {
+            Ok(begun) => begun,
+            Err(told) => return told,
         };
-        leave_left(&self.left);
-        match left {
-            Some(left) => self.forget_since(left.into_hand(), since),
-            None => Told::refused(CLOSED, since),
+        match inside {
+            Inside::Nothing => self.close_open(hand),
+            _ => self.empty(hand),
         }
+    }
+
+    /// Closes the tree, which is open: its last slot is out.
+    fn close_open(&self, mut hand: SeatHand) -> Told
+        requires { IsOpenClosing self.now hand }
+        ensures told { (result.status ≡ OK) ⊎ (result.status ≡ BUSY) }
+        ensures ok { result.status ≡ OK → FromOpen self.now hand (λ since. IsClosedBy self.now since result.receipt) }
+        ensures busy { result.status ≡ BUSY → FromOpen self.now hand (λ since. IsBusy (Some self.now) since result.receipt) }
+    {
+        if let Err(_) = self.take_out(&mut hand, self.last(), false) {
+            return self.stop(hand, BUSY);
+        }
+        self.drop_all(&mut hand);
+        self.empty(hand)
     }
 }

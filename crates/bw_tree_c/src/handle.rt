@@ -1,19 +1,14 @@
 //! The handle of a tree, which lies in the C program's memory.
-ghost use Rattle.std.specs.Prelude.{◌≡◌, ◌↔◌, None, Some, IfErr, IfOk, IfSome, IsSome, MatchOption, slice_get};
-ghost use Rattle.bw_tree_c.specs.Handles.{IsRefused, MayCall, MayCallOn};
-ghost use Rattle.bw_tree_c.specs.Places.{IsKin};
+ghost use Rattle.std.specs.Prelude.{◌≡◌, ◌↔◌, None, Some, IfSome, IsSome, MatchOption};
+ghost use Rattle.bw_tree_c.specs.Handles.{MayCall, MayCallOn};
 
 mod kept;
-pub(crate) mod log;
-mod seen;
 pub(crate) mod shared;
+pub(crate) mod slots;
 
 use crate::handle::kept::Kept;
 use crate::handle::shared::Shared;
-use crate::place::Place;
 use crate::receipt::{Receipt, Told};
-use crate::refusal::Refusal;
-use crate::slot::{Slot, take};
 
 /// The handle of a tree: never opened, as where all its bytes are zero, or opened. All threads share it.
 #[repr(C)]
@@ -67,34 +62,6 @@ impl TreeHandle {
             None
         }
     }
-}
-
-/// The slot of a seat.
-fn slot_in(shared: &'static Shared, seat: u32) -> Result<&'static Slot, Refusal>
-    ensures slot { IfOk result (λ slot. slice_get shared.now.slots.items seat ≡ Some slot.now) }
-    ensures refused { IfErr result (IsRefused (Some shared.now) seat) }
-{
-    match shared.slots.get(seat as usize) {
-        Some(slot) => Ok(slot),
-        None => Err(Refusal::NoSeat),
-    }
-}
-
-/// Takes a seat out of its slot, for a call.
-pub(crate) fn take_in(shared: &'static Shared, seat: u32) -> Result<Taken, Refusal>
-    ensures slot { IfOk result (λ taken. slice_get shared.now.slots.items seat ≡ Some taken.slot.now) }
-    ensures kin { IfOk result (λ taken. IsKin taken.slot.now taken.place.value) }
-    ensures refused { IfErr result (IsRefused (Some shared.now) seat) }
-{
-    let slot = slot_in(shared, seat)?;
-    let place = take(slot)?;
-    Ok(Taken { slot, place })
-}
-
-/// A seat that was taken out of its slot.
-pub struct Taken {
-    pub(crate) slot: &'static Slot,
-    pub(crate) place: Box<Place>,
 }
 
 /// This handle.

@@ -7,14 +7,13 @@
 //! Each call is written into the log of its handle (call_log), which takes no memory. An export returns a `Receipt` of that log beside its status, and takes one
 //! (`since`): both have no bytes, so C passes neither. By them the clauses connect the calls on one handle: what a call returns comes behind what its caller had
 //! seen, each call continues its seat from the last call on it, and a closing hands over what all of them left. A call is written as the author of `since`, and nothing
-//! without an author: so the log has no call of an export but its own. An opening returns all authors, and `TreeHandle::parted` gives one away; in C, where receipts have no bytes, that is
+//! without an author: so a call makes no other one. An opening returns all authors, and `TreeHandle::parted` gives one away; in C, where receipts have no bytes, that is
 //! for whoever reads the program to say.
 //!
 //! Called by c/bwtree.h, which has the same for readers of C, and by what stands on that. It may not know a thread or anything that waits: a
 //! static library may link neither.
 #![tactic(auto)]
 
-mod box_pointer;
 mod c_types;
 mod calls;
 mod closing;
@@ -27,7 +26,8 @@ mod queries;
 mod receipt;
 mod refusal;
 mod running;
-mod slot;
+mod seeing;
 mod statuses;
+mod taking;
 #[cfg(test)]
 mod tests;

@@ -4,14 +4,14 @@ ghost use Rattle.bw_model.specs.declared.command.Reply.TheVariants as reply;
 ghost use Rattle.running_tree.specs.Loaded.{KeysAscend};
 ghost use Rattle.call_log.specs.declared.log.Authors.TheVariants.{AllFrom};
 ghost use Rattle.bw_tree_c.specs.Handles.{IsReceipt, MayCallOn};
-ghost use Rattle.bw_tree_c.specs.Loaded.{AreShort, HasOpenedWith, IsLoadedWith, IsUnloaded, StopsLoad, TellsUnloaded, given_pair};
+ghost use Rattle.bw_tree_c.specs.Loaded.{AreShort, HasOpenedWith, IsLoadedIn, IsUnloaded, StopsLoad, TellsUnloaded, given_pair};
 ghost use Rattle.bw_tree_c.specs.Opened.{IsFirstNote};
 ghost use Rattle.bw_tree_c.specs.Shown.{AreOpenable};
 
 use crate::c_types::{Pair, TreeLimits, pairs_of};
 use crate::handle::TreeHandle;
-use crate::handle::log::SeatHand;
 use crate::handle::shared::Shared;
+use crate::handle::slots::SeatHand;
 use crate::opening::shared_with_seats;
 use crate::receipt::Told;
 use crate::statuses::{BAD_LIMITS, BAD_ORDER, FULL, NO_MEMORY, OK, OPEN, SPENT, TOO_LONG};
@@ -62,7 +62,7 @@ fn shared_with(
     limits: Limits,
     given: &[Pair],
 ) -> Result<(Box<Shared>, SeatHand), u32>
-    ensures ok { IfOk result (λ made. IsLoadedWith limits (map given_pair given.now) made.0.value.log.shared.key.items) }
+    ensures ok { IfOk result (λ made. IsLoadedIn limits (map given_pair given.now) made.0.value) }
     ensures authors { IfOk result (λ made. IsFirstNote made.0.value made.1) }
     ensures short { IfOk result (λ made. AreShort given.now) }
     ensures err { IfErr result (IsUnloaded limits given.now) }

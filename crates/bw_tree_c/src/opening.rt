@@ -2,26 +2,26 @@
 ghost use Rattle.std.specs.Prelude.{◌≡◌, ◌<◌, ◌⊎◌, ◌↔◌, [], IfSome, IsSome, None, Some, length};
 ghost use Rattle.std.specs.Arc.{arc_value};
 ghost use Rattle.tree_limits.specs.Room.{AreProposed, AreProposedLarge, AreProposedPairs};
-ghost use Rattle.running_tree.specs.Trees.{AreSeatsOf};
+ghost use Rattle.running_tree.specs.Trees.{AreSeatsOf, IsSeatOf};
 ghost use Rattle.call_log.specs.declared.log.Authors.TheVariants.{AllFrom};
 ghost use Rattle.call_log.specs.Rule.{all_of};
 ghost use Rattle.bw_tree_c.specs.Closing.{IsInUse, IsVacant};
-ghost use Rattle.bw_tree_c.specs.Handles.{IsReceipt, MayCallOn};
-ghost use Rattle.bw_tree_c.specs.Hands.{AreSlotsOf};
+ghost use Rattle.bw_tree_c.specs.Handles.{IsReceipt, MayCall, MayCallOn};
 ghost use Rattle.bw_tree_c.specs.Left.{HaveOneTree};
-ghost use Rattle.bw_tree_c.specs.Opened.{HasAllAuthors, HasOpened, IsFirstNote, IsOpenedAt, ProposesLargeLimits, ProposesLimits, ProposesPairLimits};
+ghost use Rattle.bw_tree_c.specs.Opened.{HasOpened, IsFirstNote, IsOpenedIn, ProposesLargeLimits, ProposesLimits, ProposesPairLimits};
 ghost use Rattle.bw_tree_c.specs.Shown.{AreOpenable};
+ghost use Rattle.bw_tree_c.specs.Shutting.{HasBegunAs};
+ghost use Rattle.bw_tree_c.specs.Slots.{HaveSeats};
 
 use crate::c_types::TreeLimits;
-use crate::closing::waiting::nothing_left;
+use crate::closing::emptying::Begun;
 use crate::handle::TreeHandle;
-use crate::handle::log::{SeatHand, SeatLog};
 use crate::handle::shared::Shared;
+use crate::handle::slots::{Inside, SeatHand};
+use crate::place::Place;
 use crate::receipt::{Receipt, Told};
-use crate::slot::{Slot, slot_of};
-use crate::statuses::{BAD_LIMITS, NO_MEMORY, OK, OPEN};
-use bw_model::Limits;
-use call_log::{copied, dealt, looked, observed, recalled};
+use crate::statuses::{BAD_LIMITS, CLOSED, NO_MEMORY, OK, OPEN};
+use bw_model::{Limits, Reply};
 use running_tree::{BwSeat, Tree};
 use seats::opened;
 use std::alloc::Global;
@@ -113,12 +113,13 @@ pub extern "C" fn bwtree_raw_open(alloc: Global, limits: &TreeLimits, tree: &mut
 /// Empties the handle of a tree that is closed and of which no pairs wait: it is then as one that was never opened.
 #[unsafe(no_mangle)]
 pub extern "C" fn bwtree_raw_vacate(tree: &mut TreeHandle, since: Receipt) -> Told
+    requires may { MayCallOn tree.old.kept.value since }
     ensures told { (result.status ≡ OK) ⊎ (result.status ≡ OPEN) }
     ensures ok { result.status ≡ OK → tree.new.kept.value ≡ None }
     ensures vacant { result.status ≡ OK → IsVacant tree.old.kept.value since result.receipt }
     ensures open { result.status ≡ OPEN → IsInUse tree.old.kept.value since result.receipt }
     ensures same { result.status ≡ OPEN → tree.new ≡ tree.old }
-    ensures may { MayCallOn tree.old.kept.value since → MayCallOn tree.new.kept.value result.receipt }
+    ensures may { MayCallOn tree.new.kept.value result.receipt }
 {
     let told = tree.stage(since);
     if told.status == OK {
@@ -130,6 +131,7 @@ pub extern "C" fn bwtree_raw_vacate(tree: &mut TreeHandle, since: Receipt) -> To
 impl TreeHandle {
     /// Whether it is vacant: OK, or OPEN of a tree that isn't closed, or whose pairs wait.
     fn stage(&self, since: Receipt) -> Told
+        requires may { MayCallOn self.now.kept.value since }
         ensures told { (result.status ≡ OK) ⊎ (result.status ≡ OPEN) }
         ensures vacant { result.status ≡ OK → IsVacant self.now.kept.value since result.receipt }
         ensures open { result.status ≡ OPEN → IsInUse self.now.kept.value since result.receipt }
@@ -144,20 +146,35 @@ impl TreeHandle {
 impl Shared {
     /// Whether the handle is vacant.
     fn stage(&self, since: Receipt) -> Told
+        requires may { MayCall self.now since }
         ensures told { (result.status ≡ OK) ⊎ (result.status ≡ OPEN) }
         ensures vacant { result.status ≡ OK → IsVacant (Some self.now) since result.receipt }
         ensures open { result.status ≡ OPEN → IsInUse (Some self.now) since result.receipt }
     {
-        let (_, mut note) = looked(&self.log.shared);
-        observed(&self.log.shared, &mut note, self.seen_by(since));
-        let stage = recalled(&self.log.shared, &mut note);
-        Told::of(if stage == 2 { OK } else { OPEN }, note)
+        match self.begin_closing(since) {
+            Ok(Begun { hand, inside }) => self.put_back(hand, inside),
+            Err(Told { status, receipt }) => {
+                Told::refused(if status == CLOSED { OK } else { OPEN }, receipt)
+            }
+        }
+    }
+
+    /// Puts back what was in the last slot, which isn't vacant.
+    fn put_back(&self, hand: SeatHand, inside: Inside) -> Told
+        requires { (since : Receipt) × (may : MayCall self.now since) × HasBegunAs self.now since may inside hand }
+        ensures told { result.status ≡ OPEN }
+        ensures open { (since : Receipt) (may : MayCall self.now since) → HasBegunAs self.now since may inside hand → IsInUse (Some self.now) since result.receipt }
+    {
+        match inside {
+            Inside::Nothing => self.stop(hand, OPEN),
+            inside => self.keep(hand, inside, OPEN),
+        }
     }
 }
 
 /// A new tree, with its seats in their slots, and what has all authors.
 fn shared_of(alloc: Global, limits: Limits) -> Option<(Box<Shared>, SeatHand)>
-    ensures opened { IfSome result (λ made. IsOpenedAt limits made.0.value.log.shared.key.items) }
+    ensures opened { IfSome result (λ made. IsOpenedIn limits made.0.value) }
     ensures authors { IfSome result (λ made. IsFirstNote made.0.value made.1) }
 {
     let Ok((tree, seats)) = opened(alloc, limits) else {
@@ -176,42 +193,39 @@ pub(crate) fn shared_with_seats(
 ) -> Option<(Box<Shared>, SeatHand)>
     requires own { AreSeatsOf tree seats.items }
     requires one { HaveOneTree limits seats.items }
-    ensures items { IfSome result (λ made. made.0.value.log.shared.key.items ≡ seats.items) }
+    ensures items { IfSome result (λ made. HaveSeats made.0.value.table.shared.key.value.items seats.items) }
     ensures authors { IfSome result (λ made. IsFirstNote made.0.value made.1) }
 {
     let Ok(tree) = Arc::new(alloc, tree) else {
         return None;
     };
-    let (log, mut hand) = call_log::opened(alloc, &seats)?;
-    let left = nothing_left(&hand);
-    let slots = slots_of(alloc, &log, &mut hand, &tree, seats)?;
-    let note = copied(&log.shared, &mut hand);
-    match Box::new(alloc, Shared::of(limits, log, slots, left)) {
-        Ok(shared) => Some((shared, note)),
+    let slots = slots_of(alloc, &tree, seats)?;
+    let (table, hand) = call_log::opened(alloc, slots)?;
+    match Box::new(alloc, Shared::of(limits, table)) {
+        Ok(shared) => Some((shared, hand)),
         Err(_) => None,
     }
 }
 
-/// A slot for each seat, in order. The hand keeps all authors.
-fn slots_of(
-    alloc: Global,
-    log: &SeatLog,
-    hand: &mut SeatHand,
-    tree: &Arc<Tree>,
-    seats: Vec<BwSeat>,
-) -> Option<Vec<Slot>>
+/// A slot for each seat, in order, and the last one.
+fn slots_of(alloc: Global, tree: &Arc<Tree>, seats: Vec<BwSeat>) -> Option<Vec<Inside>>
     requires own { AreSeatsOf (arc_value tree.now) seats.items }
-    requires word { 0 < log.now.shared.table_id.words }
-    requires table { hand.old.table_id ≡ log.now.shared.table_id }
-    requires hand { hand.old.me ≡ (all_of seats.items, []) }
-    ensures count { IfSome result (λ slots. length slots.items ≡ length seats.items) }
-    ensures own { IfSome result (λ slots. AreSlotsOf log.now.shared.table_id seats.items slots.items) }
-    ensures rest { IfSome result (λ _. HasAllAuthors log.now.shared.table_id seats.items hand.new) }
+    ensures { IfSome result (λ slots. HaveSeats slots.items seats.items) }
 {
     let mut slots = Vec::with_capacity(alloc, seats.len()).ok()?;
     for seat in seats {
-        let one = dealt(&log.shared, hand);
-        slots.push(slot_of(alloc, tree, seat, one)?).ok()?;
+        slots.push(Inside::Seat(place_of(alloc, tree, seat)?)).ok()?;
     }
+    slots.push(Inside::Nothing).ok()?;
     Some(slots)
+}
+
+/// A place with this seat.
+fn place_of(alloc: Global, tree: &Arc<Tree>, seat: BwSeat) -> Option<Box<Place>>
+    requires own { IsSeatOf (arc_value tree.now) seat }
+    ensures { IfSome result (λ place. place.value.seat ≡ seat) }
+{
+    let tree = Arc::try_clone(tree).ok()?;
+    let reply = Reply::None;
+    Box::new(alloc, Place { tree, seat, reply }).ok()
 }

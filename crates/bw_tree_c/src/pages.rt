@@ -6,11 +6,11 @@ ghost use Rattle.bw_tree_c.specs.Calls.{ComesOn, ComesToPage};
 ghost use Rattle.bw_tree_c.specs.Handles.{MayCall, MayCallOn};
 
 use crate::c_types::{Bytes, Page};
+use crate::handle::TreeHandle;
 use crate::handle::shared::Shared;
-use crate::handle::{Taken, TreeHandle, take_in};
 use crate::receipt::{Receipt, Told};
-use crate::slot::finish;
 use crate::statuses::{CLOSED, TOO_LONG};
+use crate::taking::{Taken, finish, take};
 use bw_model::{Command, Key};
 
 impl TreeHandle {
@@ -28,27 +28,22 @@ impl TreeHandle {
 }
 
 /// Runs a command whose reply is a page on a seat of a handle.
-fn page_in(
-    shared: &'static Shared,
-    seat: u32,
-    command: Command,
-    page: &mut Page,
-    since: Receipt,
-) -> Told
+fn page_in(shared: &Shared, seat: u32, command: Command, page: &mut Page, since: Receipt) -> Told
     requires { MayCall shared.now since }
-    ensures { ComesToPage (Some shared.now) seat command since result page.old page.new }
+    ensures called { ComesToPage (Some shared.now) seat command since result page.old page.new }
+    ensures may { MayCall shared.now result.receipt }
 {
-    let Taken { slot, mut place } = match take_in(shared, seat) {
+    let Taken { hand, mut place } = match take(shared, seat, since) {
         Ok(taken) => taken,
-        Err(refusal) => return Told::refused(refusal.status(), since),
+        Err(told) => return told,
     };
     let status = place.page(command, page);
-    finish(shared, slot, place, status, since)
+    finish(shared, seat, hand, place, status)
 }
 
 /// Goes on with the unfinished operation of a seat of a handle.
 fn resume_in(
-    shared: &'static Shared,
+    shared: &Shared,
     seat: u32,
     budget: u32,
     old: &mut Bytes,
@@ -56,14 +51,15 @@ fn resume_in(
     since: Receipt,
 ) -> Told
     requires { MayCall shared.now since }
-    ensures { ComesOn (Some shared.now) seat budget since result old.old old.new page.old page.new }
+    ensures called { ComesOn (Some shared.now) seat budget since result old.old old.new page.old page.new }
+    ensures may { MayCall shared.now result.receipt }
 {
-    let Taken { slot, mut place } = match take_in(shared, seat) {
+    let Taken { hand, mut place } = match take(shared, seat, since) {
         Ok(taken) => taken,
-        Err(refusal) => return Told::refused(refusal.status(), since),
+        Err(told) => return told,
     };
     let status = place.resume(budget, old, page);
-    finish(shared, slot, place, status, since)
+    finish(shared, seat, hand, place, status)
 }
 
 /// The pairs of the leaf that has the key, from the key on.

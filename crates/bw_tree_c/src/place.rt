@@ -2,17 +2,15 @@
 ghost use Rattle.std.specs.Arc.{arc_value};
 ghost use Rattle.running_tree.specs.Trees.{IsSeatOf};
 
-use crate::handle::log::SeatHand;
 use bw_model::Reply;
 use running_tree::{BwSeat, Tree};
 use std::sync::Arc;
 
-/// A seat, a share of its tree, the place in which calls are told replies, and what has the seat at the log of the handle.
+/// A seat, a share of its tree, and the place in which calls are told replies.
 #[derive(Drop)]
 pub struct Place {
     pub(crate) tree: Arc<Tree>,
     pub(crate) seat: BwSeat,
     pub(crate) reply: Reply,
-    pub(crate) hand: SeatHand,
     pub(crate) ghost own: { IsSeatOf (arc_value tree) seat },
 }

@@ -4,11 +4,11 @@ ghost use Rattle.bw_tree_c.specs.Calls.{ComesIdle, ComesWatched};
 ghost use Rattle.bw_tree_c.specs.Handles.{MayCall, MayCallOn};
 
 use crate::c_types::FreeRoom;
+use crate::handle::TreeHandle;
 use crate::handle::shared::Shared;
-use crate::handle::{Taken, TreeHandle, take_in};
 use crate::receipt::{Receipt, Told};
-use crate::slot::finish;
 use crate::statuses::CLOSED;
+use crate::taking::{Taken, finish, take};
 
 /// Whether a call may begin on the seat.
 #[unsafe(no_mangle)]
@@ -24,16 +24,17 @@ pub extern "C" fn bwtree_raw_is_idle(tree: &TreeHandle, seat: u32, since: Receip
 }
 
 /// Whether a call may begin on a seat of a handle.
-fn is_idle_in(shared: &'static Shared, seat: u32, since: Receipt) -> Told
+fn is_idle_in(shared: &Shared, seat: u32, since: Receipt) -> Told
     requires { MayCall shared.now since }
-    ensures { ComesIdle (Some shared.now) seat since result }
+    ensures called { ComesIdle (Some shared.now) seat since result }
+    ensures may { MayCall shared.now result.receipt }
 {
-    let Taken { slot, mut place } = match take_in(shared, seat) {
+    let Taken { hand, mut place } = match take(shared, seat, since) {
         Ok(taken) => taken,
-        Err(refusal) => return Told::refused(refusal.status(), since),
+        Err(told) => return told,
     };
     let status = place.tell_idle();
-    finish(shared, slot, place, status, since)
+    finish(shared, seat, hand, place, status)
 }
 
 /// How many PIDs and rows are free.
@@ -55,14 +56,15 @@ pub extern "C" fn bwtree_raw_room(
 }
 
 /// How many PIDs and rows of a handle's tree are free.
-fn room_in(shared: &'static Shared, seat: u32, room: &mut FreeRoom, since: Receipt) -> Told
+fn room_in(shared: &Shared, seat: u32, room: &mut FreeRoom, since: Receipt) -> Told
     requires { MayCall shared.now since }
-    ensures { ComesWatched (Some shared.now) seat since result room.old room.new }
+    ensures called { ComesWatched (Some shared.now) seat since result room.old room.new }
+    ensures may { MayCall shared.now result.receipt }
 {
-    let Taken { slot, mut place } = match take_in(shared, seat) {
+    let Taken { hand, mut place } = match take(shared, seat, since) {
         Ok(taken) => taken,
-        Err(refusal) => return Told::refused(refusal.status(), since),
+        Err(told) => return told,
     };
     let status = place.watch_room(room);
-    finish(shared, slot, place, status, since)
+    finish(shared, seat, hand, place, status)
 }

@@ -3,13 +3,12 @@ ghost use Rattle.std.specs.Prelude.{◌≡◌, ◌∷◌, [], ℕ, List};
 ghost use base.Stored.{coded_list};
 ghost use Rattle.atomic_table.specs.Seated.{TableId, table_id_coded, badge_owns};
 ghost use Rattle.call_log.specs.declared.log.Knows.{Knows as KnowsOf};
-ghost use Rattle.running_tree.specs.Seats.{Seat};
 ghost use Rattle.bw_tree_c.specs.Receipts.{HasViewOf, knows_row};
+ghost use Rattle.bw_tree_c.specs.declared.handle.slots.Inside.{Inside};
 
-use crate::handle::log::SeatHand;
+use crate::handle::slots::{Inside, SeatHand};
 use atomic_table::Badge;
 use call_log::Knows;
-use running_tree::BwSeat;
 use std::marker::Model;
 
 /// What has seen the log of a handle. It takes no memory. A receipt can't be made up: it is a seat at the log's table.
@@ -17,7 +16,7 @@ use std::marker::Model;
 pub struct Receipt {
     pub ghost table_id: { TableId } by { table_id_coded },
     pub ghost id: { ℕ },
-    pub ghost views: { List (KnowsOf Seat) } by { coded_list knows_row.coded },
+    pub ghost views: { List (KnowsOf Inside) } by { coded_list knows_row.coded },
 }
 
 impl Model for Receipt {
@@ -36,7 +35,7 @@ unsafe impl Sync for Receipt {}
 
 impl Receipt {
     /// What a badge is is the receipt's from now on.
-    pub fn taken(badge: &mut Badge<Knows<BwSeat>>) -> Receipt
+    pub fn taken(badge: &mut Badge<Knows<Inside>>) -> Receipt
         ensures { (result.table_id ≡ badge.old.table_id) × (result.id ≡ badge.old.id) × (result.views ≡ badge.old.views) × (badge.new.views ≡ []) }
     {
         Receipt {}

@@ -1,17 +1,13 @@
 //! What runs on the seat that a call has.
-ghost use Rattle.std.specs.Prelude.{◌≡◌, ◌≤◌, []};
+ghost use Rattle.std.specs.Prelude.{◌≤◌};
 ghost use Rattle.bw_model.specs.declared.command.Command.TheVariants as command;
-ghost use Rattle.bw_tree_c.specs.Places.{CanWriteSeat, IsWritten};
 ghost use Rattle.bw_tree_c.specs.Running.{IsRunToValue, IsRunFurther, IsRunToPage, IsTidied, IsWatched, TellsIdle};
 ghost use Rattle.bw_tree_c.specs.Seats.{IsLater};
 
 use crate::c_types::{Bytes, FreeRoom, Page};
-use crate::handle::log::SeatHand;
-use crate::handle::shared::Shared;
 use crate::place::Place;
 use crate::statuses::{IDLE, OK, UNFINISHED, status_of_called, tell_page, tell_value};
 use bw_model::{Command, Key};
-use call_log::written;
 use seats::{BUDGET, called_in, resumed_in};
 
 impl Place {
@@ -19,7 +15,6 @@ impl Place {
     pub(crate) fn run(&mut self, command: Command, budget: u32, old: &mut Bytes) -> u32
         requires some { 1 ≤ budget }
         ensures later { IsLater self.old.seat self.new.seat }
-        ensures hand { self.new.hand ≡ self.old.hand }
         ensures run { IsRunToValue self.old.seat command budget result old.old old.new self.new.seat }
     {
         match called_in(&self.tree, &mut self.seat, command, budget, &mut self.reply) {
@@ -31,7 +26,6 @@ impl Place {
     /// Does upkeep, if the seat is idle.
     pub(crate) fn tidy(&mut self, key: Key) -> u32
         ensures later { IsLater self.old.seat self.new.seat }
-        ensures hand { self.new.hand ≡ self.old.hand }
         ensures run { IsTidied self.old.seat (command.Tidy key) result self.new.seat }
     {
         match called_in(
@@ -49,7 +43,6 @@ impl Place {
     /// Runs a command whose reply is a page, if the seat is idle.
     pub(crate) fn page(&mut self, paging: Command, page: &mut Page) -> u32
         ensures later { IsLater self.old.seat self.new.seat }
-        ensures hand { self.new.hand ≡ self.old.hand }
         ensures run { IsRunToPage self.old.seat paging result page.old page.new self.new.seat }
     {
         match called_in(&self.tree, &mut self.seat, paging, BUDGET, &mut self.reply) {
@@ -61,7 +54,6 @@ impl Place {
     /// Goes on with the seat's operation, if it has one.
     pub(crate) fn resume(&mut self, budget: u32, old: &mut Bytes, page: &mut Page) -> u32
         ensures later { IsLater self.old.seat self.new.seat }
-        ensures hand { self.new.hand ≡ self.old.hand }
         ensures run { IsRunFurther self.old.seat budget result old.old old.new page.old page.new self.new.seat }
     {
         match resumed_in(&self.tree, &mut self.seat, budget, &mut self.reply) {
@@ -80,20 +72,9 @@ impl Place {
         if self.seat.is_idle() { OK } else { UNFINISHED }
     }
 
-    /// Writes into the log of the handle what a call made of the seat, behind what a hand has seen, and gives what has seen that.
-    pub(crate) fn write(&mut self, shared: &Shared, since: SeatHand) -> SeatHand
-        requires can { CanWriteSeat shared.now self.old since }
-        requires since { (since.table_id ≡ shared.now.log.shared.table_id) × (since.me.1 ≡ []) }
-        ensures seat { self.new.seat ≡ self.old.seat }
-        ensures written { IsWritten shared.now since self.old self.new result }
-    {
-        written(&shared.log.shared, &mut self.hand, since, &self.seat)
-    }
-
     /// How many PIDs and rows are free.
     pub(crate) fn watch_room(&mut self, room: &mut FreeRoom) -> u32
         ensures later { IsLater self.old.seat self.new.seat }
-        ensures hand { self.new.hand ≡ self.old.hand }
         ensures room { IsWatched self.old.seat result room.new self.new.seat }
     {
         room.set(&self.tree.room(&mut self.seat));

@@ -1,16 +1,17 @@
 //! The exports, called from Rattle: what each answers, in turn.
-ghost use Rattle.std.specs.Prelude.{◌≡◌};
-ghost use Rattle.bw_tree_c.specs.Handles.{MayCallOn};
+ghost use Rattle.std.specs.Prelude.{◌≡◌, [], IfSome};
+ghost use Rattle.call_log.specs.declared.log.Authors.TheVariants.{AllFrom};
+ghost use Rattle.bw_tree_c.specs.Handles.{IsReceipt, MayCallOn};
 ghost use Rattle.bw_tree_c.specs.Seats.{IsLater};
 
 use crate::c_types::{Bytes, FreeRoom, Page, Pair, TreeLimits};
-use crate::handle::{Taken, take_in};
 use crate::opening::bwtree_raw_limits_for_keys;
 use crate::place::Place;
 use crate::statuses::{
     ABSENT, BAD_LIMITS, BAD_ORDER, BUSY, CLOSED, DIFFERS, EXISTS, IDLE, NO_ROOM, NO_SEAT, OK, OPEN,
     REPLACED, SPENT, TOO_LONG, UNFINISHED,
 };
+use crate::taking::{Taken, finish, take};
 use crate::tests::caller::Caller;
 use bw_model::{Command, Key};
 use seats::called;
@@ -96,6 +97,20 @@ fn two_seats(alloc: Global) -> Caller
     bwtree_raw_limits_for_keys(2, 100, &mut limits);
     caller.open(alloc, &limits);
     caller
+}
+
+/// A caller of such a tree who has all authors, if it was opened.
+fn all_authors(alloc: Global) -> Option<Caller>
+    ensures all { IfSome result (λ caller. IsReceipt caller.tree.kept.value (AllFrom 0) [] caller.since) }
+    ensures may { IfSome result (λ caller. MayCallOn caller.tree.kept.value caller.since) }
+{
+    let mut caller = Caller::unopened();
+    let mut limits = no_limits();
+    bwtree_raw_limits_for_keys(2, 100, &mut limits);
+    if caller.open(alloc, &limits) != OK {
+        return None;
+    }
+    Some(caller)
 }
 
 /// What openings and closings answer.
@@ -263,12 +278,12 @@ fn resumes_a_page(caller: &mut Caller) -> Option<bool>
     let Some(shared) = caller.tree.shared() else {
         return None;
     };
-    let Taken { slot, mut place } = match take_in(shared, 0) {
+    let Taken { hand, mut place } = match take(shared, 0, caller.receipt()) {
         Ok(taken) => taken,
         Err(_) => return None,
     };
     let is_begun = begins(&mut place, Command::Back(Key::default()));
-    caller.finish(shared, slot, place);
+    caller.since = finish(shared, 0, hand, place, OK).receipt;
     let told = caller.resume(0, 65536, &mut old, &mut page);
     Some(
         is_begun
@@ -410,36 +425,43 @@ fn pairs_that_wait_are_dropped(rt: HostRuntime) {
 /// Begins a command on an idle seat, with a budget of one step.
 fn begins(place: &mut Place, command: Command) -> bool
     ensures later { IsLater place.old.seat place.new.seat }
-    ensures hand { place.new.hand ≡ place.old.hand }
 {
     called(&place.tree, &mut place.seat, command, 1).is_some()
 }
 
-/// What calls answer while another call is inside seat 0.
-fn told_inside(alloc: Global, caller: &mut Caller) -> [u32; 5]
-    requires { MayCallOn caller.old.tree.kept.value caller.old.since }
-    ensures tree { caller.new.tree ≡ caller.old.tree }
-    ensures may { MayCallOn caller.new.tree.kept.value caller.new.since }
-{
+/// What calls answer while another call is inside seat 0, and after that.
+fn told_of_seats(alloc: Global) -> Option<[u32; 13]> {
     let mut old = no_bytes();
+    let mut page = no_page();
     let mut count = 0;
-    [
+    let mut caller = all_authors(alloc)?;
+    let since = caller.receipt();
+    let (one, others) = caller.tree.parted(since);
+    caller.since = others;
+    let shared = caller.tree.shared()?;
+    let Taken { hand, mut place } = match take(shared, 0, one) {
+        Ok(taken) => taken,
+        Err(_) => return None,
+    };
+    let inside = [
         caller.get(0, b"a", &mut old),
         caller.is_idle(0),
         caller.close(),
         caller.close_pairs(alloc, &mut [], &mut count),
         caller.is_idle(1),
-    ]
-}
-
-/// What calls answer where seat 0 has an unfinished operation.
-fn told_unfinished(alloc: Global, caller: &mut Caller) -> [u32; 8]
-    requires { MayCallOn caller.old.tree.kept.value caller.old.since }
-{
-    let mut old = no_bytes();
-    let mut page = no_page();
-    let mut count = 0;
-    [
+    ];
+    let is_begun = begins(&mut place, Command::Get(Key::default()));
+    finish(shared, 0, hand, place, OK);
+    if !is_begun {
+        return None;
+    }
+    let [first, second, third, fourth, fifth] = inside;
+    Some([
+        first,
+        second,
+        third,
+        fourth,
+        fifth,
         caller.close_pairs(alloc, &mut [], &mut count),
         caller.get(0, b"a", &mut old),
         caller.is_idle(0),
@@ -448,39 +470,14 @@ fn told_unfinished(alloc: Global, caller: &mut Caller) -> [u32; 8]
         caller.resume(0, 1, &mut old, &mut page),
         caller.is_idle(0),
         caller.close(),
-    ]
-}
-
-/// What calls answer while another call is inside seat 0, and after that.
-fn told_of_seats(alloc: Global, caller: &mut Caller) -> Option<([u32; 5], [u32; 8])>
-    requires { MayCallOn caller.old.tree.kept.value caller.old.since }
-{
-    let Some(shared) = caller.tree.shared() else {
-        return None;
-    };
-    let Taken { slot, mut place } = match take_in(shared, 0) {
-        Ok(taken) => taken,
-        Err(_) => return None,
-    };
-    let inside = told_inside(alloc, caller);
-    let is_begun = begins(&mut place, Command::Get(Key::default()));
-    caller.finish(shared, slot, place);
-    if !is_begun {
-        return None;
-    }
-    Some((inside, told_unfinished(alloc, caller)))
+    ])
 }
 
 #[test]
 fn seats_are_busy_and_unfinished(rt: HostRuntime) -> Result<(), Fail> {
-    let mut caller = two_seats(rt.alloc());
-    let (inside, after) = told_of_seats(rt.alloc(), &mut caller).ok_or("no seat")?;
-    assert!(rt; inside == [BUSY, BUSY, BUSY, BUSY, OK]);
-    assert!(rt;
-        after
-            == [
-                UNFINISHED, UNFINISHED, UNFINISHED, SPENT, ABSENT, IDLE, OK, OK
-            ]
-    );
+    let wanted = [
+        BUSY, BUSY, BUSY, BUSY, OK, UNFINISHED, UNFINISHED, UNFINISHED, SPENT, ABSENT, IDLE, OK, OK,
+    ];
+    assert!(rt; told_of_seats(rt.alloc()).ok_or("no seat")? == wanted);
     Ok(())
 }

@@ -1,5 +1,4 @@
-pub mod Following
 pub mod Logs
+pub mod Seen
 pub mod Turning
 pub mod Roster
-pub mod Writing

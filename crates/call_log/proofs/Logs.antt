@@ -1,157 +1,131 @@
--- Events that are added to a log.
-use Rattle.std.proofs.Common.{◌≡◌, ◌≢◌, ◌<◌, ◌++◌, ◌∷◌, ◌∙◌, ℕ, zero, suc, Bool, List, [], Option, Some, ap, append-nil, arith, false, inl, inr, length, refl, sym, true}
-use Rattle.std.specs.Prelude.{if◌then◌else◌, slice_get, slice_set}
-use Rattle.std.proofs.lemmas.Option.{same_Some}
+-- What may follow a log, and what others leave of it.
+use Rattle.std.proofs.Common.{◌≡◌, ◌≢◌, ◌+◌, ◌<◌, ◌≤◌, ◌++◌, ◌∷◌, ◌∙◌, ℕ, Bool, List, [], ap, arith, eq-eqb, eqb, length, ne_eqb, refl, subst, sym}
+use Rattle.std.specs.Prelude.{if◌then◌else◌}
+use mathlib.Core.Logic.{dite}
+use native.Mathlib.Decide.{ℕ_discrete}
+use Rattle.call_log.specs.declared.log.Authors.{Authors}
+use Rattle.call_log.specs.declared.log.Authors.TheVariants.{AllFrom, Nobody, One}
+use Rattle.call_log.specs.declared.log.Deed.{Deed}
+use Rattle.call_log.specs.declared.log.Deed.TheVariants.{Began, Closed, Emptied, Ended}
 use Rattle.call_log.specs.declared.log.Event.{Event}
-use Rattle.call_log.specs.declared.log.Event.TheVariants.{Called, Closed, Emptied}
-use Rattle.call_log.specs.declared.log.Known.{Known}
-use Rattle.call_log.specs.Logs.{AreSigned, BeganAs, IsLog, IsSigned, author_of, by, is_by, seats_after, stage_of}
-use Rattle.call_log.specs.Rule.{ExtendsAll}
+use Rattle.call_log.specs.Laws.{StaysOut}
+use Rattle.call_log.specs.Logs.{Ends, GoesOn, HasAuthor, IsLog, MayFollow, WritesAs, by, cell_of, cell_on, home, out, stage_of, stage_on}
 
-module _ {X : Type 0} where
-  pub assoc : (xs ys zs : List X) → (xs ++ ys) ++ zs ≡ xs ++ (ys ++ zs)
-  assoc [] ys zs = refl
-  assoc (x ∷ xs) ys zs = ap (λ l. x ∷ l) (assoc xs ys zs)
+pub has_first : (authors : Authors) (a : ℕ) → WritesAs authors a → HasAuthor authors a
+has_first Nobody a w = absurd w
+has_first (One n) a w = w
+has_first (AllFrom n) a w = omega (arith, w)
 
-  pub set_hit : (xs : List X) (n : ℕ) (a b : X) → slice_get xs n ≡ Some b → slice_get (slice_set xs n a) n ≡ Some a
-  set_hit [] n a b e = cc
-  set_hit (x ∷ xs) zero a b e = refl
-  set_hit (x ∷ xs) (suc n) a b e = set_hit xs n a b e
+pub same_first : (authors : Authors) (a b : ℕ) → WritesAs authors a → WritesAs authors b → a ≡ b
+same_first Nobody a b w v = absurd w
+same_first (One n) a b w v = w ∙ sym v
+same_first (AllFrom n) a b w v = w ∙ sym v
 
-  pub set_miss : (xs : List X) (n m : ℕ) (a : X) → n ≢ m → slice_get (slice_set xs n a) m ≡ slice_get xs m
-  set_miss [] n m a ne = refl
-  set_miss (x ∷ xs) zero zero a ne = absurd (ne refl)
-  set_miss (x ∷ xs) zero (suc m) a ne = refl
-  set_miss (x ∷ xs) (suc n) zero a ne = refl
-  set_miss (x ∷ xs) (suc n) (suc m) a ne = set_miss xs n m a (λ e. ne (ap suc e))
+-- a choice by two numbers
+pub where_same : {A : Type 0} (m n : ℕ) (a b : A) → m ≡ n → (if eqb m n then a else b) ≡ a
+where_same m n a b e = ap (λ (t : Bool). if t then a else b) (eq-eqb m n e)
 
-  pub set_length : (xs : List X) (n : ℕ) (a : X) → length (slice_set xs n a) ≡ length xs
-  set_length [] n a = refl
-  set_length (x ∷ xs) zero a = refl
-  set_length (x ∷ xs) (suc n) a = ap suc (set_length xs n a)
+pub where_other : {A : Type 0} (m n : ℕ) (a b : A) → m ≢ n → (if eqb m n then a else b) ≡ b
+where_other m n a b ne = ap (λ (t : Bool). if t then a else b) (ne_eqb m n ne)
 
-  pub has_seat : (xs : List X) (n : ℕ) → n < length xs → (x : X) × (slice_get xs n ≡ Some x)
-  has_seat [] n h = absurd (omega (arith, h))
-  has_seat (x ∷ xs) zero h = (x, refl)
-  has_seat (x ∷ xs) (suc n) h = has_seat xs n (omega (arith, h))
+module _ {S : Type 0} where
+  home_not_out : (P : Type 0) (x : S) (a : ℕ) (y : S) → home x ≡ out a y → P
+  home_not_out P x a y e = cc
 
-  pub same_list : (xs ys : List X) → length xs ≡ length ys → ((n : ℕ) (y : X) → slice_get ys n ≡ Some y → slice_get xs n ≡ Some y) → xs ≡ ys
-  same_list [] [] e h = refl
-  same_list [] (y ∷ ys) e h = absurd (omega (arith, e))
-  same_list (x ∷ xs) [] e h = absurd (omega (arith, e))
-  same_list (x ∷ xs) (y ∷ ys) e h = λ i. same_Some x y (h 0 y refl) i ∷ same_list xs ys (omega (arith, e)) (λ n z at. h (suc n) z at) i
+  out_author : (a b : ℕ) (x y : S) → out a x ≡ out b y → a ≡ b
+  out_author a b x y e = cc
 
-  pub only : (a : X) (n : ℕ) (x : X) → slice_get (a ∷ []) n ≡ Some x → (n ≡ 0) × (a ≡ x)
-  only a zero x e = (refl, same_Some a x e)
-  only a (suc n) x e = cc
+  pub out_value : (a b : ℕ) (x y : S) → out a x ≡ out b y → x ≡ y
+  out_value a b x y e = cc
 
-  pub nothing : (P : Type 0) (n : ℕ) (x : X) → slice_get [] n ≡ Some x → P
-  nothing P n x e = cc
+  pub home_value : (x y : S) → home x ≡ home y → x ≡ y
+  home_value x y e = cc
 
-  pub after_length : (seats : List X) (log : List (Event X)) → length (seats_after seats log) ≡ length seats
-  after_length seats [] = refl
-  after_length seats (Called u n b a ∷ log) = after_length (slice_set seats n a) log ∙ set_length seats n a
-  after_length seats (Closed u ∷ log) = refl
-  after_length seats (Emptied u ∷ log) = refl
+  pub goes_on_self : (log : List (Event S)) → GoesOn log log
+  goes_on_self log = ([], refl)
 
-  module _ (goes_on : X → X → Type 0) where
-    pub called_on : (seats : List X) (log : List (Event X)) (w : Option ℕ) (n : ℕ) (b a : X) → IsLog goes_on seats log → stage_of log ≡ 0 → slice_get (seats_after seats log) n ≡ Some b
-        → goes_on b a → IsLog goes_on seats (log ++ Called w n b a ∷ [])
-    called_on seats [] w n b a l s at g = (at, g, tt)
-    called_on seats (Called u m c d ∷ log) w n b a l s at g = (l.0, l.1, called_on (slice_set seats m d) log w n b a l.2 s at g)
-    called_on seats (Closed u ∷ log) w n b a l s at g = absurd (omega (arith, s))
-    called_on seats (Emptied u ∷ log) w n b a l s at g = absurd (omega (arith, s))
+  pub goes_on_one : (log before : List (Event S)) (event : Event S) → GoesOn log before → GoesOn (event ∷ log) before
+  goes_on_one log before event g = (event ∷ g.0, ap (λ l. event ∷ l) g.1)
 
-    pub closed_on : (w : Option ℕ) (seats : List X) (log : List (Event X)) → IsLog goes_on seats log → stage_of log < 1 → IsLog goes_on seats (log ++ Closed w ∷ [])
-    closed_on w seats [] l s = inl refl
-    closed_on w seats (Called u m c d ∷ log) l s = (l.0, l.1, closed_on w (slice_set seats m d) log l.2 s)
-    closed_on w seats (Closed u ∷ log) l s = absurd (omega (arith, s))
-    closed_on w seats (Emptied u ∷ log) l s = absurd (omega (arith, s))
+  -- what an author wrote in a log that went on
+  pub by_other : (a : ℕ) (event : Event S) (log : List (Event S)) → a ≢ event.author → by a (event ∷ log) ≡ by a log
+  by_other a event log ne = where_other a event.author (event ∷ by a log) (by a log) ne
 
-    pub emptied_on : (w : Option ℕ) (seats : List X) (log : List (Event X)) → IsLog goes_on seats log → stage_of log < 2 → IsLog goes_on seats (log ++ Emptied w ∷ [])
-    emptied_on w seats [] l s = refl
-    emptied_on w seats (Called u m c d ∷ log) l s = (l.0, l.1, emptied_on w (slice_set seats m d) log l.2 s)
-    emptied_on w seats (Closed u ∷ []) l s = inr (w, refl)
-    emptied_on w seats (Closed u ∷ event ∷ log) l s = absurd (omega (arith, s))
-    emptied_on w seats (Emptied u ∷ log) l s = absurd (omega (arith, s))
+  pub by_mine : (a : ℕ) (event : Event S) (log : List (Event S)) → a ≡ event.author → by a (event ∷ log) ≡ event ∷ by a log
+  by_mine a event log e = where_same a event.author (event ∷ by a log) (by a log) e
 
-  pub called_stage : (log : List (Event X)) (w : Option ℕ) (n : ℕ) (b a : X) → stage_of log ≡ 0 → stage_of (log ++ Called w n b a ∷ []) ≡ stage_of log
-  called_stage [] w n b a s = refl
-  called_stage (Called u m c d ∷ log) w n b a s = called_stage log w n b a s
-  called_stage (Closed u ∷ log) w n b a s = absurd (omega (arith, s))
-  called_stage (Emptied u ∷ log) w n b a s = absurd (omega (arith, s))
+  by_long : (a : ℕ) (more log : List (Event S)) → length (by a log) ≤ length (by a (more ++ log))
+  by_long a [] log = omega arith
+  by_long a (event ∷ more) log = dite (ℕ_discrete a event.author)
+      (λ e. let is = ap length (by_mine a event (more ++ log) e) in let r = by_long a more log in omega (arith, is, r))
+      (λ ne. let is = ap length (by_other a event (more ++ log) ne) in let r = by_long a more log in omega (arith, is, r))
 
-  pub called_after : (seats : List X) (log : List (Event X)) (w : Option ℕ) (n : ℕ) (b a : X) → stage_of log ≡ 0
-      → seats_after seats (log ++ Called w n b a ∷ []) ≡ slice_set (seats_after seats log) n a
-  called_after seats [] w n b a s = refl
-  called_after seats (Called u m c d ∷ log) w n b a s = called_after (slice_set seats m d) log w n b a s
-  called_after seats (Closed u ∷ log) w n b a s = absurd (omega (arith, s))
-  called_after seats (Emptied u ∷ log) w n b a s = absurd (omega (arith, s))
+  pub none_by : (a : ℕ) (event : Event S) (more log : List (Event S)) → by a (event ∷ more ++ log) ≡ by a log → (a ≢ event.author) × (by a (more ++ log) ≡ by a log)
+  none_by a event more log same = dite (ℕ_discrete a event.author)
+      (λ e. let is = ap length (sym (by_mine a event (more ++ log) e) ∙ same) in let r = by_long a more log in absurd (omega (arith, is, r)))
+      (λ ne. (ne, sym (by_other a event (more ++ log) ne) ∙ same))
 
-  pub closed_stage : (w : Option ℕ) (log : List (Event X)) → stage_of log < 1 → stage_of (log ++ Closed w ∷ []) ≡ 1
-  closed_stage w [] s = refl
-  closed_stage w (Called u m c d ∷ log) s = closed_stage w log s
-  closed_stage w (Closed u ∷ log) s = absurd (omega (arith, s))
-  closed_stage w (Emptied u ∷ log) s = absurd (omega (arith, s))
+  pub by_goes_on : (a : ℕ) (more log : List (Event S)) → GoesOn (by a (more ++ log)) (by a log)
+  by_goes_on a [] log = goes_on_self (by a log)
+  by_goes_on a (event ∷ more) log = dite (ℕ_discrete a event.author)
+      (λ e. subst (λ l. GoesOn l (by a log)) (sym (by_mine a event (more ++ log) e)) (goes_on_one (by a (more ++ log)) (by a log) event (by_goes_on a more log)))
+      (λ ne. subst (λ l. GoesOn l (by a log)) (sym (by_other a event (more ++ log) ne)) (by_goes_on a more log))
 
-  pub closed_after : (w : Option ℕ) (seats : List X) (log : List (Event X)) → stage_of log < 1 → seats_after seats (log ++ Closed w ∷ []) ≡ seats_after seats log
-  closed_after w seats [] s = refl
-  closed_after w seats (Called u m c d ∷ log) s = closed_after w (slice_set seats m d) log s
-  closed_after w seats (Closed u ∷ log) s = refl
-  closed_after w seats (Emptied u ∷ log) s = refl
+  module _ (ends : Ends S) (opened : List S) where
+    pub is_log_before : (more log : List (Event S)) → IsLog ends opened (more ++ log) → IsLog ends opened log
+    is_log_before [] log is = is
+    is_log_before (event ∷ more) log is = is_log_before more log is.1
 
-  pub emptied_stage : (w : Option ℕ) (log : List (Event X)) → stage_of log < 2 → stage_of (log ++ Emptied w ∷ []) ≡ 2
-  emptied_stage w [] s = refl
-  emptied_stage w (Called u m c d ∷ log) s = emptied_stage w log s
-  emptied_stage w (Closed u ∷ []) s = refl
-  emptied_stage w (Closed u ∷ event ∷ log) s = absurd (omega (arith, s))
-  emptied_stage w (Emptied u ∷ log) s = refl
+    -- what another author does leaves what this one has out
+    out_on : (log : List (Event S)) (b : ℕ) (deed : Deed S) (a n : ℕ) (x : S) → a ≢ b → MayFollow ends opened log b deed → cell_of opened log n ≡ out a x
+        → cell_on b deed n (cell_of opened log n) ≡ out a x
+    out_on log b (Began m) a n x ne may is = dite (ℕ_discrete m n)
+        (λ e. home_not_out _ may.0 a x (sym may.1 ∙ ap (cell_of opened log) e ∙ is))
+        (λ no. where_other m n _ (cell_of opened log n) no ∙ is)
+    out_on log b (Ended m y z) a n x ne may is = dite (ℕ_discrete m n)
+        (λ e. absurd (ne (sym (out_author b a y x (sym may.0 ∙ ap (cell_of opened log) e ∙ is)))))
+        (λ no. where_other m n (home z) (cell_of opened log n) no ∙ is)
+    out_on log b Closed a n x ne may is = is
+    out_on log b Emptied a n x ne may is = is
 
-  pub emptied_after : (w : Option ℕ) (seats : List X) (log : List (Event X)) → stage_of log < 2 → seats_after seats (log ++ Emptied w ∷ []) ≡ seats_after seats log
-  emptied_after w seats [] s = refl
-  emptied_after w seats (Called u m c d ∷ log) s = emptied_after w (slice_set seats m d) log s
-  emptied_after w seats (Closed u ∷ log) s = refl
-  emptied_after w seats (Emptied u ∷ log) s = refl
+    open_on : (log : List (Event S)) (b : ℕ) (deed : Deed S) (a n : ℕ) (x : S) → a ≢ b → n < length opened → MayFollow ends opened log b deed → cell_of opened log n ≡ out a x
+        → stage_of log ≡ 0 → stage_on deed (stage_of log) ≡ 0
+    open_on log b (Began m) a n x ne below may is zero' = zero'
+    open_on log b (Ended m y z) a n x ne below may is zero' = zero'
+    open_on log b Closed a n x ne below may is zero' = let it = may.1 n below in absurd (ne (sym (out_author b a it.0 x (sym it.1 ∙ is))))
+    open_on log b Emptied a n x ne below may is zero' = let one = may.0 in absurd (omega (arith, one, zero'))
 
--- what began so still did
-pub began_self : {X : Type 0} (log : List (Event X)) → BeganAs log log
-began_self log = ([], sym (append-nil log))
+    closed_on : (log : List (Event S)) (b : ℕ) (deed : Deed S) → MayFollow ends opened log b deed → 0 < stage_of log → 0 < stage_on deed (stage_of log)
+    closed_on log b (Began m) may some = some
+    closed_on log b (Ended m y z) may some = some
+    closed_on log b Closed may some = omega arith
+    closed_on log b Emptied may some = omega arith
 
-pub began_more : {X : Type 0} (log start more : List (Event X)) → BeganAs log start → BeganAs (log ++ more) start
-began_more log start more began = (began.0 ++ more, ap (λ l. l ++ more) began.1 ∙ assoc start began.0 more)
+  module _ (ends : Ends S) where
+    pub stays_out : StaysOut ends
+    stays_out opened log [] a n x legal same is below = record { out_still = is; open_still = λ e. e }
+    stays_out opened log (event ∷ more) a n x legal same is below =
+        let none = none_by a event more log same in
+        let before = stays_out opened log more a n x legal.1 none.1 is below in record {
+          out_still = out_on ends opened (more ++ log) event.author event.deed a n x none.0 legal.0 before.out_still;
+          open_still = λ e. open_on ends opened (more ++ log) event.author event.deed a n x none.0 below legal.0 before.out_still (before.open_still e);
+        }
 
-pub all_more : {X : Type 0} (opened : List X) (log more : List (Event X)) (logs : List (Known X)) → ExtendsAll opened log logs → ExtendsAll opened (log ++ more) logs
-all_more opened log more [] t = tt
-all_more opened log more (it ∷ logs) t = ((t.0.0, began_more log it.log more t.0.1), all_more opened log more logs t.1)
+    pub stays_closed : (opened : List S) (log more : List (Event S)) → IsLog ends opened (more ++ log) → 0 < stage_of log → 0 < stage_of (more ++ log)
+    stays_closed opened log [] legal some = some
+    stays_closed opened log (event ∷ more) legal some = closed_on ends opened (more ++ log) event.author event.deed legal.0 (stays_closed opened log more legal.1 some)
 
-pub all_both : {X : Type 0} (opened : List X) (log : List (Event X)) (some others : List (Known X)) → ExtendsAll opened log some → ExtendsAll opened log others → ExtendsAll opened log (some ++ others)
-all_both opened log [] others t u = u
-all_both opened log (it ∷ some) others t u = (t.0, all_both opened log some others t.1 u)
+    one_on : (opened : List S) (log : List (Event S)) (b : ℕ) (deed : Deed S) (a n : ℕ) (x : S) → a ≢ b → n + 1 ≡ length opened → MayFollow ends opened log b deed
+        → cell_of opened log n ≡ out a x → stage_of log ≡ 1 → stage_on deed (stage_of log) ≡ 1
+    one_on opened log b (Began m) a n x ne last may is one' = one'
+    one_on opened log b (Ended m y z) a n x ne last may is one' = one'
+    one_on opened log b Closed a n x ne last may is one' = refl
+    one_on opened log b Emptied a n x ne last may is one' = let it = may.1 n last in absurd (ne (sym (out_author b a it.0 x (sym it.1 ∙ is))))
 
-pub second_of_both : {X : Type 0} (opened : List X) (log : List (Event X)) (some others : List (Known X)) → ExtendsAll opened log (some ++ others) → ExtendsAll opened log others
-second_of_both opened log [] others t = t
-second_of_both opened log (it ∷ some) others t = second_of_both opened log some others t.1
-
-pub first_of_both : {X : Type 0} (opened : List X) (log : List (Event X)) (some others : List (Known X)) → ExtendsAll opened log (some ++ others) → ExtendsAll opened log some
-first_of_both opened log [] others t = tt
-first_of_both opened log (it ∷ some) others t = (t.0, first_of_both opened log some others t.1)
-
--- what an author wrote in a log that others wrote on
-module _ {X : Type 0} where
-  chosen_both : (b : Bool) (event : Event X) (xs xs' ys : List (Event X)) → xs' ≡ xs ++ ys → (if b then event ∷ xs' else xs') ≡ (if b then event ∷ xs else xs) ++ ys
-  chosen_both true event xs xs' ys e = ap (λ l. event ∷ l) e
-  chosen_both false event xs xs' ys e = e
-
-  pub by_both : (author : ℕ) (xs ys : List (Event X)) → by author (xs ++ ys) ≡ by author xs ++ by author ys
-  by_both author [] ys = refl
-  by_both author (event ∷ xs) ys = chosen_both (is_by author (author_of event)) event (by author xs) (by author (xs ++ ys)) (by author ys) (by_both author xs ys)
-
-  pub not_by : (author : ℕ) (event : Event X) → is_by author (author_of event) ≡ false → by author (event ∷ []) ≡ []
-  not_by author event is = ap (λ (b : Bool). if b then event ∷ [] else []) is
-
-  pub by_others : (author : ℕ) (log : List (Event X)) (event : Event X) → is_by author (author_of event) ≡ false → by author (log ++ event ∷ []) ≡ by author log
-  by_others author log event is = by_both author log (event ∷ []) ∙ ap (λ l. by author log ++ l) (not_by author event is) ∙ append-nil (by author log)
-
-  pub signed_more : (log : List (Event X)) (event : Event X) → AreSigned log → IsSigned (author_of event) → AreSigned (log ++ event ∷ [])
-  signed_more [] event all is = (is, tt)
-  signed_more (e ∷ log) event all is = (all.0, signed_more log event all.1 is)
+    pub stays_one : (opened : List S) (log more : List (Event S)) (a n : ℕ) (x : S) → IsLog ends opened (more ++ log) → by a (more ++ log) ≡ by a log
+        → cell_of opened log n ≡ out a x → n + 1 ≡ length opened → stage_of log ≡ 1 → stage_of (more ++ log) ≡ 1
+    stays_one opened log [] a n x legal same is last one' = one'
+    stays_one opened log (event ∷ more) a n x legal same is last one' =
+        let none = none_by a event more log same in
+        let before = stays_out opened log more a n x legal.1 none.1 is (omega (arith, last)) in
+        one_on opened (more ++ log) event.author event.deed a n x none.0 last legal.0 before.out_still (stays_one opened log more a n x legal.1 none.1 is last one')

@@ -1,4 +1,3 @@
-pub mod Hands
 pub mod Laws
 pub mod Logs
 pub mod Rule

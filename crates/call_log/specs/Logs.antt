@@ -1,76 +1,90 @@
--- The log of a handle: what was done with the seats of its tree, in order.
-use Rattle.std.specs.Prelude.{◌≡◌, ◌≤◌, ◌⊎◌, ◌++◌, ◌∷◌, [], Bool, ℕ, List, None, Option, Some, eqb, false, if◌then◌else◌, ⊤, length, slice_get, slice_set, suc}
+-- The log of a handle: what was done with its slots. The last event stands first.
+use Rattle.std.specs.Prelude.{◌≡◌, ◌+◌, ◌<◌, ◌≤◌, ◌++◌, ◌∷◌, [], ℕ, List, None, Option, Some, eqb, if◌then◌else◌, length, slice_get, ⊤}
 use Rattle.call_log.specs.declared.log.Authors.{Authors}
 use Rattle.call_log.specs.declared.log.Authors.TheVariants.{AllFrom, Nobody, One}
+use Rattle.call_log.specs.declared.log.Deed.{Deed}
+use Rattle.call_log.specs.declared.log.Deed.TheVariants.{Began, Closed, Emptied, Ended}
 use Rattle.call_log.specs.declared.log.Event.{Event}
-use Rattle.call_log.specs.declared.log.Event.TheVariants.{Called, Closed, Emptied}
 
-module _ {X : Type 0} where
-  -- the seats, once all of this was done
-  abbrev pub seats_after : List X → List (Event X) → List X
-  seats_after seats [] = seats
-  seats_after seats (Called author number before after ∷ events) = seats_after (slice_set seats number after) events
-  seats_after seats (Closed author ∷ events) = seats
-  seats_after seats (Emptied author ∷ events) = seats
+-- What is known of a slot: there is none; this is in it; or this author has it out, and took this.
+pub data Cell (S : Type 0) : Type 0 where
+  no_slot : Cell S
+  home : S → Cell S
+  out : ℕ → S → Cell S
+
+-- What may be put back: in a table that was opened with these, after this log, into the slot of this number, by whoever took the first one, the second one.
+abbrev pub Ends : Type 0 → Type 1
+Ends S = List S → List (Event S) → ℕ → S → S → Type 0
+
+module _ {S : Type 0} where
+  abbrev pub first_cell : Option S → Cell S
+  first_cell None = no_slot
+  first_cell (Some x) = home x
+
+  abbrev pub lent : ℕ → Cell S → Cell S
+  lent author no_slot = no_slot
+  lent author (home x) = out author x
+  lent author (out other x) = out other x
+
+  -- the slot of a number after one event
+  abbrev pub cell_on : ℕ → Deed S → ℕ → Cell S → Cell S
+  cell_on author (Began m) n cell = if eqb m n then lent author cell else cell
+  cell_on author (Ended m x y) n cell = if eqb m n then home y else cell
+  cell_on author Closed n cell = cell
+  cell_on author Emptied n cell = cell
+
+  -- and after all of them
+  abbrev pub cell_of : List S → List (Event S) → ℕ → Cell S
+  cell_of opened [] n = first_cell (slice_get opened n)
+  cell_of opened (event ∷ log) n = cell_on event.author event.deed n (cell_of opened log n)
+
+  abbrev pub stage_on : Deed S → ℕ → ℕ
+  stage_on (Began n) stage = stage
+  stage_on (Ended n x y) stage = stage
+  stage_on Closed stage = 1
+  stage_on Emptied stage = 2
 
   -- 0 while the tree is open, 1 once it is closed and what it left waits, and 2 once nothing waits
-  abbrev pub stage_of : List (Event X) → ℕ
+  abbrev pub stage_of : List (Event S) → ℕ
   stage_of [] = 0
-  stage_of (Called author number before after ∷ events) = stage_of events
-  stage_of (Closed author ∷ events) = suc (length events)
-  stage_of (Emptied author ∷ events) = 2
+  stage_of (event ∷ log) = stage_on event.deed (stage_of log)
 
-  -- Each call found its seat as the call before it had left it, and left it as one that goes on. Once a tree is closed, what it left is taken, and no more.
-  abbrev pub IsLog : (X → X → Type 0) → List X → List (Event X) → Type 0
-  IsLog goes_on seats [] = ⊤
-  IsLog goes_on seats (Called author number before after ∷ events) = (slice_get seats number ≡ Some before) × goes_on before after × IsLog goes_on (slice_set seats number after) events
-  IsLog goes_on seats (Closed author ∷ events) = (events ≡ []) ⊎ ((other : Option ℕ) × (events ≡ Emptied other ∷ []))
-  IsLog goes_on seats (Emptied author ∷ events) = events ≡ []
+  -- All slots are out with this author.
+  abbrev pub HasAll : List S → List (Event S) → ℕ → Type 0
+  HasAll opened log author = (n : ℕ) → n < length opened → (x : S) × (cell_of opened log n ≡ out author x)
 
-  -- The second log is how the first one began.
-  abbrev pub BeganAs : List (Event X) → List (Event X) → Type 0
-  BeganAs log start = (rest : List (Event X)) × (log ≡ start ++ rest)
+  -- The deed may follow the log, by this author.
+  abbrev pub MayFollow : Ends S → List S → List (Event S) → ℕ → Deed S → Type 0
+  MayFollow ends opened log author (Began n) = (x : S) × (cell_of opened log n ≡ home x)
+  MayFollow ends opened log author (Ended n x y) = (cell_of opened log n ≡ out author x) × ends opened log n x y × (stage_of log < 2)
+  MayFollow ends opened log author Closed = (stage_of log ≡ 0) × HasAll opened log author
+  MayFollow ends opened log author Emptied = (stage_of log ≡ 1) × ((n : ℕ) → n + 1 ≡ length opened → (x : S) × (cell_of opened log n ≡ out author x))
 
-  -- who wrote it, if it was an author
-  abbrev pub author_of : Event X → Option ℕ
-  author_of (Called author number before after) = author
-  author_of (Closed author) = author
-  author_of (Emptied author) = author
+  -- Each event could follow those before it.
+  abbrev pub IsLog : Ends S → List S → List (Event S) → Type 0
+  IsLog ends opened [] = ⊤
+  IsLog ends opened (event ∷ log) = MayFollow ends opened log event.author event.deed × IsLog ends opened log
 
--- An author wrote it.
-abbrev pub IsSigned : Option ℕ → Type 0
-IsSigned None = ⊥
-IsSigned (Some author) = ⊤
+  -- The first log goes on from the second one.
+  abbrev pub GoesOn : List (Event S) → List (Event S) → Type 0
+  GoesOn log before = (more : List (Event S)) × (log ≡ more ++ before)
 
--- Authors wrote all of it.
-abbrev pub AreSigned : {X : Type 0} → List (Event X) → Type 0
-AreSigned [] = ⊤
-AreSigned (event ∷ events) = IsSigned (author_of event) × AreSigned events
-
-abbrev pub is_by : ℕ → Option ℕ → Bool
-is_by author None = false
-is_by author (Some other) = eqb author other
-
--- the events that this author wrote, in order
-abbrev pub by : {X : Type 0} → ℕ → List (Event X) → List (Event X)
-by author [] = []
-by author (event ∷ events) = if is_by author (author_of event) then event ∷ by author events else by author events
+  -- the events that this author wrote
+  abbrev pub by : ℕ → List (Event S) → List (Event S)
+  by author [] = []
+  by author (event ∷ log) = if eqb author event.author then event ∷ by author log else by author log
 
 abbrev pub HasAuthor : Authors → ℕ → Type 0
 HasAuthor Nobody author = ⊥
 HasAuthor (One number) author = author ≡ number
 HasAuthor (AllFrom number) author = number ≤ author
 
--- the author as whom whoever has these writes
-abbrev pub first_author : Authors → Option ℕ
-first_author Nobody = None
-first_author (One number) = Some number
-first_author (AllFrom number) = Some number
-
--- Whoever has these authors may write.
-abbrev pub MayWrite : Authors → Type 0
-MayWrite authors = IsSigned (first_author authors)
+-- The author as whom whoever has these writes is this one.
+abbrev pub WritesAs : Authors → ℕ → Type 0
+WritesAs Nobody author = ⊥
+WritesAs (One number) author = author ≡ number
+WritesAs (AllFrom number) author = author ≡ number
 
 -- These authors have written nothing more in the second log.
-abbrev pub WroteNoMore : {X : Type 0} → Authors → List (Event X) → List (Event X) → Type 0
+abbrev pub WroteNoMore : {S : Type 0} → Authors → List (Event S) → List (Event S) → Type 0
 WroteNoMore authors log later = (author : ℕ) → HasAuthor authors author → by author later ≡ by author log

@@ -1,54 +1,47 @@
--- What a table of no words but one has to do with a log, and what its seats know of that.
-use Rattle.std.specs.Prelude.{◌≡◌, ◌+◌, ◌∷◌, [], ℕ, List, Some, slice_get, ⊤}
-use mathlib.Core.Option.{some}
+-- What a table has to do with a log, and what its seats know of that.
+use Rattle.std.specs.Prelude.{◌≡◌, ◌+◌, ◌-◌, ◌<◌, ◌⊎◌, [], ℕ, List, length}
+use mathlib.Core.Option.{Option, none, some}
 use lib.ListN.{get_elem?}
 use Rattle.atomic_table.specs.Table.{State}
 use Rattle.call_log.specs.declared.log.Authors.{Authors}
 use Rattle.call_log.specs.declared.log.Authors.TheVariants.{AllFrom}
 use Rattle.call_log.specs.declared.log.Event.{Event}
-use Rattle.call_log.specs.declared.log.Known.{Known}
 use Rattle.call_log.specs.declared.log.Knows.{Knows}
-use Rattle.call_log.specs.Logs.{BeganAs, HasAuthor, IsLog, AreSigned, by, seats_after, stage_of}
+use Rattle.call_log.specs.Logs.{Cell, Ends, GoesOn, HasAuthor, IsLog, by, cell_of, home, no_slot, out, stage_of}
 
-module _ {X : Type 0} where
-  abbrev pub known : List X → List (Event X) → Known X
-  known opened log = record { opened = opened; log = log }
+module _ {S : Type 0} where
+  abbrev pub knows : Authors → List S → List (Event S) → Knows S
+  knows authors opened log = record { authors = authors; opened = opened; log = log }
 
-  -- a receipt: it has these authors, has seen this log, and has no seat
-  abbrev pub receipt : Authors → List (Known X) → Knows X
-  receipt authors logs = record { first = 0; here = []; stage = 0; authors = authors; logs = logs }
+  -- the view with which a table opens: it has all authors
+  abbrev pub all_of : List S → Knows S
+  all_of opened = knows (AllFrom 0) opened []
 
-  -- the view with which a table opens: it has all seats, and all authors
-  abbrev pub all_of : List X → Knows X
-  all_of opened = record { first = 0; here = opened; stage = 0; authors = AllFrom 0; logs = known opened [] ∷ [] }
+  -- How the word of a slot and what is at home in it stand for what is known of it: 0 where something is in it; 1 where it is out; 2 where it is out for good,
+  -- the last slot once nothing waits.
+  abbrev pub Stands : ℕ → ℕ → Cell S → ℕ → Option S → Type 0
+  Stands more stage no_slot word there = ⊥
+  Stands more stage (home x) word there = (word ≡ 0) × (there ≡ some x) × (more ≡ 0 → stage < 2)
+  Stands more stage (out author x) word there = ((word ≡ 1) × (there ≡ none) × (more ≡ 0 → stage < 2)) ⊎ ((word ≡ 2) × (0 < stage) × (more ≡ 0 → stage ≡ 2))
 
-  -- The seat of this number is this one, and it is that view's.
-  abbrev pub Owns : List X → List (Event X) → (ℕ → ℕ) → ℕ → ℕ → ℕ → X → Type 0
-  Owns opened log owner i stage number seat = (owner number ≡ i) × (slice_get (seats_after opened log) number ≡ Some seat) × (stage_of log ≡ stage)
+  -- The slot of this number stands so.
+  pub record HasSlot (opened : List S) (log : List (Event S)) (s : State S (Knows S)) (n : ℕ) : Type 0 where
+    pub word : ℕ
+    pub there : Option S
+    pub word_at : get_elem? s.words n ≡ some word
+    pub there_at : get_elem? s.homes n ≡ some there
+    pub stands : Stands (length opened - (n + 1)) (stage_of log) (cell_of opened log n) word there
 
-  -- The logs are of those seats, and this one began as each of them is.
-  abbrev pub ExtendsAll : List X → List (Event X) → List (Known X) → Type 0
-  ExtendsAll opened log [] = ⊤
-  ExtendsAll opened log (it ∷ logs) = ((it.opened ≡ opened) × BeganAs log it.log) × ExtendsAll opened log logs
+  -- What a view knows is so: it has seen how the log began, and all that its authors wrote, whom nobody else has.
+  pub record IsTrueView (opened : List S) (log : List (Event S)) (writer : ℕ → ℕ) (i : ℕ) (view : Knows S) : Type 0 where
+    pub opened_is : view.opened ≡ opened
+    pub seen : GoesOn log view.log
+    pub alone : (author : ℕ) → HasAuthor view.authors author → (writer author ≡ i) × (by author log ≡ by author view.log)
 
-  -- The first log that was seen has all that this author wrote.
-  abbrev pub HasAllBy : ℕ → List (Event X) → List (Known X) → Type 0
-  HasAllBy author log [] = ⊥
-  HasAllBy author log (it ∷ logs) = by author log ≡ by author it.log
-
-  -- What a view knows is so: the seats that it has are as it knows, and nobody else has them; nobody else has its
-  -- authors, and it has seen all that they wrote; and the log began as it has seen.
-  pub record IsTrueView (opened : List X) (log : List (Event X)) (owner writer : ℕ → ℕ) (i : ℕ) (view : Knows X) : Type 0 where
-    pub own : (n : ℕ) (seat : X) → slice_get view.here n ≡ Some seat → Owns opened log owner i view.stage (view.first + n) seat
-    pub alone : (author : ℕ) → HasAuthor view.authors author → (writer author ≡ i) × HasAllBy author log view.logs
-    pub seen : ExtendsAll opened log view.logs
-
-  -- The rule: there is a log, whose stage the word is, and which authors wrote alone; and each view knows what is so.
-  pub record Holds (goes_on : X → X → Type 0) (opened : List X) (s : State (Unit {0}) (Knows X)) : Type 0 where
-    pub log : List (Event X)
-    pub owner : ℕ → ℕ
+  -- The rule: there is a log, as the slots stand, and each view knows what is so.
+  pub record Holds (ends : Ends S) (opened : List S) (s : State S (Knows S)) : Type 0 where
+    pub log : List (Event S)
     pub writer : ℕ → ℕ
-    pub legal : IsLog goes_on opened log
-    pub signed : AreSigned log
-    pub word : s.words ≡ stage_of log ∷ []
-    pub each : (i : ℕ) (view : Knows X) → get_elem? s.views i ≡ some view → IsTrueView opened log owner writer i view
+    pub legal : IsLog ends opened log
+    pub slots : (n : ℕ) → n < length opened → HasSlot opened log s n
+    pub each : (i : ℕ) (view : Knows S) → get_elem? s.views i ≡ some view → IsTrueView opened log writer i view

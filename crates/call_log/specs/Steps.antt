@@ -1,26 +1,18 @@
 -- What one step on a log's table does to its seat.
-use Rattle.std.specs.Prelude.{◌≡◌, ◌+◌, ◌<◌, ◌++◌, ◌∷◌, [], ℕ, List, None, Option, Some, length, ⊤}
-use Rattle.atomic_table.specs.Table.{Me}
+use Rattle.std.specs.Prelude.{◌≡◌, ◌≢◌, ◌+◌, ◌<◌, ◌⊎◌, ◌∷◌, [], ℕ, List, length}
+use Rattle.atomic_table.specs.Table.{Me, rest}
 use Rattle.call_log.specs.declared.log.Authors.{Authors}
 use Rattle.call_log.specs.declared.log.Authors.TheVariants.{AllFrom, Nobody, One}
+use Rattle.call_log.specs.declared.log.Deed.{Deed}
+use Rattle.call_log.specs.declared.log.Deed.TheVariants.{Began, Closed, Emptied, Ended}
 use Rattle.call_log.specs.declared.log.Event.{Event}
-use Rattle.call_log.specs.declared.log.Event.TheVariants.{Called, Closed, Emptied}
-use Rattle.call_log.specs.declared.log.Known.{Known}
 use Rattle.call_log.specs.declared.log.Knows.{Knows}
-use Rattle.call_log.specs.Logs.{HasAuthor, IsLog, MayWrite, first_author, seats_after, stage_of}
-use Rattle.call_log.specs.Rule.{ExtendsAll, HasAllBy, all_of, known, receipt}
+use Rattle.call_log.specs.Logs.{Ends, GoesOn, HasAll, HasAuthor, IsLog, WritesAs, by, cell_of, home, out, stage_of}
+use Rattle.call_log.specs.Rule.{all_of, knows}
 
-abbrev pub head_of : {A : Type 0} → List A → List A
-head_of [] = []
-head_of (x ∷ xs) = x ∷ []
-
-abbrev pub tail_of : {A : Type 0} → List A → List A
-tail_of [] = []
-tail_of (x ∷ xs) = xs
-
--- what a seat of the table knows, and the slots that it holds, of which the table has none
+-- what a seat of the table knows, and the slots that it has out
 abbrev pub Mine : Type 0 → Type 0
-Mine X = Me (Unit {0}) (Knows X)
+Mine S = Me S (Knows S)
 
 -- the authors without the first one, and that one alone
 abbrev pub rest_of : Authors → Authors
@@ -33,111 +25,118 @@ one_of Nobody = Nobody
 one_of (One number) = One number
 one_of (AllFrom number) = One number
 
-module _ {X : Type 0} where
-  -- All that these authors wrote is in the first log that was seen.
-  abbrev pub HaveSeenOwn : Authors → List (Event X) → List (Known X) → Type 0
-  HaveSeenOwn authors log logs = (author : ℕ) → HasAuthor authors author → HasAllBy author log logs
+module _ {S : Type 0} where
+  abbrev pub event : ℕ → Deed S → Event S
+  event author deed = record { author = author; deed = deed }
 
-  -- A call is in the log, by the view's first author: it found the seat as this view had it, and left this one.
-  pub record HasLogged (goes_on : X → X → Type 0) (after : X) (old new : Mine X) : Type 0 where
-    pub opened : List X
-    pub log : List (Event X)
-    pub before : X
-    pub found : old.0.here ≡ before ∷ []
-    pub legal : IsLog goes_on opened (log ++ Called (first_author old.0.authors) old.0.first before after ∷ [])
-    pub alone : HaveSeenOwn old.0.authors log old.0.logs
-    pub seen : ExtendsAll opened log old.0.logs
-    pub now : new ≡ (
-      record {
-        first = old.0.first;
-        here = after ∷ [];
-        stage = 0;
-        authors = old.0.authors;
-        logs = known opened (log ++ Called (first_author old.0.authors) old.0.first before after ∷ []) ∷ [];
-      },
-      old.1,
-    )
+  -- The log was so at this step: it goes on from what the view had seen, and has no more by the view's authors.
+  pub record WasLog (ends : Ends S) (old : Knows S) (log : List (Event S)) : Type 0 where
+    pub legal : IsLog ends old.opened log
+    pub seen : GoesOn log old.log
+    pub alone : (author : ℕ) → HasAuthor old.authors author → by author log ≡ by author old.log
 
-  abbrev pub Calls : (X → X → Type 0) → Option X → Mine X → Mine X → Type 0
-  Calls goes_on None old new = ⊤
-  Calls goes_on (Some after) old new = HasLogged goes_on after old new
+  -- The view has seen the log as it was.
+  pub record HasSeen (ends : Ends S) (carried : List (ℕ × S)) (old : Knows S) (new : Mine S) : Type 0 where
+    pub log : List (Event S)
+    pub was : WasLog ends old log
+    pub now : new ≡ (knows old.authors old.opened log, carried)
 
-  -- All seats were in this view, and the log has the event.
-  pub record HasEnded (goes_on : X → X → Type 0) (event : Event X) (stage : ℕ) (rest : List X) (old new : Mine X) : Type 0 where
-    pub opened : List X
-    pub log : List (Event X)
-    pub all : seats_after opened (log ++ event ∷ []) ≡ old.0.here
-    pub legal : IsLog goes_on opened (log ++ event ∷ [])
-    pub stages : stage_of (log ++ event ∷ []) ≡ stage
-    pub alone : HaveSeenOwn old.0.authors log old.0.logs
-    pub seen : ExtendsAll opened log old.0.logs
-    pub now : new ≡ (record { first = 0; here = rest; stage = stage; authors = old.0.authors; logs = known opened (log ++ event ∷ []) ∷ [] }, old.1)
+  -- The view's first author did this, behind what the log was.
+  pub record HasDone (ends : Ends S) (deed : Deed S) (carried : List (ℕ × S)) (old : Knows S) (new : Mine S) : Type 0 where
+    pub log : List (Event S)
+    pub author : ℕ
+    pub writes : WritesAs old.authors author
+    pub was : WasLog ends old log
+    pub legal : IsLog ends old.opened (event author deed ∷ log)
+    pub now : new ≡ (knows old.authors old.opened (event author deed ∷ log), carried)
 
-  -- The tree is closed, and what it left waits; the view still has all seats.
-  abbrev pub HasLoggedClosing : (X → X → Type 0) → Mine X → Mine X → Type 0
-  HasLoggedClosing goes_on old new = HasEnded goes_on (Closed (first_author old.0.authors)) 1 old.0.here old new
+  -- The slot was taken out: this was in it.
+  abbrev pub HasBegun : Ends S → ℕ → Mine S → Mine S → Type 0
+  HasBegun ends n old new = (x : S) × (begun : HasDone ends (Began n) ((n, x) ∷ old.1) old.0 new) × (cell_of old.0.opened begun.log n ≡ home x)
 
-  -- Nothing waits any more, and nobody has a seat.
-  abbrev pub HasLoggedEmptying : (X → X → Type 0) → Mine X → Mine X → Type 0
-  HasLoggedEmptying goes_on old new = HasEnded goes_on (Emptied (first_author old.0.authors)) 2 [] old new
+  -- The slot wasn't there: an author had it out, and for good if the word was 2: then the tree was closed, and if it was the last slot, nothing waited; if the word
+  -- was 1 and it was the last slot, something waited, or the tree was open.
+  pub record HasMissed (ends : Ends S) (n found : ℕ) (old new : Mine S) : Type 0 where
+    pub looked : HasSeen ends old.1 old.0 new
+    pub author : ℕ
+    pub x : S
+    pub away : cell_of old.0.opened looked.log n ≡ out author x
+    pub why : ((found ≡ 1) × (n + 1 ≡ length old.0.opened → stage_of looked.log < 2)) ⊎ ((found ≡ 2) × (0 < stage_of looked.log) × (n + 1 ≡ length old.0.opened → stage_of looked.log ≡ 2))
 
-  -- A new receipt has seen the log, whose stage the word was.
-  pub record HasLooked (goes_on : X → X → Type 0) (opened : List X) (found : ℕ) (new : Mine X) : Type 0 where
-    pub log : List (Event X)
-    pub legal : IsLog goes_on opened log
-    pub stage : found ≡ stage_of log
-    pub now : new ≡ (receipt Nobody (known opened log ∷ []), [])
+  -- A try to take out a slot, whose word was this.
+  pub record HasTried (ends : Ends S) (n found : ℕ) (old new : Mine S) : Type 0 where
+    pub hit : found ≡ 0 → HasBegun ends n old new
+    pub miss : found ≢ 0 → HasMissed ends n found old new
 
-  -- The view has seen the log as it is, whose stage the word was; and the log is as far as a view with a seat knows.
-  pub record HasRecalled (goes_on : X → X → Type 0) (old : Mine X) (found : ℕ) (new : Mine X) : Type 0 where
-    pub opened : List X
-    pub log : List (Event X)
-    pub legal : IsLog goes_on opened log
-    pub stage : found ≡ stage_of log
-    pub far : 0 < length old.0.here → stage_of log ≡ old.0.stage
-    pub alone : HaveSeenOwn old.0.authors log old.0.logs
-    pub seen : ExtendsAll opened log old.0.logs
-    pub now : new ≡ (record { first = old.0.first; here = old.0.here; stage = old.0.stage; authors = old.0.authors; logs = known opened log ∷ [] }, old.1)
+  -- a new receipt, which has seen the log
+  abbrev pub HasLooked : Ends S → List S → Mine S → Type 0
+  HasLooked ends opened new = (log : List (Event S)) × IsLog ends opened log × (new ≡ (knows Nobody opened log, []))
 
-  -- An operation can't say the table's seats, and takes those of its first view.
-  abbrev pub Looks : (X → X → Type 0) → Mine X → ℕ → Mine X → Type 0
-  Looks goes_on first found new = (opened : List X) → first.0 ≡ all_of opened → HasLooked goes_on opened found new
+  -- An operation can't say what the slots had, and takes that of the table's first view.
+  abbrev pub Looks : Ends S → Mine S → ℕ → Mine S → Type 0
+  Looks ends first found new = (opened : List S) → first.0 ≡ all_of opened → HasLooked ends opened new
 
-  -- the view without its first seat, and that seat alone
-  abbrev pub others : Knows X → Knows X
-  others view = record { first = view.first + 1; here = tail_of view.here; stage = view.stage; authors = view.authors; logs = view.logs }
+  -- the view without its first author, and with that one alone
+  abbrev pub others : Knows S → Knows S
+  others view = knows (rest_of view.authors) view.opened view.log
 
-  abbrev pub one : Knows X → Knows X
-  one view = record { first = view.first; here = head_of view.here; stage = view.stage; authors = Nobody; logs = view.logs }
+  abbrev pub one : Knows S → Knows S
+  one view = knows (one_of view.authors) view.opened view.log
 
-  -- the view without its authors
-  abbrev pub mute : Knows X → Knows X
-  mute view = record { first = view.first; here = view.here; stage = view.stage; authors = Nobody; logs = view.logs }
+  -- What the view's first author may still do, whatever others have done since the view saw the log.
+  abbrev pub Whatever : Ends S → Knows S → (List (Event S) → ℕ → Type 0) → Type 0
+  Whatever ends view may = (log : List (Event S)) (author : ℕ) → WritesAs view.authors author → WasLog ends view log → may log author
 
-  -- the view without its first author
-  abbrev pub parting : Knows X → Knows X
-  parting view = record { first = view.first; here = view.here; stage = view.stage; authors = rest_of view.authors; logs = view.logs }
+  -- the slot of this number is out with the view's first author, who took this
+  abbrev pub HasOut : Knows S → ℕ → S → Type 0
+  HasOut view n x = (author : ℕ) × WritesAs view.authors author × (cell_of view.opened view.log n ≡ out author x)
 
-  -- two views as one, with the authors of the first one
-  abbrev pub both : Knows X → Knows X → Knows X
-  both view other = record { first = view.first; here = view.here ++ other.here; stage = view.stage; authors = view.authors; logs = view.logs ++ other.logs }
+  -- The seat can put back the slot that it took last, with what it has there.
+  pub record CanEnd (ends : Ends S) (n : ℕ) (me : Mine S) : Type 0 where
+    pub x : S
+    pub y : S
+    pub out_there : HasOut me.0 n x
+    pub carried : me.1 ≡ (n, y) ∷ rest me.1
+    pub ends_so : Whatever ends me.0 (λ log author. ends me.0.opened log n x y × (stage_of log < 2))
 
-  -- the view, which has also seen what the other one has, and has the authors of that one
-  abbrev pub observing : Knows X → Knows X → Knows X
-  observing view other = record { first = view.first; here = view.here; stage = view.stage; authors = other.authors; logs = other.logs ++ view.logs }
+  -- The seat has all slots out.
+  pub record CanClose (me : Mine S) : Type 0 where
+    pub author : ℕ
+    pub writes : WritesAs me.0.authors author
+    pub some : 0 < length me.0.opened
+    pub opened : stage_of me.0.log ≡ 0
+    pub all : HasAll me.0.opened me.0.log author
 
-  -- The seats of the other view, if it has any, are those behind this one's.
-  abbrev pub Adjoins : Knows X → Knows X → Type 0
-  Adjoins view other = (other.first ≡ view.first + length view.here) × (other.stage ≡ view.stage)
+  -- The seat can leave the slot that it took last for good: the tree is closed, and it isn't the last slot.
+  pub record CanLeave (n : ℕ) (me : Mine S) : Type 0 where
+    pub x : S
+    pub y : S
+    pub out_there : HasOut me.0 n x
+    pub carried : me.1 ≡ (n, y) ∷ rest me.1
+    pub closed : 0 < stage_of me.0.log
+    pub more : n + 1 < length me.0.opened
 
-  -- The view has one seat of an open tree, which may go on to this one, and may write.
-  abbrev pub CanCall : (X → X → Type 0) → Knows X → X → Type 0
-  CanCall goes_on view after = (before : X) × (view.here ≡ before ∷ []) × (view.stage ≡ 0) × goes_on before after × MayWrite view.authors
+  -- The seat can leave the last slot for good: what waited is taken.
+  pub record CanEmpty (n : ℕ) (me : Mine S) : Type 0 where
+    pub x : S
+    pub y : S
+    pub out_there : HasOut me.0 n x
+    pub carried : me.1 ≡ (n, y) ∷ rest me.1
+    pub closed : stage_of me.0.log ≡ 1
+    pub last : n + 1 ≡ length me.0.opened
 
-  -- The view has all seats, and may write, and the log isn't as far.
-  pub record CanEnd (opened : List X) (stage : ℕ) (view : Knows X) : Type 0 where
-    pub first : view.first ≡ 0
-    pub some : 0 < length opened
-    pub all : length view.here ≡ length opened
-    pub may : MayWrite view.authors
-    pub before : view.stage < stage
+  -- the slots that a seat has out but for the one that it took last
+  abbrev pub HasEnded : Ends S → ℕ → S → S → Mine S → Mine S → Type 0
+  HasEnded ends n x y old new = HasDone ends (Ended n x y) (rest old.1) old.0 new
+
+  abbrev pub EndsSo : Ends S → ℕ → Mine S → Mine S → Type 0
+  EndsSo ends n old new = (x y : S) → HasOut old.0 n x → old.1 ≡ (n, y) ∷ rest old.1 → HasEnded ends n x y old new
+
+  abbrev pub HasClosed : Ends S → Mine S → Mine S → Type 0
+  HasClosed ends old new = HasDone ends Closed old.1 old.0 new
+
+  abbrev pub HasLeft : Ends S → Mine S → Mine S → Type 0
+  HasLeft ends old new = HasSeen ends (rest old.1) old.0 new
+
+  abbrev pub HasEmptied : Ends S → Mine S → Mine S → Type 0
+  HasEmptied ends old new = HasDone ends Emptied (rest old.1) old.0 new

@@ -1,26 +1,20 @@
 //! Laws of logs. Each function does nothing, and its contract is proved of all logs, and of all moments of a log's table.
-ghost use Rattle.call_log.specs.Laws.{AuthorsAreApart, AuthorsAreKnown, CallsComeLast, CallsFollow, EndsFollow, IsOrder, LogsAgree};
+ghost use Rattle.call_log.specs.Laws.{AuthorsAreApart, AuthorsAreKnown, LogsAgree, StaysOut};
 
 use crate::rule::Course;
 
-/// Each call on a seat goes on from the last one on it, and what a closing finds goes on from all of them.
-pub fn calls_follow<X, P: Course<X>>()
-    ensures calls { IsOrder P.goes_on → CallsFollow P.goes_on }
-    ensures ends { IsOrder P.goes_on → EndsFollow P.goes_on }
-{}
-
 /// All who have seen the log have seen one log: one a longer part of it than the other.
-pub fn logs_agree<X, P: Course<X>>()
-    ensures { LogsAgree P.goes_on }
-{}
-
-/// At each moment a call can be written behind all that anybody has seen by then. What a clause says of one call is that it comes behind what its hand has seen.
-pub fn calls_come_last<X, P: Course<X>>()
-    ensures { CallsComeLast P.goes_on }
+pub fn logs_agree<S, P: Course<S>>()
+    ensures { LogsAgree P.ends }
 {}
 
 /// Whoever has an author has it alone, and knows all that was written as it: in any log that anybody has seen there is a part of that, and no more.
-pub fn authors_are_known<X, P: Course<X>>()
-    ensures apart { AuthorsAreApart P.goes_on }
-    ensures known { AuthorsAreKnown P.goes_on }
+pub fn authors_are_known<S, P: Course<S>>()
+    ensures apart { AuthorsAreApart P.ends }
+    ensures known { AuthorsAreKnown P.ends }
+{}
+
+/// A slot that an author has out stays out, and as it was, until that author puts it back or closes the table.
+pub fn what_is_out_stays<S, P: Course<S>>()
+    ensures { StaysOut P.ends }
 {}

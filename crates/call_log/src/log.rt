@@ -4,7 +4,7 @@ use std::collections::LinkedList;
 
 /// Who may write as whom. An author is a number, which one view has alone.
 pub enum Authors {
-    /// No author: what is written is nobody's.
+    /// No author: who has none writes nothing.
     Nobody,
     /// One author.
     One(u64),
@@ -12,34 +12,30 @@ pub enum Authors {
     AllFrom(u64),
 }
 
-/// What was done, and by which author.
-pub enum Event<X> {
-    /// A call had the seat of this number to itself: it found the first one, and left the second one.
-    Called(Option<u64>, u64, X, X),
-    /// All seats were taken for good, and what the tree left waits.
-    Closed(Option<u64>),
+/// What was done with a slot, or with all of them.
+pub enum Deed<S> {
+    /// A call took out what was in the slot of this number.
+    Began(u64),
+    /// It put something back into it: it had taken out the first one, and left the second one.
+    Ended(u64, S, S),
+    /// All slots are out for good.
+    Closed,
     /// Nothing waits any more.
-    Emptied(Option<u64>),
+    Emptied,
 }
 
-/// A log of seats that were these when the tree was opened.
-pub struct Known<X> {
-    /// The seats.
-    pub opened: LinkedList<X>,
-    /// What was done since then, in order.
-    pub log: LinkedList<Event<X>>,
+/// What was done, and by which author.
+pub struct Event<S> {
+    pub author: u64,
+    pub deed: Deed<S>,
 }
 
-/// A view: the seats and the authors that it has, which nobody else has, and the logs that it has seen.
-pub struct Knows<X> {
-    /// The number of the first seat that it has.
-    pub first: u64,
-    /// The seats that it has, as they are.
-    pub here: LinkedList<X>,
-    /// How far the log is, if it has a seat.
-    pub stage: u64,
+/// A view: the authors that it has, which nobody else has, what was in the slots when the table opened, and what it has seen that was done, the last first.
+pub struct Knows<S> {
     /// As whom it may write.
     pub authors: Authors,
-    /// The logs that it has seen.
-    pub logs: LinkedList<Known<X>>,
+    /// What was in the slots.
+    pub opened: LinkedList<S>,
+    /// What was done since then, the last first.
+    pub log: LinkedList<Event<S>>,
 }

@@ -1,163 +1,124 @@
 //! The rule of a log's table.
 use crate::log::Knows;
-use atomic_table::{Join, Play, Seat, Shared, Split, Table, TableRule};
+use atomic_table::{Play, Seat, Shared, Split, Table, TableRule};
 use std::alloc::Global;
-use std::marker::{Brand, PhantomData};
+use std::marker::PhantomData;
+use std::snapshot::Snapshot;
 
-/// How seats go on.
-pub trait Course<X> {
-    ghost goes_on: { X → X → Type 0 };
+/// What may be put back into a slot.
+pub trait Course<S> {
+    ghost use Rattle.std.specs.Prelude.{ℕ, List};
+    ghost use Rattle.call_log.specs.declared.log.Event.{Event};
+
+    ghost ends: { List S → List (Event S) → ℕ → S → S → Type 0 };
 }
 
-/// The rule of a log of seats that go on so.
-pub struct Rule<X, P> {
-    of: PhantomData<(X, P)>,
+/// The rule of a log of slots in which so much may be put back.
+pub struct Rule<S, P> {
+    of: PhantomData<(S, P)>,
 }
 
-impl<X, P: Course<X>> TableRule<(), Knows<X>, Vec<X>> for Rule<X, P> {
+impl<S, P: Course<S>> TableRule<S, Knows<S>, Snapshot<Vec<S>>> for Rule<S, P> {
     ghost use Rattle.call_log.specs.Rule.{Holds, all_of};
 
-    ghost holds = { λ seats. Holds P.goes_on seats.items };
+    ghost holds = { λ slots. Holds P.ends slots.value.items };
 
-    ghost first = { λ seats. all_of seats.items };
+    ghost first = { λ slots. all_of slots.value.items };
 }
 
 /// A log's table, with its memory.
-pub type LogTable<X, P> = Table<(), Knows<X>, Vec<X>, Rule<X, P>, Global>;
+pub type LogTable<S, P> = Table<S, Knows<S>, Snapshot<Vec<S>>, Rule<S, P>, Global>;
 
 /// A log's table, as threads share it.
-pub type Log<X, P> = Shared<(), Knows<X>, Vec<X>, Rule<X, P>>;
+pub type Log<S, P> = Shared<S, Knows<S>, Snapshot<Vec<S>>, Rule<S, P>>;
 
 /// A seat of such a table. It takes no memory.
-pub type Hand<X> = Seat<(), Knows<X>>;
+pub type Hand<S> = Seat<S, Knows<S>>;
 
-/// What a step is told for its contract alone: the seat that a call left. The caller picks it.
-pub(crate) trait Telling<X> {
-    ghost use Rattle.std.specs.Prelude.{Option};
-
-    ghost after: { Option X };
+/// A slot may be taken out.
+pub(crate) struct Beginning<S, P> {
+    of: PhantomData<(S, P)>,
 }
 
-impl<X> Telling<X> for Brand {
-    ghost use Rattle.std.specs.Prelude.{None};
+impl<S, P: Course<S>> Play<S, Knows<S>> for Beginning<S, P> {
+    ghost use Rattle.call_log.specs.Steps.{HasTried};
 
-    ghost after = { None };
+    ghost then = { λ made me found me'. HasTried P.ends made.word found me me' };
 }
 
-/// A call is written into the log.
-pub(crate) struct Calling<X, P, C> {
-    of: PhantomData<(X, P, C)>,
+/// A slot is put back.
+pub(crate) struct Ending<S, P> {
+    of: PhantomData<(S, P)>,
 }
 
-impl<X, P: Course<X>, C: Telling<X>> Play<(), Knows<X>> for Calling<X, P, C> {
-    ghost use Rattle.call_log.specs.Steps.{Calls};
+impl<S, P: Course<S>> Play<S, Knows<S>> for Ending<S, P> {
+    ghost use Rattle.call_log.specs.Steps.{EndsSo};
 
-    ghost then = { λ made me found me'. Calls P.goes_on C.after me me' };
+    ghost then = { λ made me found me'. EndsSo P.ends made.word me me' };
 }
 
-/// A closing is written into the log.
-pub(crate) struct Closing<X, P> {
-    of: PhantomData<(X, P)>,
+/// All slots are out for good.
+pub(crate) struct Closing<S, P> {
+    of: PhantomData<(S, P)>,
 }
 
-impl<X, P: Course<X>> Play<(), Knows<X>> for Closing<X, P> {
-    ghost use Rattle.call_log.specs.Steps.{HasLoggedClosing};
+impl<S, P: Course<S>> Play<S, Knows<S>> for Closing<S, P> {
+    ghost use Rattle.call_log.specs.Steps.{HasClosed};
 
-    ghost then = { λ made me found me'. HasLoggedClosing P.goes_on me me' };
+    ghost then = { λ made me found me'. HasClosed P.ends me me' };
 }
 
-/// It is written into the log that nothing waits any more.
-pub(crate) struct Emptying<X, P> {
-    of: PhantomData<(X, P)>,
+/// A slot is left for good.
+pub(crate) struct Leaving<S, P> {
+    of: PhantomData<(S, P)>,
 }
 
-impl<X, P: Course<X>> Play<(), Knows<X>> for Emptying<X, P> {
-    ghost use Rattle.call_log.specs.Steps.{HasLoggedEmptying};
+impl<S, P: Course<S>> Play<S, Knows<S>> for Leaving<S, P> {
+    ghost use Rattle.call_log.specs.Steps.{HasLeft};
 
-    ghost then = { λ made me found me'. HasLoggedEmptying P.goes_on me me' };
+    ghost then = { λ made me found me'. HasLeft P.ends me me' };
+}
+
+/// The last slot is left for good, and nothing waits any more.
+pub(crate) struct Emptying<S, P> {
+    of: PhantomData<(S, P)>,
+}
+
+impl<S, P: Course<S>> Play<S, Knows<S>> for Emptying<S, P> {
+    ghost use Rattle.call_log.specs.Steps.{HasEmptied};
+
+    ghost then = { λ made me found me'. HasEmptied P.ends me me' };
 }
 
 /// The log is looked at.
-pub(crate) struct Looking<X, P> {
-    of: PhantomData<(X, P)>,
+pub(crate) struct Looking<S, P> {
+    of: PhantomData<(S, P)>,
 }
 
-impl<X, P: Course<X>> Play<(), Knows<X>> for Looking<X, P> {
+impl<S, P: Course<S>> Play<S, Knows<S>> for Looking<S, P> {
     ghost use Rattle.call_log.specs.Steps.{Looks};
 
-    ghost then = { λ made. Looks P.goes_on };
+    ghost then = { λ made. Looks P.ends };
 }
 
-/// The log is looked at by a hand.
-pub(crate) struct Recalling<X, P> {
-    of: PhantomData<(X, P)>,
+/// The log is looked at by a seat.
+pub(crate) struct Recalling<S, P> {
+    of: PhantomData<(S, P)>,
 }
 
-impl<X, P: Course<X>> Play<(), Knows<X>> for Recalling<X, P> {
-    ghost use Rattle.call_log.specs.Steps.{HasRecalled};
+impl<S, P: Course<S>> Play<S, Knows<S>> for Recalling<S, P> {
+    ghost use Rattle.call_log.specs.Steps.{HasSeen};
 
-    ghost then = { λ made. HasRecalled P.goes_on };
+    ghost then = { λ made me found me'. HasSeen P.ends me.1 me.0 me' };
 }
 
-/// A receipt is split off, with all authors.
-pub(crate) struct Copying;
-
-impl<X> Split<Knows<X>> for Copying {
-    ghost use Rattle.call_log.specs.Rule.{receipt};
-    ghost use Rattle.call_log.specs.Steps.{mute};
-
-    ghost left = { mute };
-
-    ghost right = { λ view. receipt view.authors view.logs };
-}
-
-/// A receipt is split off, with the first author.
+/// A seat with the first author is split off.
 pub(crate) struct Parting;
 
-impl<X> Split<Knows<X>> for Parting {
-    ghost use Rattle.call_log.specs.Rule.{receipt};
-    ghost use Rattle.call_log.specs.Steps.{one_of, parting};
-
-    ghost left = { parting };
-
-    ghost right = { λ view. receipt (one_of view.authors) view.logs };
-}
-
-/// The first seat is split off.
-pub(crate) struct Dealing;
-
-impl<X> Split<Knows<X>> for Dealing {
+impl<S> Split<Knows<S>> for Parting {
     ghost use Rattle.call_log.specs.Steps.{one, others};
 
     ghost left = { others };
 
     ghost right = { one };
-}
-
-/// A view has also seen what another one has, and has the authors of that one, whose seats, if it has any, are lost.
-pub(crate) struct Observing;
-
-impl<X> Join<Knows<X>> for Observing {
-    ghost use Rattle.std.specs.Prelude.{[]};
-    ghost use Rattle.call_log.specs.declared.log.Authors.TheVariants.{Nobody};
-    ghost use Rattle.call_log.specs.Rule.{receipt};
-    ghost use Rattle.call_log.specs.Steps.{observing};
-
-    ghost both = { observing };
-
-    ghost spent = { receipt Nobody [] };
-}
-
-/// Two views become one, with the authors of the first one.
-pub(crate) struct Together;
-
-impl<X> Join<Knows<X>> for Together {
-    ghost use Rattle.std.specs.Prelude.{[]};
-    ghost use Rattle.call_log.specs.declared.log.Authors.TheVariants.{Nobody};
-    ghost use Rattle.call_log.specs.Rule.{receipt};
-    ghost use Rattle.call_log.specs.Steps.{both};
-
-    ghost both = { both };
-
-    ghost spent = { receipt Nobody [] };
 }

@@ -1,150 +1,141 @@
-//! Steps on the word of a log's table: each is one load or store, and writes into the log or sees it.
-ghost use Rattle.std.specs.Prelude.{◌≡◌, ◌<◌, ◌∷◌, [], Some, IfSome, length};
-ghost use Rattle.call_log.specs.Rule.{all_of, receipt};
-ghost use Rattle.call_log.specs.Steps.{Adjoins, CanCall, CanEnd, HasLogged, HasLoggedClosing, HasLoggedEmptying, HasLooked, HasRecalled, both, mute, observing, one, one_of, others, parting};
+//! Steps on the words of a log's table: each is one atomic operation, and writes into the log or sees it.
+ghost use Rattle.std.specs.Prelude.{◌≡◌, ◌<◌, [], ℕ, IfSome, length, replicate};
+ghost use Rattle.call_log.specs.Logs.{WritesAs};
+ghost use Rattle.call_log.specs.Rule.{all_of};
+ghost use Rattle.call_log.specs.Steps.{CanClose, CanEmpty, CanEnd, CanLeave, EndsSo, HasClosed, HasEmptied, HasLeft, HasLooked, HasSeen, HasTried, one, others};
 
 use crate::rule::{
-    Calling, Closing, Copying, Course, Dealing, Emptying, Hand, Log, LogTable, Looking, Observing,
-    Parting, Recalling, Telling, Together,
+    Beginning, Closing, Course, Emptying, Ending, Hand, Leaving, Log, LogTable, Looking, Parting,
+    Recalling,
 };
 use atomic_table::Table;
 use std::alloc::Global;
-use std::marker::Brand;
+use std::snapshot::Snapshot;
 
-/// A log of these seats, and the seat of its table that has them all, and all authors, if there is memory for it.
-pub fn opened<X, P: Course<X>>(alloc: Global, seats: &Vec<X>) -> Option<(LogTable<X, P>, Hand<X>)>
-    ensures table { IfSome result (λ made. (made.1.table_id ≡ made.0.shared.table_id) × (0 < made.0.shared.table_id.words) × (made.0.shared.key ≡ seats.now)) }
-    ensures hand { IfSome result (λ made. made.1.me ≡ (all_of seats.now.items, [])) }
+/// The word of a slot in which something is.
+pub const HOME: u64 = 0;
+
+/// The word of a slot that is out.
+pub const OUT: u64 = 1;
+
+/// The word of a slot that is out for good.
+pub const GONE: u64 = 2;
+
+/// A table with these slots, and the seat that has all authors, if there is memory for it.
+pub fn opened<S: Drop, P: Course<S>>(
+    alloc: Global,
+    slots: Vec<S>,
+) -> Option<(LogTable<S, P>, Hand<S>)>
+    ensures table { IfSome result (λ made. made.1.table_id ≡ made.0.shared.table_id) }
+    ensures long { IfSome result (λ made. made.0.shared.table_id.words ≡ length slots.items) }
+    ensures key { IfSome result (λ made. made.0.shared.key.value.items ≡ slots.items) }
+    ensures hand { IfSome result (λ made. made.1.me ≡ (all_of slots.items, [])) }
 {
-    match Table::of_words(alloc, &[0], seats) {
+    let about = Snapshot::of(&slots);
+    let words = zeros(alloc, slots.len())?;
+    match Table::new(alloc, words.as_slice(), slots, &about) {
         Ok(made) => Some(made),
         Err(_) => None,
     }
 }
 
-/// Splits off the first seat of those that this one has.
-pub fn dealt<X, P: Course<X>>(log: &Log<X, P>, hand: &mut Hand<X>) -> Hand<X>
+/// So many zeros.
+fn zeros(alloc: Global, count: usize) -> Option<Vec<u64>>
+    ensures { IfSome result (λ words. words.items ≡ replicate count 0) }
+{
+    let mut words = Vec::with_capacity(alloc, count).ok()?;
+    while words.len() < count {
+        words.push(HOME).ok()?;
+    }
+    Some(words)
+}
+
+/// Tries to take out what is in a slot, and tells its word: `HOME` where the seat has it now; `OUT` where somebody has it; `GONE` where it is out for good.
+pub fn begun<S, P: Course<S>>(log: &Log<S, P>, hand: &mut Hand<S>, slot: usize) -> u64
+    requires table { hand.old.table_id ≡ log.now.table_id }
+    requires word { slot < log.now.table_id.words }
+    requires there { slot < length log.now.key.value.items }
+    requires may { (author : ℕ) × WritesAs hand.old.me.0.authors author }
+    ensures same { hand.new.table_id ≡ hand.old.table_id }
+    ensures tried { HasTried P.ends slot result hand.old.me hand.new.me }
+{
+    log.compare_exchange::<Beginning<S, P>>(hand, slot, HOME, OUT)
+}
+
+/// Puts back the slot that was taken last, with what is in it now.
+pub fn ended<S, P: Course<S>>(log: &Log<S, P>, hand: &mut Hand<S>, slot: usize)
+    requires table { hand.old.table_id ≡ log.now.table_id }
+    requires word { slot < log.now.table_id.words }
+    requires there { slot < length log.now.key.value.items }
+    requires can { CanEnd P.ends slot hand.old.me }
+    ensures same { hand.new.table_id ≡ hand.old.table_id }
+    ensures ended { EndsSo P.ends slot hand.old.me hand.new.me }
+{
+    log.store::<Ending<S, P>>(hand, slot, HOME);
+}
+
+/// Closes the table: all slots are out with this seat, for good.
+pub fn closed<S, P: Course<S>>(log: &Log<S, P>, hand: &mut Hand<S>)
     requires table { hand.old.table_id ≡ log.now.table_id }
     requires word { 0 < log.now.table_id.words }
-    requires some { 0 < length hand.old.me.0.here }
+    requires can { CanClose hand.old.me }
+    ensures same { hand.new.table_id ≡ hand.old.table_id }
+    ensures closed { HasClosed P.ends hand.old.me hand.new.me }
+{
+    log.load::<Closing<S, P>>(hand, 0);
+}
+
+/// Leaves the slot that was taken last for good; the table is closed.
+pub fn left<S, P: Course<S>>(log: &Log<S, P>, hand: &mut Hand<S>, slot: usize)
+    requires table { hand.old.table_id ≡ log.now.table_id }
+    requires word { slot < log.now.table_id.words }
+    requires there { slot < length log.now.key.value.items }
+    requires can { CanLeave slot hand.old.me }
+    ensures same { hand.new.table_id ≡ hand.old.table_id }
+    ensures left { HasLeft P.ends hand.old.me hand.new.me }
+{
+    log.store::<Leaving<S, P>>(hand, slot, GONE);
+}
+
+/// Leaves the last slot for good: nothing waits any more.
+pub fn emptied<S, P: Course<S>>(log: &Log<S, P>, hand: &mut Hand<S>, slot: usize)
+    requires table { hand.old.table_id ≡ log.now.table_id }
+    requires word { slot < log.now.table_id.words }
+    requires can { CanEmpty slot hand.old.me }
+    ensures same { hand.new.table_id ≡ hand.old.table_id }
+    ensures emptied { HasEmptied P.ends hand.old.me hand.new.me }
+{
+    log.store::<Emptying<S, P>>(hand, slot, GONE);
+}
+
+/// Looks at the log.
+pub fn recalled<S, P: Course<S>>(log: &Log<S, P>, hand: &mut Hand<S>, slot: usize)
+    requires table { hand.old.table_id ≡ log.now.table_id }
+    requires word { slot < log.now.table_id.words }
+    ensures same { hand.new.table_id ≡ hand.old.table_id }
+    ensures recalled { HasSeen P.ends hand.old.me.1 hand.old.me.0 hand.new.me }
+{
+    log.load::<Recalling<S, P>>(hand, slot);
+}
+
+/// Looks at the log with no seat: the new one has no author.
+pub fn looked<S, P: Course<S>>(log: &Log<S, P>) -> Hand<S>
+    requires word { 0 < log.now.table_id.words }
+    ensures table { result.table_id ≡ log.now.table_id }
+    ensures looked { HasLooked P.ends log.now.key.value.items result.me }
+{
+    let (_, hand) = log.load_new_seat::<Looking<S, P>>(0);
+    hand
+}
+
+/// A seat that has seen the same, with the first of the authors; the other ones stay.
+pub fn parted<S, P: Course<S>>(log: &Log<S, P>, hand: &mut Hand<S>) -> Hand<S>
+    requires table { hand.old.table_id ≡ log.now.table_id }
+    requires word { 0 < log.now.table_id.words }
     ensures same { hand.new.table_id ≡ hand.old.table_id }
     ensures table { result.table_id ≡ hand.old.table_id }
     ensures others { hand.new.me ≡ (others hand.old.me.0, hand.old.me.1) }
     ensures one { result.me ≡ (one hand.old.me.0, []) }
 {
-    log.split_seat::<Dealing>(hand)
-}
-
-/// A receipt of what the seat has seen, with the authors that it had.
-pub fn copied<X, P: Course<X>>(log: &Log<X, P>, hand: &mut Hand<X>) -> Hand<X>
-    requires table { hand.old.table_id ≡ log.now.table_id }
-    requires word { 0 < log.now.table_id.words }
-    ensures same { hand.new.table_id ≡ hand.old.table_id }
-    ensures table { result.table_id ≡ hand.old.table_id }
-    ensures stays { hand.new.me ≡ (mute hand.old.me.0, hand.old.me.1) }
-    ensures receipt { result.me ≡ (receipt hand.old.me.0.authors hand.old.me.0.logs, []) }
-{
-    log.split_seat::<Copying>(hand)
-}
-
-/// A receipt of what the seat has seen, with the first of its authors.
-pub fn parted<X, P: Course<X>>(log: &Log<X, P>, hand: &mut Hand<X>) -> Hand<X>
-    requires table { hand.old.table_id ≡ log.now.table_id }
-    requires word { 0 < log.now.table_id.words }
-    ensures same { hand.new.table_id ≡ hand.old.table_id }
-    ensures table { result.table_id ≡ hand.old.table_id }
-    ensures others { hand.new.me ≡ (parting hand.old.me.0, hand.old.me.1) }
-    ensures one { result.me ≡ (receipt (one_of hand.old.me.0.authors) hand.old.me.0.logs, []) }
-{
     log.split_seat::<Parting>(hand)
-}
-
-/// Takes in another seat, whose seats are those behind this one's.
-pub fn joined<X, P: Course<X>>(log: &Log<X, P>, hand: &mut Hand<X>, other: Hand<X>)
-    requires table { hand.old.table_id ≡ log.now.table_id }
-    requires word { 0 < log.now.table_id.words }
-    requires other { other.table_id ≡ log.now.table_id }
-    requires empty { other.me.1 ≡ [] }
-    requires behind { Adjoins hand.old.me.0 other.me.0 }
-    ensures same { hand.new.table_id ≡ hand.old.table_id }
-    ensures both { hand.new.me ≡ (both hand.old.me.0 other.me.0, hand.old.me.1) }
-{
-    log.join_seat::<Together>(hand, other);
-}
-
-/// Takes in what another seat has seen, and its authors in place of this one's; the seats that it has, if any, are lost.
-pub fn observed<X, P: Course<X>>(log: &Log<X, P>, hand: &mut Hand<X>, other: Hand<X>)
-    requires table { hand.old.table_id ≡ log.now.table_id }
-    requires word { 0 < log.now.table_id.words }
-    requires other { other.table_id ≡ log.now.table_id }
-    requires empty { other.me.1 ≡ [] }
-    ensures same { hand.new.table_id ≡ hand.old.table_id }
-    ensures observed { hand.new.me ≡ (observing hand.old.me.0 other.me.0, hand.old.me.1) }
-{
-    log.join_seat::<Observing>(hand, other);
-}
-
-/// Writes a call into the log, as the seat's first author. The call found the seat that this one has, and left another one.
-pub fn called<X, P: Course<X>>(log: &Log<X, P>, hand: &mut Hand<X>, after: &X)
-    requires table { hand.old.table_id ≡ log.now.table_id }
-    requires word { 0 < log.now.table_id.words }
-    requires can { CanCall P.goes_on hand.old.me.0 after.now }
-    ensures same { hand.new.table_id ≡ hand.old.table_id }
-    ensures called { HasLogged P.goes_on after.now hand.old.me hand.new.me }
-{
-    tell_called::<X, P, Brand>(log, hand, after);
-}
-
-/// The same, once the seat is picked.
-fn tell_called<X, P: Course<X>, C: Telling<X>>(log: &Log<X, P>, hand: &mut Hand<X>, after: &X)
-    requires told { C.after ≡ Some after.now }
-    requires table { hand.old.table_id ≡ log.now.table_id }
-    requires word { 0 < log.now.table_id.words }
-    requires can { CanCall P.goes_on hand.old.me.0 after.now }
-    ensures same { hand.new.table_id ≡ hand.old.table_id }
-    ensures called { HasLogged P.goes_on after.now hand.old.me hand.new.me }
-{
-    let _ = after;
-    log.load::<Calling<X, P, C>>(hand, 0);
-}
-
-/// Writes into the log, as the seat's first author, that the tree is closed, and that what it left waits.
-pub fn closed<X, P: Course<X>>(log: &Log<X, P>, hand: &mut Hand<X>)
-    requires table { hand.old.table_id ≡ log.now.table_id }
-    requires word { 0 < log.now.table_id.words }
-    requires can { CanEnd log.now.key.items 1 hand.old.me.0 }
-    ensures same { hand.new.table_id ≡ hand.old.table_id }
-    ensures closed { HasLoggedClosing P.goes_on hand.old.me hand.new.me }
-{
-    log.store::<Closing<X, P>>(hand, 0, 1);
-}
-
-/// Writes into the log, as the seat's first author, that nothing waits any more.
-pub fn emptied<X, P: Course<X>>(log: &Log<X, P>, hand: &mut Hand<X>)
-    requires table { hand.old.table_id ≡ log.now.table_id }
-    requires word { 0 < log.now.table_id.words }
-    requires can { CanEnd log.now.key.items 2 hand.old.me.0 }
-    ensures same { hand.new.table_id ≡ hand.old.table_id }
-    ensures emptied { HasLoggedEmptying P.goes_on hand.old.me hand.new.me }
-{
-    log.store::<Emptying<X, P>>(hand, 0, 2);
-}
-
-/// How far the log is; the hand has seen all of it.
-pub fn recalled<X, P: Course<X>>(log: &Log<X, P>, hand: &mut Hand<X>) -> u64
-    requires table { hand.old.table_id ≡ log.now.table_id }
-    requires word { 0 < log.now.table_id.words }
-    ensures same { hand.new.table_id ≡ hand.old.table_id }
-    ensures recalled { HasRecalled P.goes_on hand.old.me result hand.new.me }
-{
-    log.load::<Recalling<X, P>>(hand, 0)
-}
-
-/// How far the log is, and a receipt of it, which has no author.
-pub fn looked<X, P: Course<X>>(log: &Log<X, P>) -> (u64, Hand<X>)
-    requires word { 0 < log.now.table_id.words }
-    ensures table { result.1.table_id ≡ log.now.table_id }
-    ensures looked { HasLooked P.goes_on log.now.key.items result.0 result.1.me }
-{
-    log.load_new_seat::<Looking<X, P>>(0)
 }

@@ -1,7 +1,7 @@
 //! A caller of the exports, who hands the receipt of each call on to the next one.
-ghost use Rattle.std.specs.Prelude.{◌≡◌, Some};
-ghost use Rattle.bw_tree_c.specs.Handles.{MayCallOn};
-ghost use Rattle.bw_tree_c.specs.Places.{CanFinish};
+ghost use Rattle.std.specs.Prelude.{◌≡◌, []};
+ghost use Rattle.call_log.specs.declared.log.Authors.TheVariants.{AllFrom};
+ghost use Rattle.bw_tree_c.specs.Handles.{IsReceipt, MayCallOn};
 
 use crate::c_types::{Bytes, FreeRoom, Page, Pair, TreeLimits};
 use crate::calls::{
@@ -12,14 +12,11 @@ use crate::calls::{
 use crate::closing::bwtree_raw_close;
 use crate::closing::pairs::bwtree_raw_close_pairs;
 use crate::handle::TreeHandle;
-use crate::handle::shared::Shared;
 use crate::loading::bwtree_raw_open_from;
 use crate::opening::{bwtree_raw_open, bwtree_raw_vacate};
 use crate::pages::{bwtree_raw_back, bwtree_raw_page, bwtree_raw_resume};
-use crate::place::Place;
 use crate::queries::{bwtree_raw_is_idle, bwtree_raw_room};
 use crate::receipt::{Receipt, Told};
-use crate::slot::{Slot, finish};
 use crate::statuses::OK;
 use std::alloc::Global;
 use std::mem::replace;
@@ -53,7 +50,8 @@ impl Caller {
     /// Opens a tree.
     pub(crate) fn open(&mut self, alloc: Global, limits: &TreeLimits) -> u32
         requires { MayCallOn self.old.tree.kept.value self.old.since }
-        ensures { MayCallOn self.new.tree.kept.value self.new.since }
+        ensures may { MayCallOn self.new.tree.kept.value self.new.since }
+        ensures all { result ≡ OK → IsReceipt self.new.tree.kept.value (AllFrom 0) [] self.new.since }
     {
         let Told { status, receipt } = bwtree_raw_open(alloc, limits, &mut self.tree);
         if status == OK {
@@ -74,19 +72,6 @@ impl Caller {
         status
     }
 
-    /// Ends a call on a seat that was taken out by hand.
-    pub(crate) fn finish(&mut self, shared: &Shared, slot: &Slot, place: Box<Place>)
-        requires kept { self.old.tree.kept.value ≡ Some shared.now }
-        requires can { CanFinish shared.now slot.now place.value }
-        requires may { MayCallOn self.old.tree.kept.value self.old.since }
-        ensures tree { self.new.tree ≡ self.old.tree }
-        ensures may { MayCallOn self.new.tree.kept.value self.new.since }
-    {
-        let since = self.receipt();
-        let Told { status: _, receipt } = finish(shared, slot, place, OK, since);
-        self.since = receipt;
-    }
-
     /// Empties the handle.
     pub(crate) fn vacate(&mut self) -> u32
         requires { MayCallOn self.old.tree.kept.value self.old.since }
@@ -101,8 +86,7 @@ impl Caller {
     /// Closes the tree, and takes its pairs.
     pub(crate) fn close_pairs(&mut self, alloc: Global, pairs: &mut [Pair], count: &mut u64) -> u32
         requires { MayCallOn self.old.tree.kept.value self.old.since }
-        ensures tree { self.new.tree ≡ self.old.tree }
-        ensures may { MayCallOn self.new.tree.kept.value self.new.since }
+        ensures { MayCallOn self.new.tree.kept.value self.new.since }
     {
         let since = self.receipt();
         let Told { status, receipt } = bwtree_raw_close_pairs(
@@ -115,8 +99,7 @@ impl Caller {
     /// Looks a key up.
     pub(crate) fn get(&mut self, seat: u32, key: &[u8], value: &mut Bytes) -> u32
         requires { MayCallOn self.old.tree.kept.value self.old.since }
-        ensures tree { self.new.tree ≡ self.old.tree }
-        ensures may { MayCallOn self.new.tree.kept.value self.new.since }
+        ensures { MayCallOn self.new.tree.kept.value self.new.since }
     {
         let since = self.receipt();
         let Told { status, receipt } = bwtree_raw_get(&self.tree, seat, key, value, since);
@@ -133,8 +116,7 @@ impl Caller {
         value: &mut Bytes,
     ) -> u32
         requires { MayCallOn self.old.tree.kept.value self.old.since }
-        ensures tree { self.new.tree ≡ self.old.tree }
-        ensures may { MayCallOn self.new.tree.kept.value self.new.since }
+        ensures { MayCallOn self.new.tree.kept.value self.new.since }
     {
         let since = self.receipt();
         let Told { status, receipt } = bwtree_raw_get_within(
@@ -147,8 +129,7 @@ impl Caller {
     /// Gives a key a value where it has none.
     pub(crate) fn insert(&mut self, seat: u32, key: &[u8], value: &[u8], old: &mut Bytes) -> u32
         requires { MayCallOn self.old.tree.kept.value self.old.since }
-        ensures tree { self.new.tree ≡ self.old.tree }
-        ensures may { MayCallOn self.new.tree.kept.value self.new.since }
+        ensures { MayCallOn self.new.tree.kept.value self.new.since }
     {
         let since = self.receipt();
         let Told { status, receipt } = bwtree_raw_insert(&self.tree, seat, key, value, old, since);
@@ -159,8 +140,7 @@ impl Caller {
     /// Gives a key a value.
     pub(crate) fn upsert(&mut self, seat: u32, key: &[u8], value: &[u8], old: &mut Bytes) -> u32
         requires { MayCallOn self.old.tree.kept.value self.old.since }
-        ensures tree { self.new.tree ≡ self.old.tree }
-        ensures may { MayCallOn self.new.tree.kept.value self.new.since }
+        ensures { MayCallOn self.new.tree.kept.value self.new.since }
     {
         let since = self.receipt();
         let Told { status, receipt } = bwtree_raw_upsert(&self.tree, seat, key, value, old, since);
@@ -178,8 +158,7 @@ impl Caller {
         old: &mut Bytes,
     ) -> u32
         requires { MayCallOn self.old.tree.kept.value self.old.since }
-        ensures tree { self.new.tree ≡ self.old.tree }
-        ensures may { MayCallOn self.new.tree.kept.value self.new.since }
+        ensures { MayCallOn self.new.tree.kept.value self.new.since }
     {
         let since = self.receipt();
         let Told { status, receipt } = bwtree_raw_upsert_within(
@@ -192,8 +171,7 @@ impl Caller {
     /// Makes a key absent.
     pub(crate) fn delete(&mut self, seat: u32, key: &[u8], old: &mut Bytes) -> u32
         requires { MayCallOn self.old.tree.kept.value self.old.since }
-        ensures tree { self.new.tree ≡ self.old.tree }
-        ensures may { MayCallOn self.new.tree.kept.value self.new.since }
+        ensures { MayCallOn self.new.tree.kept.value self.new.since }
     {
         let since = self.receipt();
         let Told { status, receipt } = bwtree_raw_delete(&self.tree, seat, key, old, since);
@@ -210,8 +188,7 @@ impl Caller {
         old: &mut Bytes,
     ) -> u32
         requires { MayCallOn self.old.tree.kept.value self.old.since }
-        ensures tree { self.new.tree ≡ self.old.tree }
-        ensures may { MayCallOn self.new.tree.kept.value self.new.since }
+        ensures { MayCallOn self.new.tree.kept.value self.new.since }
     {
         let since = self.receipt();
         let Told { status, receipt } = bwtree_raw_delete_if(
@@ -231,8 +208,7 @@ impl Caller {
         old: &mut Bytes,
     ) -> u32
         requires { MayCallOn self.old.tree.kept.value self.old.since }
-        ensures tree { self.new.tree ≡ self.old.tree }
-        ensures may { MayCallOn self.new.tree.kept.value self.new.since }
+        ensures { MayCallOn self.new.tree.kept.value self.new.since }
     {
         let since = self.receipt();
         let Told { status, receipt } = bwtree_raw_swap(
@@ -245,8 +221,7 @@ impl Caller {
     /// Adds a number.
     pub(crate) fn add(&mut self, seat: u32, key: &[u8], number: u64, old: &mut Bytes) -> u32
         requires { MayCallOn self.old.tree.kept.value self.old.since }
-        ensures tree { self.new.tree ≡ self.old.tree }
-        ensures may { MayCallOn self.new.tree.kept.value self.new.since }
+        ensures { MayCallOn self.new.tree.kept.value self.new.since }
     {
         let since = self.receipt();
         let Told { status, receipt } = bwtree_raw_add(&self.tree, seat, key, number, old, since);
@@ -257,8 +232,7 @@ impl Caller {
     /// Does what upkeep is due.
     pub(crate) fn tidy(&mut self, seat: u32, key: &[u8]) -> u32
         requires { MayCallOn self.old.tree.kept.value self.old.since }
-        ensures tree { self.new.tree ≡ self.old.tree }
-        ensures may { MayCallOn self.new.tree.kept.value self.new.since }
+        ensures { MayCallOn self.new.tree.kept.value self.new.since }
     {
         let since = self.receipt();
         let Told { status, receipt } = bwtree_raw_tidy(&self.tree, seat, key, since);
@@ -269,8 +243,7 @@ impl Caller {
     /// A page from a key on.
     pub(crate) fn page(&mut self, seat: u32, from: &[u8], page: &mut Page) -> u32
         requires { MayCallOn self.old.tree.kept.value self.old.since }
-        ensures tree { self.new.tree ≡ self.old.tree }
-        ensures may { MayCallOn self.new.tree.kept.value self.new.since }
+        ensures { MayCallOn self.new.tree.kept.value self.new.since }
     {
         let since = self.receipt();
         let Told { status, receipt } = bwtree_raw_page(&self.tree, seat, from, page, since);
@@ -281,8 +254,7 @@ impl Caller {
     /// A page up to a key.
     pub(crate) fn back(&mut self, seat: u32, upto: &[u8], page: &mut Page) -> u32
         requires { MayCallOn self.old.tree.kept.value self.old.since }
-        ensures tree { self.new.tree ≡ self.old.tree }
-        ensures may { MayCallOn self.new.tree.kept.value self.new.since }
+        ensures { MayCallOn self.new.tree.kept.value self.new.since }
     {
         let since = self.receipt();
         let Told { status, receipt } = bwtree_raw_back(&self.tree, seat, upto, page, since);
@@ -293,8 +265,7 @@ impl Caller {
     /// Goes on with a seat's unfinished operation.
     pub(crate) fn resume(&mut self, seat: u32, budget: u32, old: &mut Bytes, page: &mut Page) -> u32
         requires { MayCallOn self.old.tree.kept.value self.old.since }
-        ensures tree { self.new.tree ≡ self.old.tree }
-        ensures may { MayCallOn self.new.tree.kept.value self.new.since }
+        ensures { MayCallOn self.new.tree.kept.value self.new.since }
     {
         let since = self.receipt();
         let Told { status, receipt } = bwtree_raw_resume(
@@ -307,8 +278,7 @@ impl Caller {
     /// Whether a call may begin on the seat.
     pub(crate) fn is_idle(&mut self, seat: u32) -> u32
         requires { MayCallOn self.old.tree.kept.value self.old.since }
-        ensures tree { self.new.tree ≡ self.old.tree }
-        ensures may { MayCallOn self.new.tree.kept.value self.new.since }
+        ensures { MayCallOn self.new.tree.kept.value self.new.since }
     {
         let since = self.receipt();
         let Told { status, receipt } = bwtree_raw_is_idle(&self.tree, seat, since);
@@ -319,8 +289,7 @@ impl Caller {
     /// How many PIDs and rows are free.
     pub(crate) fn room(&mut self, seat: u32, room: &mut FreeRoom) -> u32
         requires { MayCallOn self.old.tree.kept.value self.old.since }
-        ensures tree { self.new.tree ≡ self.old.tree }
-        ensures may { MayCallOn self.new.tree.kept.value self.new.since }
+        ensures { MayCallOn self.new.tree.kept.value self.new.since }
     {
         let since = self.receipt();
         let Told { status, receipt } = bwtree_raw_room(&self.tree, seat, room, since);
@@ -331,8 +300,7 @@ impl Caller {
     /// Closes the tree.
     pub(crate) fn close(&mut self) -> u32
         requires { MayCallOn self.old.tree.kept.value self.old.since }
-        ensures tree { self.new.tree ≡ self.old.tree }
-        ensures may { MayCallOn self.new.tree.kept.value self.new.since }
+        ensures { MayCallOn self.new.tree.kept.value self.new.since }
     {
         let since = self.receipt();
         let Told { status, receipt } = bwtree_raw_close(&self.tree, since);

@@ -1,29 +1,22 @@
 //! Two callers of one tree: each has an author of its own.
 
-use super::{no_bytes, no_limits};
+use super::{all_authors, no_bytes};
 use crate::calls::{bwtree_raw_delete, bwtree_raw_get, bwtree_raw_insert};
-use crate::handle::TreeHandle;
-use crate::opening::{bwtree_raw_limits_for_keys, bwtree_raw_open};
-use crate::receipt::Told;
 use crate::statuses::{ABSENT, OK};
 use std::alloc::Global;
 use std::test::Fail;
 
 /// What two callers answer in turn, each with the receipt of its last call.
 fn told_of_two(alloc: Global) -> Option<[u32; 4]> {
-    let mut tree = TreeHandle::unopened();
-    let mut limits = no_limits();
+    let mut caller = all_authors(alloc)?;
+    let since = caller.receipt();
+    let tree = &caller.tree;
+    let (one, other) = tree.parted(since);
     let mut old = no_bytes();
-    bwtree_raw_limits_for_keys(2, 100, &mut limits);
-    let Told { status, receipt } = bwtree_raw_open(alloc, &limits, &mut tree);
-    if status != OK {
-        return None;
-    }
-    let (one, other) = tree.parted(receipt);
-    let set = bwtree_raw_insert(&tree, 0, b"a", b"x", &mut old, one);
-    let found = bwtree_raw_get(&tree, 1, b"a", &mut old, other);
-    let deleted = bwtree_raw_delete(&tree, 0, b"a", &mut old, set.receipt);
-    let gone = bwtree_raw_get(&tree, 1, b"a", &mut old, found.receipt);
+    let set = bwtree_raw_insert(tree, 0, b"a", b"x", &mut old, one);
+    let found = bwtree_raw_get(tree, 1, b"a", &mut old, other);
+    let deleted = bwtree_raw_delete(tree, 0, b"a", &mut old, set.receipt);
+    let gone = bwtree_raw_get(tree, 1, b"a", &mut old, found.receipt);
     Some([set.status, found.status, deleted.status, gone.status])
 }
 

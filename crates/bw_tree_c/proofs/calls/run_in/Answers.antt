@@ -1,14 +1,13 @@
-use Rattle.bw_tree_c.proofs.Places.{can_finish, on_seat}
+use Rattle.bw_tree_c.proofs.Calling.{can_finish, on_seat}
 use Rattle.bw_tree_c.proofs.calls.run_in.Goals as goal
 
 pub finish-requires : goal.finish-requires
 finish-requires c = record {
-  can = can_finish c.args.shared.now c.args.seat c.in-Ok.taken.slot.now c.in-Ok.ensures.slot c.in-Ok.taken.place.value
-      c.deref_mut.result.now c.run-status.new.self c.in-Ok.ensures.kin c.deref_mut.ensures.value c.run-status.ensures.later c.run-status.ensures.hand;
-  may = c.requires.may;
+  can = can_finish c.args.shared.now c.args.seat c.args.since c.in-Ok.taken.hand c.in-Ok.taken.place.value c.deref_mut.result.now c.run-status.new.self
+      c.deref_mut.ensures.value c.in-Ok.ensures.taken c.run-status.ensures.later;
 }
 
-pub returns : goal.returns
-returns c = on_seat c.args.shared.now c.args.seat c.in-Ok.taken.slot.now c.in-Ok.ensures.slot c.in-Ok.taken.place.value
-    c.deref_mut.result.now c.run-status.new.self c.in-Ok.ensures.kin c.deref_mut.ensures.value c.run-status.ensures.later c.run-status.ensures.hand
-    c.args.since c.finish.result _ _ (rw c.finish.ensures.status c.run-status.ensures.run) c.finish.ensures.receipt
+pub returns-clause-called : goal.returns-clause-called
+returns-clause-called c = on_seat c.args.shared.now c.args.seat c.args.since c.in-Ok.taken.hand c.in-Ok.taken.place.value c.deref_mut.result.now c.run-status.new.self
+    c.deref_mut.ensures.value c.in-Ok.ensures.taken c.run-status.ensures.later
+    c.finish.result _ _ (rw c.finish.ensures.status c.run-status.ensures.run) c.finish.ensures.finished

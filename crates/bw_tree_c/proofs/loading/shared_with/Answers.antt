@@ -1,10 +1,9 @@
-use Rattle.std.proofs.Common.{map, subst, sym, ◌∙◌}
+use Rattle.std.proofs.Common.{subst, ◌∙◌}
 use Rattle.bw_model.specs.declared.command.Reply.TheVariants as reply
 use Rattle.running_tree.specs.Loaded.{AreLoaded, IsStopped}
 use Rattle.running_tree.specs.declared.called.Called.TheVariants as called
 use Rattle.running_tree.specs.declared.filling.TheConstants.{LOAD_BUDGET}
-use Rattle.bw_tree_c.specs.Loaded.{given_pair}
-use Rattle.bw_tree_c.proofs.Taking.{one_tree}
+use Rattle.bw_tree_c.proofs.Filling.{one_tree}
 use Rattle.bw_tree_c.proofs.Unloading.{is_full, is_spent}
 use Rattle.bw_tree_c.proofs.loading.shared_with.Goals as goal
 
@@ -13,10 +12,13 @@ shared_with_seats-requires-clause-one c = one_tree c.in-Ok.opened.0 c.args.limit
 
 pub returns-in-Some-clause-ok : goal.returns-in-Some-clause-ok
 returns-in-Some-clause-ok c = record {
-  tree = c.in-Ok.opened.0;
-  limits = c.in-Ok.ensures.limits;
-  loaded = subst (λ seats. AreLoaded c.in-Ok.opened.0 seats (map given_pair c.args.given.now)) (sym c.in-Some.ensures.items)
-      (subst (AreLoaded c.in-Ok.opened.0 c.in-Ok.opened.1.items) (c.as_slice.ensures.value ∙ c.in_ok-pairs.ensures.ok) c.in-Ok.ensures.loaded);
+  seats = c.in-Ok.opened.1.items;
+  have = c.in-Some.ensures.items;
+  loaded = record {
+    tree = c.in-Ok.opened.0;
+    limits = c.in-Ok.ensures.limits;
+    loaded = subst (AreLoaded c.in-Ok.opened.0 c.in-Ok.opened.1.items) (c.as_slice.ensures.value ∙ c.in_ok-pairs.ensures.ok) c.in-Ok.ensures.loaded;
+  };
 }
 
 pub returns-in-Err-Full-clause-err : goal.returns-in-Err-Full-clause-err

@@ -1,6 +1,4 @@
-use Rattle.std.proofs.Common.{subst, sym}
-use Rattle.running_tree.specs.Trees.{AreFresh}
-use Rattle.bw_tree_c.proofs.Taking.{one_tree}
+use Rattle.bw_tree_c.proofs.Filling.{one_tree}
 use Rattle.bw_tree_c.proofs.opening.shared_of.Goals as goal
 
 pub shared_with_seats-requires-clause-one : goal.shared_with_seats-requires-clause-one
@@ -8,7 +6,7 @@ shared_with_seats-requires-clause-one c = one_tree c.in-Ok.tree c.args.limits c.
 
 pub returns-clause-opened : goal.returns-clause-opened
 returns-clause-opened c = record {
-  tree = c.in-Ok.tree;
-  limits = c.in-Ok.ensures.limits;
-  fresh = subst (AreFresh c.in-Ok.tree) (sym c.in_ok-made.ensures.items) c.in-Ok.ensures.fresh;
+  seats = c.in-Ok.seats.items;
+  have = c.in_ok-made.ensures.items;
+  opened = record { tree = c.in-Ok.tree; limits = c.in-Ok.ensures.limits; fresh = c.in-Ok.ensures.fresh };
 }

@@ -1,5 +1,5 @@
-use Rattle.bw_tree_c.proofs.Dealing.{HasDealt}
+use Rattle.bw_tree_c.proofs.Filling.{HasFilled}
 use Rattle.bw_tree_c.proofs.opening.slots_of.Given as goal
 
 abbrev pub invariant-loop-seat : goal.invariant-loop-seat
-invariant-loop-seat l = HasDealt l.log.shared.table_id l.fn.seats.items l.yielded l.slots.items l.hand
+invariant-loop-seat l = HasFilled l.yielded l.slots.items

@@ -1,5 +1,5 @@
-use Rattle.call_log.proofs.Following.{logs_agree as agree}
+use Rattle.call_log.proofs.Seen.{logs_agree}
 use Rattle.call_log.proofs.laws.logs_agree.Goals as goal
 
 pub returns : goal.returns
-returns g c = agree g.P.Course.goes_on
+returns g c = logs_agree g.P.Course.ends

@@ -1,5 +1,5 @@
 use Rattle.call_log.proofs.Turning.{closes}
 use Rattle.call_log.proofs.steps.closed.Goals as goal
 
-pub store-requires : goal.store-requires
-store-requires g c = (c.requires.table, c.requires.word, closes g.P.Course.goes_on c.args.log.now.key.items c.args.log.now.table_id.slots c.args.hand.now.id c.args.hand.now.me c.requires.can)
+pub load-requires : goal.load-requires
+load-requires g c = (c.requires.table, c.requires.word, closes g.P.Course.ends c.args.log.now.key.value.items c.args.log.now.table_id.slots c.args.hand.now.id c.args.hand.now.me c.requires.can)

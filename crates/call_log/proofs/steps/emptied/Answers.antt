@@ -2,4 +2,8 @@ use Rattle.call_log.proofs.Turning.{empties}
 use Rattle.call_log.proofs.steps.emptied.Goals as goal
 
 pub store-requires : goal.store-requires
-store-requires g c = (c.requires.table, c.requires.word, empties g.P.Course.goes_on c.args.log.now.key.items c.args.log.now.table_id.slots c.args.hand.now.id c.args.hand.now.me c.requires.can)
+store-requires g c = (
+  c.requires.table,
+  c.requires.word,
+  empties g.P.Course.ends c.args.log.now.key.value.items c.args.log.now.table_id.slots c.args.hand.now.id c.args.hand.now.me c.args.slot c.requires.can,
+)

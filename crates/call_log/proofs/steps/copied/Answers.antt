@@ -1,5 +1,0 @@
-use Rattle.call_log.proofs.Roster.{copies}
-use Rattle.call_log.proofs.steps.copied.Goals as goal
-
-pub split_seat-requires : goal.split_seat-requires
-split_seat-requires g c = (c.requires.table, c.requires.word, copies g.P.Course.goes_on c.args.log.now.key.items c.args.hand.now.id c.args.hand.now.me.0)

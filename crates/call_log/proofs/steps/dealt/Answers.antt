@@ -1,5 +1,0 @@
-use Rattle.call_log.proofs.Roster.{deals}
-use Rattle.call_log.proofs.steps.dealt.Goals as goal
-
-pub split_seat-requires : goal.split_seat-requires
-split_seat-requires g c = (c.requires.table, c.requires.word, deals g.P.Course.goes_on c.args.log.now.key.items c.args.hand.now.id c.args.hand.now.me.0 c.requires.some)
