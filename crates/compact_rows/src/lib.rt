@@ -5,8 +5,8 @@
 //! all keys stand side by side, so that a bisection reads one word a step.
 //!
 //! Everything above the memory speaks of the other spelling, that of `record_slots` (`words_of`), in small and in large trees. `seen_in` computes
-//! each word of that row from the compact words, and `look_spread` does so by looks at them, where they lie: `Spread` makes compact rows `Rows` of
-//! `row_search`, whose searches need not know in which form a record is stored.
+//! each word of that row from the compact words, and `look_spread` does so by looks at them, where they lie: so the searches of `row_search` need not
+//! know in which form a record is stored.
 //!
 //! Called by `tree_words` and `table_rule`, whose definitions name `compact_words`, and by `running_tree`, which writes (`compact_of`), looks
 //! (`CompactRows`, `look_spread`) and reads whole rows (`seen_in`). It knows no limits, so not which trees are large; no table, and no
@@ -28,5 +28,5 @@ pub use laws::{compact_spelling_is_one, records_have_room, words_are_seen};
 pub use layout::{COMPACT_FORM, MOST_WORDS, SECOND_UNIT};
 pub use read::from_compact;
 pub use seen::seen_in;
-pub use spread::{CompactRows, Spread, look_spread};
+pub use spread::{CompactRows, look_spread};
 pub use write::{compact_of, to_compact};

@@ -1,5 +1,4 @@
-//! Compact rows as `Rows` of `row_search`: each word of a row of `record_slots` is computed from the first word of the compact row and at most two
-//! others, which are looked at.
+//! Each word of a row of `record_slots` is computed from the first word of the compact row and at most two others, which are looked at.
 ghost use Rattle.std.specs.Prelude.{◌≡◌, ◌≢◌, ◌<◌, ◌≤◌, ◌+◌, ◌/◌, ◌%◌, ℕ, length, slice_index};
 ghost use Rattle.deltas.specs.declared.record.Record.{Record};
 ghost use Rattle.record_slots.specs.Spelling.{words_of};
@@ -16,7 +15,6 @@ use crate::seen::{bound_size, code_at, code_tail, words_for};
 use record_slots::{
     FIRST_ITEM, FORM, FORM_UNIT, ITEM_UNIT, ITEM_WORDS, LEVEL_UNIT, PART_LIMIT, ROW_WORDS,
 };
-use row_search::Rows;
 
 /// Compact rows in which records were read, and stay: each word that a record has there can be looked at where it lies.
 pub trait CompactRows {
@@ -26,50 +24,20 @@ pub trait CompactRows {
     /// What a look needs beside the rows, as the seat of a thread.
     type Pass;
 
-    // the record that was read in a row, by the pass, or some record where none was
-    ghost content: { Self.Pass → ℕ → Record };
+    /// What tells a row.
+    type Row: Copy;
 
-    ghost has: { Self → Self.Pass → ℕ → Record → Type 0 };
+    ghost has: { Self → Self.Pass → Self.Row → Record → Type 0 };
 
     /// A word of a record that was read, and stays.
-    fn look(&self, pass: &mut Self::Pass, row: u32, at: usize) -> u64
+    fn look(&self, pass: &mut Self::Pass, row: Self::Row, at: usize) -> u64
         requires has { (content : Record) × has self.now pass.old row content × (at < length (compact_words content)) }
         ensures same { pass.new ≡ pass.old }
         ensures word { (content : Record) → has self.now pass.old row content → result ≡ slice_index (compact_words content) at };
 
     /// Shows that what was read has a compact spelling, at no cost.
     fn keeps_spelling(&self, pass: &Self::Pass)
-        ensures { (row : ℕ) (content : Record) → has self.now pass.now row content → IsCompact content (compact_words content) };
-}
-
-/// Compact rows, as `row_search` searches them.
-#[derive(Drop)]
-pub struct Spread<R> {
-    rows: R,
-}
-
-impl<R: CompactRows> Rows for Spread<R> {
-    type Pass = R::Pass;
-
-    ghost content = { R.content };
-
-    ghost has = { λ spread pass row content. R.has spread.rows pass row content };
-
-    fn look(&self, pass: &mut R::Pass, row: u32, at: usize) -> u64 {
-        self.rows.keeps_spelling(pass);
-        let first = first_look(&self.rows, pass, row);
-        look_spread(&self.rows, pass, row, first, at)
-    }
-}
-
-/// The first word of a compact row in which a record was read, and stays.
-fn first_look<R: CompactRows>(rows: &R, pass: &mut R::Pass, row: u32) -> u64
-    requires has { (content : Record) × R.has rows.now pass.old row content }
-    requires spelt { (content : Record) → R.has rows.now pass.old row content → IsCompact content (compact_words content) }
-    ensures same { pass.new ≡ pass.old }
-    ensures word { (content : Record) → R.has rows.now pass.old row content → result ≡ slice_index (compact_words content) 0 }
-{
-    rows.look(pass, row, 0)
+        ensures { (row : Self.Row) (content : Record) → has self.now pass.now row content → IsCompact content (compact_words content) };
 }
 
 /// Word `at` of the row of `record_slots` that spells the record which was read in this compact row, and stays; by the first word of the
@@ -77,7 +45,7 @@ fn first_look<R: CompactRows>(rows: &R, pass: &mut R::Pass, row: u32) -> u64
 pub fn look_spread<R: CompactRows>(
     rows: &R,
     pass: &mut R::Pass,
-    row: u32,
+    row: R::Row,
     first: u64,
     at: usize,
 ) -> u64
@@ -112,7 +80,13 @@ fn header_seen(first: u64, at: usize) -> u64
 }
 
 /// A word of the PID and the two keys.
-fn keys_look<R: CompactRows>(rows: &R, pass: &mut R::Pass, row: u32, first: u64, at: usize) -> u64
+fn keys_look<R: CompactRows>(
+    rows: &R,
+    pass: &mut R::Pass,
+    row: R::Row,
+    first: u64,
+    at: usize,
+) -> u64
     requires has { (content : Record) × R.has rows.now pass.old row content }
     requires spelt { (content : Record) → R.has rows.now pass.old row content → IsCompact content (compact_words content) }
     requires first { (content : Record) → R.has rows.now pass.old row content → first ≡ slice_index (compact_words content) 0 }
@@ -151,7 +125,7 @@ fn keys_look<R: CompactRows>(rows: &R, pass: &mut R::Pass, row: u32, first: u64,
 fn text_look<R: CompactRows>(
     rows: &R,
     pass: &mut R::Pass,
-    row: u32,
+    row: R::Row,
     at: usize,
     size: u64,
     place: usize,
@@ -173,7 +147,7 @@ fn text_look<R: CompactRows>(
 fn items_look<R: CompactRows>(
     rows: &R,
     pass: &mut R::Pass,
-    row: u32,
+    row: R::Row,
     first: u64,
     place: usize,
 ) -> u64
@@ -196,7 +170,7 @@ fn items_look<R: CompactRows>(
 fn item_look<R: CompactRows>(
     rows: &R,
     pass: &mut R::Pass,
-    row: u32,
+    row: R::Row,
     first: u64,
     count: usize,
     item: usize,
@@ -238,7 +212,7 @@ fn item_look<R: CompactRows>(
 fn rest_look<R: CompactRows>(
     rows: &R,
     pass: &mut R::Pass,
-    row: u32,
+    row: R::Row,
     level: u64,
     code: u64,
     place: usize,

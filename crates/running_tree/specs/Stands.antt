@@ -8,6 +8,8 @@ use Rattle.traces.specs.discipline.Knowledge.{knows}
 use Rattle.table_rule.specs.declared.view.Reach.TheVariants.{Idle}
 use Rattle.table_rule.specs.Steps.{HasReadRecord}
 use Rattle.table_rule.specs.Views.{Mine, SitsAt, seen_of}
+use Rattle.tree_words.specs.Layout.{row_at}
+use Rattle.running_tree.specs.declared.desk.PlacedRow.{PlacedRow}
 
 -- the record that the actor has read in a row, or some record where it has read none
 abbrev pub read_by : Mine → ℕ → ℕ → Record
@@ -19,3 +21,8 @@ pub record Stands (limits : Limits) (table seat : TableId) (actor : ℕ) (me : M
   pub there : row < limits.rows
   pub sits : SitsAt limits actor Idle me
   pub read : HasReadRecord (knows (seen_of me) actor) row content
+
+-- The same of a row with the place of its first word.
+pub record StandsAt (limits : Limits) (table seat : TableId) (actor : ℕ) (me : Mine) (row : PlacedRow) (content : Record) : Type 0 where
+  pub stands : Stands limits table seat actor me row.row content
+  pub place : row.place ≡ row_at limits row.row 0

@@ -5,7 +5,7 @@ ghost use Rattle.record_slots.specs.Spelling.{words_of};
 ghost use Rattle.record_slots.specs.Spells.{HasSpelling};
 ghost use Rattle.record_slots.specs.declared.layout.TheConstants.{ROW_WORDS};
 ghost use Rattle.tree_words.specs.Words.{stored, used_in};
-ghost use Rattle.running_tree.specs.Stands.{Stands};
+ghost use Rattle.running_tree.specs.Stands.{StandsAt};
 
 use crate::lawful_runs::runs_keep_rows_apart;
 use crate::tree::Tree;
@@ -13,12 +13,20 @@ use compact_rows::{CompactRows, look_spread, records_have_room};
 use row_search::Rows;
 use std::alloc::Allocator;
 use table_rule::{TableSeat, look_at};
+use tree_words::row_place;
 
 /// A seat at the table of words, and the actor whose seat it is: by it rows are looked at.
 #[derive(Drop)]
 pub struct Desk {
     pub(crate) place: TableSeat,
     pub(crate) number: u8,
+}
+
+/// A row, and the place of its first word.
+#[derive(Clone, Copy)]
+pub struct PlacedRow {
+    pub(crate) row: u32,
+    pub(crate) place: usize,
 }
 
 impl<A: Allocator> Rows for Tree<A> {
@@ -33,6 +41,10 @@ impl<A: Allocator> Rows for Tree<A> {
     /// Loads, which are no steps: what the seat's actor has read stays until it leaves. In a small tree it is one.
     #[inline]
     fn look(&self, pass: &mut Desk, row: u32, at: usize) -> u64 {
+        let row = PlacedRow {
+            row,
+            place: row_place(&self.limits, row),
+        };
         if self.limits.is_large {
             return look_compact(self, pass, row, at);
         }
@@ -43,16 +55,17 @@ impl<A: Allocator> Rows for Tree<A> {
 impl<A: Allocator> CompactRows for Tree<A> {
     ghost use Rattle.std.specs.Prelude.{◌≡◌, true};
     ghost use Rattle.record_slots.specs.Spells.{HasSpelling};
-    ghost use Rattle.running_tree.specs.Stands.{Stands, read_by};
+    ghost use Rattle.running_tree.specs.Stands.{StandsAt};
 
     type Pass = Desk;
 
-    ghost content = { λ desk row. read_by desk.place.me desk.number row };
+    type Row = PlacedRow;
 
-    ghost has = { λ tree desk row content. Stands tree.limits tree.table desk.place.table_id desk.number desk.place.me row content × HasSpelling content × (tree.limits.is_large ≡ true) };
+    ghost has = { λ tree desk row content. StandsAt tree.limits tree.table desk.place.table_id desk.number desk.place.me row content × HasSpelling content
+        × (tree.limits.is_large ≡ true) };
 
     #[inline]
-    fn look(&self, pass: &mut Desk, row: u32, at: usize) -> u64 {
+    fn look(&self, pass: &mut Desk, row: PlacedRow, at: usize) -> u64 {
         records_have_room();
         look_word(self, pass, row, at)
     }
@@ -65,13 +78,13 @@ impl<A: Allocator> CompactRows for Tree<A> {
 
 /// A word that a record has in its row, by one load.
 #[inline]
-fn look_word<A: Allocator>(tree: &Tree<A>, desk: &mut Desk, row: u32, at: usize) -> u64
-    requires has { (content : Record) × Stands tree.now.limits tree.now.table desk.old.place.table_id desk.old.number desk.old.place.me row content }
+fn look_word<A: Allocator>(tree: &Tree<A>, desk: &mut Desk, row: PlacedRow, at: usize) -> u64
+    requires has { (content : Record) × StandsAt tree.now.limits tree.now.table desk.old.place.table_id desk.old.number desk.old.place.me row content }
     requires within { at < ROW_WORDS }
     ensures same { desk.new ≡ desk.old }
-    ensures word { (content : Record) → Stands tree.now.limits tree.now.table desk.old.place.table_id desk.old.number desk.old.place.me row content
+    ensures word { (content : Record) → StandsAt tree.now.limits tree.now.table desk.old.place.table_id desk.old.number desk.old.place.me row content
         → at < used_in tree.now.limits (Some content) → result ≡ slice_index (stored tree.now.limits content) at }
-    ensures spelt { (content : Record) → Stands tree.now.limits tree.now.table desk.old.place.table_id desk.old.number desk.old.place.me row content → HasSpelling content }
+    ensures spelt { (content : Record) → StandsAt tree.now.limits tree.now.table desk.old.place.table_id desk.old.number desk.old.place.me row content → HasSpelling content }
 {
     runs_keep_rows_apart();
     look_at(
@@ -79,18 +92,19 @@ fn look_word<A: Allocator>(tree: &Tree<A>, desk: &mut Desk, row: u32, at: usize)
         &mut desk.place,
         &tree.limits,
         desk.number,
-        row,
+        row.row,
+        row.place,
         at,
     )
 }
 
 /// A word of the spelling of a record of a large tree.
-fn look_compact<A: Allocator>(tree: &Tree<A>, desk: &mut Desk, row: u32, at: usize) -> u64
-    requires has { (content : Record) × Stands tree.now.limits tree.now.table desk.old.place.table_id desk.old.number desk.old.place.me row content }
+fn look_compact<A: Allocator>(tree: &Tree<A>, desk: &mut Desk, row: PlacedRow, at: usize) -> u64
+    requires has { (content : Record) × StandsAt tree.now.limits tree.now.table desk.old.place.table_id desk.old.number desk.old.place.me row content }
     requires within { at < ROW_WORDS }
     requires large { tree.now.limits.is_large ≡ true }
     ensures same { desk.new ≡ desk.old }
-    ensures word { (content : Record) → Stands tree.now.limits tree.now.table desk.old.place.table_id desk.old.number desk.old.place.me row content
+    ensures word { (content : Record) → StandsAt tree.now.limits tree.now.table desk.old.place.table_id desk.old.number desk.old.place.me row content
         → result ≡ slice_index (words_of content) at }
 {
     let first = look_word(tree, desk, row, 0);

@@ -9,6 +9,7 @@ ghost use Rattle.table_rule.specs.declared.view.Reach.TheVariants.{Idle};
 ghost use Rattle.table_rule.specs.Running.{KeepsRowsApart, KnowsReadable};
 ghost use Rattle.table_rule.specs.Steps.{HasReadRecord, IsLawfulStep, ReadsFirst};
 ghost use Rattle.record_slots.specs.Spells.{HasSpelling};
+ghost use Rattle.tree_words.specs.Layout.{row_at};
 ghost use Rattle.tree_words.specs.Words.{stored, used_in};
 ghost use Rattle.table_rule.specs.Views.{SitsAt, IsOf, seen_of};
 
@@ -39,19 +40,21 @@ pub fn read_first<P: Law>(
     words.load::<Reading<P>>(seat, row_place(limits, row))
 }
 
-/// Looks at a word of a row whose record the seat's actor has read since it entered, by one load. That is no step, and the seat stays as it
-/// is: nobody places anything there before the actor leaves.
+/// Looks at a word of a row whose record the seat's actor has read since it entered, by one load, and by the place of the row's first word. That is no
+/// step, and the seat stays as it is: nobody places anything there before the actor leaves.
 pub fn look_at<P: Law>(
     words: &Words<P>,
     seat: &mut TableSeat,
     limits: &Limits,
     actor: u8,
     row: u32,
+    place: usize,
     at: usize,
 ) -> u64
     requires law { KeepsRowsApart limits.now (P.law limits.now) }
     requires table { IsOf limits.now words.now.key words.now.table_id seat.old.table_id }
     requires range { row < limits.now.rows }
+    requires place { place ≡ row_at limits.now row 0 }
     requires word { at < ROW_WORDS }
     requires seat { SitsAt limits.now actor Idle seat.old.me }
     requires known { KnowsReadable (knows (seen_of seat.old.me) actor) row }
@@ -60,6 +63,8 @@ pub fn look_at<P: Law>(
         → result ≡ slice_index (stored limits.now content) at }
     ensures spelt { (content : Record) → HasReadRecord (knows (seen_of seat.old.me) actor) row content → HasSpelling content }
 {
+    let _ = limits;
     let _ = actor;
-    words.load::<Looking>(seat, row_place(limits, row) + at)
+    let _ = row;
+    words.load::<Looking>(seat, place + at)
 }

@@ -6,7 +6,7 @@ use Rattle.table_rule.proofs.reading.look_at.Goals as goal
 pub load-requires : goal.load-requires
 load-requires g c =
     let wide = c.requires.table.wide in
-    let base = c.row_place.ensures in
+    let base = c.requires.place in
     let inside = row_within c.args.limits.now c.args.row c.requires.range in (
       c.requires.table.same,
       omega (arith, c.requires.range, c.requires.word, wide, base, inside),
@@ -16,12 +16,12 @@ load-requires g c =
 
 pub returns-clause-found : goal.returns-clause-found
 returns-clause-found g c content has used =
-    let base = c.row_place.ensures in
+    let base = c.requires.place in
     c.load.ensures.2.1 c.args.limits.now c.args.actor c.args.row c.args.at content c.requires.seat c.requires.word used has (omega (arith, base))
 
 pub returns-clause-spelt : goal.returns-clause-spelt
 returns-clause-spelt g c content has =
-    let base = c.row_place.ensures in
+    let base = c.requires.place in
     c.load.ensures.2.2 c.args.limits.now c.args.actor c.args.row c.args.at content c.requires.seat c.requires.word has (omega (arith, base))
 
 -- A seat is its table, its number, and what it knows.
@@ -30,5 +30,5 @@ returns-clause-same g c =
     let told = c.load.ensures in
     λ i. record { marker = record {}; table_id = told.0 i; id = told.1 i; me = told.2.0 i }
 
-pub overflow_add-row_place : goal.overflow_add-row_place
-overflow_add-row_place g c = let few = row_few c.args.limits.now c.args.row c.requires.range in omega (arith, few, c.row_place.ensures, c.requires.word)
+pub overflow_add-place : goal.overflow_add-place
+overflow_add-place g c = let few = row_few c.args.limits.now c.args.row c.requires.range in omega (arith, few, c.requires.place, c.requires.word)
