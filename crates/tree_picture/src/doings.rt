@@ -4,13 +4,13 @@ ghost use Rattle.op_machine.specs.machine.Actors.{IsActorShown};
 ghost use Rattle.tree_picture.specs.Cells.{limbo_cells};
 ghost use Rattle.tree_picture.specs.Pages.{with_cells};
 
-use crate::Cell;
 use crate::cells::{cell_box, limbo_boxes};
 use crate::places::{CELL_HEIGHT, CELL_WIDTH, CELLS, LEFT};
 use crate::sheet::Sheet;
 use crate::steps::{command_words, step_words};
 use crate::words::Words;
 use crate::write::{with_key, with_number};
+use crate::{Cell, Stand};
 use bw_model::Key;
 use core_memory::CoreRows;
 use op_machine::{Actor, Hand};
@@ -25,15 +25,17 @@ pub(crate) fn actor_lines(
     number: u8,
     actor: &Actor<CoreRows>,
     announced: u64,
+    stands: &[Stand],
     y: u64,
 ) -> Result<u64, AllocError>
     requires { IsActorShown actor.now }
     ensures { OnOk result (sheet.new ≡ with_cells sheet.old (Cell.Epoch number announced ∷ limbo_cells true number actor.now.hand.limbo.rows.entries
         ++ limbo_cells false number actor.now.hand.limbo.pids.entries)) }
 {
+    let stand = stands.iter().find(|stand| stand.actor == number);
     cell_box(sheet, Cell::Epoch(number, announced), LEFT, y)?;
     let x = LEFT + CELL_WIDTH + 16;
-    sheet.words(x, y.saturating_add(14), 12, doing(actor));
+    sheet.words(x, y.saturating_add(14), 12, doing(actor, stand));
     sheet.words(x, y.saturating_add(32), 12, kept(actor.hand()));
     let limbo = actor.hand().limbo();
     let rows = limbo.rows();
@@ -47,8 +49,8 @@ pub(crate) fn actor_lines(
     Ok(under.saturating_add(lines.saturating_mul(CELL_HEIGHT).saturating_add(12)))
 }
 
-/// What it was asked, the step that it wants, and its errands.
-fn doing(actor: &Actor<CoreRows>) -> Words
+/// What it was asked, where it stands, the step that it wants, and its errands.
+fn doing(actor: &Actor<CoreRows>, stand: Option<&Stand>) -> Words
     requires { IsActorShown actor.now }
 {
     let mut words = Words::new();
@@ -58,6 +60,9 @@ fn doing(actor: &Actor<CoreRows>) -> Words
     }
     if let Some(command) = actor.command() {
         command_words(&mut words, command);
+    }
+    if let Some(stand) = stand {
+        with_number(&mut words, b"; at PID ", u64::from(stand.page));
     }
     words.add(b"; wants to ");
     step_words(&mut words, &actor.wanted());

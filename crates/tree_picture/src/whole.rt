@@ -11,7 +11,6 @@ ghost use Rattle.tree_picture.specs.Ranges.{all_ranges};
 ghost use Rattle.tree_picture.specs.RecordLines.{all_records};
 ghost use Rattle.tree_picture.specs.Stands.{all_stands, stands_in};
 
-use crate::Scene;
 use crate::doings::actor_lines;
 use crate::frame::{counts, head, legend, title};
 use crate::levels::{all_links, rows};
@@ -19,6 +18,7 @@ use crate::places::{DROP, LEFT, SLOTS_TOP, TOP, first_x, width_of};
 use crate::sheet::{Picture, Sheet};
 use crate::slots::{slot_boxes, slots_bottom};
 use crate::stands::stands_of;
+use crate::{Scene, Stand};
 use std::alloc::{AllocError, Global};
 use step_core::Core;
 
@@ -58,7 +58,7 @@ pub fn picture(alloc: Global, scene: &Scene, core: &Core) -> Result<Picture, All
         end.saturating_sub(DROP / 2),
         slots_bottom(scene.slots(), SLOTS_TOP),
     );
-    let y = all_actors(&mut sheet, core, under)?;
+    let y = all_actors(&mut sheet, core, stands.as_slice(), under)?;
     let height = larger(legend(&mut sheet, y), end);
     sheet.finish(width, height, title(), counts(scene))
 }
@@ -71,7 +71,7 @@ fn larger(one: u64, other: u64) -> u64
 }
 
 /// All actors from a height on, and the height behind them.
-fn all_actors(sheet: &mut Sheet, core: &Core, y: u64) -> Result<u64, AllocError>
+fn all_actors(sheet: &mut Sheet, core: &Core, stands: &[Stand], y: u64) -> Result<u64, AllocError>
     ensures { OnOk result ((actors : List ActorSeen) × AreActors core.now.limits core.now.entries core.now.demand.wanted actors
         × (sheet.new ≡ with_cells sheet.old (cells_from (memory_of core.now.limits core.now.entries) 0 actors))) }
 {
@@ -81,7 +81,7 @@ fn all_actors(sheet: &mut Sheet, core: &Core, y: u64) -> Result<u64, AllocError>
             unreachable!()
         };
         let announced = core.memory().announced(number);
-        y = actor_lines(sheet, number, actor, announced, y)?;
+        y = actor_lines(sheet, number, actor, announced, stands, y)?;
     }
     Ok(y)
 }
