@@ -6,18 +6,19 @@ use Rattle.traces.specs.trace.Trace.{memory_of}
 use Rattle.tree_picture.specs.Scenes.{Scene, IsSceneOf}
 use Rattle.shell_lines.specs.declared.request.Language.TheVariants.{Weave}
 use Rattle.tree_picture.specs.declared.shape.Shape.{Shape}
+use Rattle.tree_picture.specs.Cells.{AreActors, cells_from}
 use Rattle.tree_picture.specs.Document.{IsWellFormed}
 use Rattle.tree_picture.specs.Elements.{document_text}
 use Rattle.tree_picture.specs.Layout.{AreLaidOut}
 use Rattle.tree_picture.specs.Marks.{AreMarked}
-use Rattle.tree_picture.specs.Pages.{boxes_of, marks_of, pids_of, ranges_of, records_of, slots_of, stands_of}
+use Rattle.tree_picture.specs.Pages.{boxes_of, cells_of, marks_of, pids_of, ranges_of, records_of, slots_of, stands_of}
 use Rattle.tree_picture.specs.Pids.{all_pids}
 use Rattle.tree_picture.specs.Ranges.{all_ranges}
 use Rattle.tree_picture.specs.RecordLines.{all_records}
 use Rattle.tree_picture.specs.Stands.{all_stands, stands_in}
 use Rattle.bw_model.specs.declared.step.Step.{Step as StepOf}
 use Rattle.deltas.specs.declared.record.Record.{Record}
-use Rattle.step_core.specs.Actors.{AreWanted}
+use Rattle.op_machine.specs.machine.Actors.{Actor}
 use Rattle.bw_shell.specs.declared.refusal.Refusal.TheVariants.{Memory, NotOpened}
 use Rattle.bw_shell.specs.declared.refusal.RefusedLine.{RefusedLine}
 use Rattle.byte_streams.specs.Output.{Writes}
@@ -27,7 +28,8 @@ use Rattle.bw_shell.specs.Weave.{IsTranscriptFrom}
 
 -- The slots among the shapes are exactly those of the memory after the trace that aren't 0, each with what it has, in their order. The pages among the shapes are
 -- exactly those of the side chains of that memory, level by level from the root's level down, each from left to right, and each has its range in words, and is
--- marked by how it stands to the level above. At each stand exactly the actors whose operation read its slot last, each with the row that its next step reads. All their records, and the items of bases and merges, have their lines in words, in that order, each drawn as one that
+-- marked by how it stands to the level above. At each stand exactly the actors whose operation read its slot last, each with the row that its next step reads. The
+-- cells are those of the actors: of each the epoch that it has announced, and all that it has in limbo. All records of the pages, and the items of bases and merges, have their lines in words, in that order, each drawn as one that
 -- counts where no newer record of its chain names its key, else as one that was taken away. Their boxes lie in a sheet of this width and height, each later one to
 -- the right or below. The texts of each box end in it (`PageBox`).
 pub record IsShown (trace : Trace) (wanted : List (Option (StepOf Record))) (width height : ℕ) (shapes : List Shape) : Type 0 where
@@ -36,8 +38,11 @@ pub record IsShown (trace : Trace) (wanted : List (Option (StepOf Record))) (wid
   pub pages : pids_of shapes ≡ all_pids scene.levels
   pub ranges : ranges_of shapes ≡ all_ranges scene.levels
   pub records : records_of shapes ≡ all_records scene.levels
-  pub actors : stands_of shapes ≡ all_stands (stands_in trace.limits trace.entries wanted) scene.levels
+  pub standing : stands_of shapes ≡ all_stands (stands_in trace.limits trace.entries wanted) scene.levels
   pub slots : slots_of shapes ≡ scene.slots
+  pub actors : List Actor
+  pub are : AreActors trace.limits trace.entries wanted actors
+  pub cells : cells_of shapes ≡ cells_from (memory_of trace.limits trace.entries) 0 actors
   pub marks : AreMarked scene.root [] scene.levels (marks_of shapes)
   pub laid : AreLaidOut width height (boxes_of shapes)
 
@@ -69,11 +74,10 @@ abbrev pub IsDrawingOf : Limits → Option (List ℕ) → List ℕ → Bool → 
 IsDrawingOf limits left taken read_failed text drawn =
     -- no core could be opened
     ((taken ≡ []) × (read_failed ≡ false) × (text ≡ lone_refusal_text NotOpened) × (drawn ≡ false))
-    -- the lines were run as `weave` runs them, by turns that took effect one at a time, on one ordered map; what they print is not written; and actors stand by
-    -- the steps that their operations want
+    -- the lines were run as `weave` runs them, by turns that took effect one at a time, on one ordered map; what they print is not written
     ⊎ ((after : Trace) × (wanted : List (Option (StepOf Record))) × (printed : List ℕ) × (refused : Option RefusedLine)
     × IsTranscriptFrom Weave (opening_trace limits) left taken read_failed after printed refused false × IsOneMap after
-    × AreWanted after.limits after.entries wanted × IsDrawnBehind refused read_failed after wanted text drawn)
+    × IsDrawnBehind refused read_failed after wanted text drawn)
 
 -- The whole run: what is taken from the reader, the text for it, whether that is a picture, and how much of it was written. The status
 -- is 0 exactly where a whole picture was.

@@ -11,7 +11,7 @@ ghost use Rattle.tree_picture.specs.declared.shape.TheConstants.{STAND_DROP, STA
 use byte_streams::Output;
 use itoa::Buffer;
 use tree_picture::{
-    Colour, INSET, Line, MARK_INSET, NAME_DROP, PageBox, Picture, RANGE_DROP, RecordLine,
+    CellBox, Colour, INSET, Line, MARK_INSET, NAME_DROP, PageBox, Picture, RANGE_DROP, RecordLine,
     Rectangle, SLOT_DROP, SLOT_INSET, STAND_DROP, STAND_ROW, Shape, SlotBox, Stand, Text, Words,
 };
 
@@ -358,6 +358,16 @@ fn show_slot<O: Output>(out: &mut O, slot: &SlotBox)
     show_label(out, &slot.rectangle, SLOT_INSET, SLOT_DROP, plain, words);
 }
 
+/// The box of a cell, and the words in it.
+fn show_cell<O: Output>(out: &mut O, cell: &CellBox)
+    ensures { Prints (O.state out.old) (O.state out.new) (flat_map element_text (elements_of (Shape.Cell cell.now))) }
+{
+    show_box(out, &cell.rectangle);
+    let plain = style(11, false, Colour::Ink);
+    let words = cell.words.as_slice();
+    show_label(out, &cell.rectangle, SLOT_INSET, SLOT_DROP, plain, words);
+}
+
 fn show_shape<O: Output>(out: &mut O, shape: &Shape)
     ensures { Prints (O.state out.old) (O.state out.new) (flat_map element_text (elements_of shape.now)) }
 {
@@ -367,6 +377,7 @@ fn show_shape<O: Output>(out: &mut O, shape: &Shape)
         Shape::Line(line) => show_line(out, line),
         Shape::Record(line) => show_record(out, line),
         Shape::Slot(slot) => show_slot(out, slot),
+        Shape::Cell(cell) => show_cell(out, cell),
         Shape::Text(text) => show_text(out, text),
     }
 }

@@ -68,7 +68,6 @@ fn show_run<I: Input, O: Output>(alloc: Global, limits: Limits, input: &mut I, o
         return false;
     };
     woven.core.linearized();
-    woven.core.wants();
     show_woven(alloc, &woven, input.has_failed(), out)
 }
 

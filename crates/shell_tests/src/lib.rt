@@ -41,6 +41,7 @@ mod numbered;
 #[cfg(test)]
 mod parts;
 #[cfg(test)]
+mod picture_actors;
 mod picture_commands;
 #[cfg(test)]
 mod picture_items;

@@ -81,7 +81,7 @@ fn drawn_with_all(alloc: Global, limits: Limits) -> Result<Option<Vec<u8>>, Allo
 fn each_byte_is_drawn(rt: HostRuntime) -> Result<(), Fail> {
     let limits = Limits::new(2, 256, 1024, 1)?;
     let pages = match drawn_with_all(rt.alloc(), limits)? {
-        Some(text) => count(text.as_slice(), b" id=\"page-"),
+        Some(text) => count(text.as_slice(), b" class=\"page-"),
         None => 0,
     };
     assert!(rt; pages > 60);

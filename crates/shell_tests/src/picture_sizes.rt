@@ -22,7 +22,7 @@ fn has_pages(
     };
     let text = text.as_slice();
     Ok(
-        count(text, b" id=\"page-") == pages
+        count(text, b" class=\"page-") == pages
             && count(text, b">PID ") == pages
             && count(text, width) == 1
             && count(text, free) == 2,

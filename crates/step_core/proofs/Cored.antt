@@ -34,13 +34,13 @@ use Rattle.traces.specs.discipline.Recalled.{Recalled, blank, recall, recalls, r
 use Rattle.op_machine.specs.machine.Actors.{Actor, ActsOn, IsActor, IsActorShown, IsActorWith, command_at, command_left, idle_actor, running_command, wanted_by}
 use Rattle.op_machine.specs.machine.Hands.{Hand}
 use Rattle.op_machine.specs.machine.UnderWay.{UnderWay, steps_due}
-use Rattle.step_core.specs.Actors.{AreWanted, IsReady, IsServedAt, IsWithinAt, wanted_in}
+use Rattle.step_core.specs.Actors.{IsReady, IsServedAt, IsWithinAt, wanted_in}
 use Rattle.step_core.proofs.Lawful.{Asks, asks, is_placed, read_stands, served_at, within_at}
 use Rattle.progress.specs.ReaderStates.{IsReadersState, PaysReader, ReadersGoOn}
 use Rattle.progress.specs.WriterStates.{IsWritersState, PaysWriter, WritersGoOn}
 use Rattle.step_core.specs.Cores.{IsCore, Pays}
 use Rattle.step_core.specs.Turns.{Core, Demand, KeepsMore, LeavesAt, WantsMemory, busy_of, refused_by, refusal_of}
-use Rattle.step_core.proofs.Replaced.{get_is, get_some, set_cases, set_length, set_other}
+use Rattle.step_core.proofs.Replaced.{get_is, set_cases, set_length, set_other}
 use Rattle.deltas.proofs.Replaced.{replaced_same, replaced_other}
 use Rattle.traces.proofs.Pushes.{slice_get_below}
 
@@ -203,17 +203,6 @@ module _ (limits : Limits) where
   core_next actors entries i at room v is found =
       subst (λ (u : Core). slice_get u.demand.wanted i ≡ Some (wanted_by at.running)) is
       (slice_get-map (λ (a : Actor). wanted_by a.running) actors i ∙ ap (option_map (λ (a : Actor). wanted_by a.running)) found)
-
-  -- the same of all actors, each of which keeps what its entries show
-  pub core_wanting : (table : CoreTable) (actors : List Actor) (entries : List Entry) (room : ℕ) → IsCore limits table actors entries
-      → (v : Core) → record { limits = limits; entries = entries; demand = record { room = room; wanted = wanted_in actors } } ≡ v
-      → AreWanted v.limits v.entries v.demand.wanted
-  core_wanting table actors entries room core v is = λ i there.
-      let limited : limits ≡ v.limits = ap (λ (u : Core). u.limits) is in
-      let few : i < limits.actors = subst (λ (l : Limits). i < l.actors) (sym limited) there in
-      let found = get_some actors i (subst (λ n. i < n) (sym core.count) few) in
-      let seen = core_seen table actors entries i found.0 core (record { room = room; wanted = wanted_in actors }) v is found.1 in
-      (found.0, seen.0, seen.1, core_next actors entries i found.0 room v is found.1)
 
   -- the actor of a turn that goes on with its operation shows what is known
   pub core_shown : (table : CoreTable) (actors : List Actor) (entries : List Entry) (i j : ℕ) (old : Actor) → IsCore limits table actors entries

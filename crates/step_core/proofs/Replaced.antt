@@ -8,11 +8,6 @@ get_is [] i x h e = absurd (omega arith)
 get_is (y ∷ xs) zero x h e = ap Some (sym e)
 get_is (y ∷ xs) (suc i) x h e = get_is xs i x (omega arith) e
 
-pub get_some : {X : Type 0} (xs : List X) (i : ℕ) → i < length xs → (x : X) × (slice_get xs i ≡ Some x)
-get_some [] i h = absurd (omega arith)
-get_some (y ∷ xs) zero h = (y, refl)
-get_some (y ∷ xs) (suc i) h = get_some xs i (omega arith)
-
 -- what stands at one place is one
 pub get_same : {X : Type 0} (xs : List X) (i j : ℕ) (x y : X) → i ≡ j → i < length xs → x ≡ get_or xs i x → y ≡ get_or xs j y → x ≡ y
 get_same xs i j x y same h e f = same_Some x y (sym (get_is xs i x h e) ∙ get_is xs i y h (subst (λ k. y ≡ get_or xs k y) (sym same) f))

@@ -1,5 +1,5 @@
 -- What an actor of a core has of the memory.
-use Rattle.std.specs.Prelude.{◌≡◌, ◌<◌, ℕ, List, Option, Some, None, map, slice_get}
+use Rattle.std.specs.Prelude.{ℕ, List, Option, Some, None, map}
 use Rattle.bw_model.specs.declared.command.Command.{Command}
 use Rattle.tree_limits.specs.declared.limits.Limits.{Limits}
 use Rattle.bw_model.specs.declared.step.Answer.{Answer}
@@ -8,11 +8,9 @@ use Rattle.deltas.specs.declared.record.Record.{Record}
 use Rattle.deltas.specs.Memory.{Memory}
 use Rattle.op_machine.specs.machine.Actors.{Actor, IsActor, running_command, wanted_by}
 use Rattle.traces.specs.discipline.Fitting.{Fits}
-use Rattle.traces.specs.declared.trace.Entry.{Entry}
-use Rattle.traces.specs.discipline.Knowledge.{Knowledge, knows}
-use Rattle.traces.specs.discipline.Recalled.{Recalled, recalls}
+use Rattle.traces.specs.discipline.Knowledge.{Knowledge}
+use Rattle.traces.specs.discipline.Recalled.{Recalled}
 use Rattle.traces.specs.trace.Steps.{IsAnswer}
-use Rattle.traces.specs.trace.Trace.{command_of}
 use Rattle.core_memory.specs.Looks.{StandsIn}
 use Rattle.core_memory.specs.Tables.{CoreTable, IsWithinTable}
 use Rattle.round_model.specs.Machines.{AreThere}
@@ -35,12 +33,6 @@ IsReady limits actor k r memory at = IsActor limits actor k r at × IsServedAt l
 -- the step that each actor's operation wants, if it has one
 abbrev pub wanted_in : List Actor → List (Option (StepOf Record))
 wanted_in actors = map (λ (at : Actor). wanted_by at.running) actors
-
--- Each actor keeps what its own entries show, has the operation that they have not finished, and wants this step next.
-abbrev pub AreWanted : Limits → List Entry → List (Option (StepOf Record)) → Type 0
-AreWanted limits entries wanted =
-    (actor : ℕ) → actor < limits.actors
-    → (at : Actor) × IsActor limits actor (knows entries actor) (recalls entries actor) at × (running_command at ≡ command_of entries actor) × (slice_get wanted actor ≡ Some (wanted_by at.running))
 
 -- the step that is wanted ends a page of either direction
 abbrev pub IsPageEnd : Option Command → Option (StepOf Record) → Type 0

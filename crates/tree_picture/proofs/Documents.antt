@@ -6,7 +6,7 @@ use Rattle.std.proofs.lemmas.Grind.{flat_map-append}
 use Rattle.tree_picture.specs.declared.shape.Rectangle.{Rectangle}
 use Rattle.tree_picture.specs.declared.shape.Shape.{Shape}
 use Rattle.tree_picture.specs.declared.stands.Stand.{Stand}
-use Rattle.tree_picture.specs.declared.shape.Shape.TheVariants.{Page, Box, Record, Line, Slot, Text}
+use Rattle.tree_picture.specs.declared.shape.Shape.TheVariants.{Page, Box, Record, Line, Slot, Cell, Text}
 use Rattle.tree_picture.specs.Document.{Element, IsElement, IsWellFormed, close_text, element_text, open_text}
 use Rattle.tree_picture.specs.Elements.{document_attributes, document_text, elements_of, head_elements, stand_elements}
 
@@ -23,6 +23,7 @@ each_of (Page page) = (refl, (refl, (refl, (refl, stands_are page.rectangle 0 pa
 each_of (Box r) = (refl, tt)
 each_of (Record line) = (refl, tt)
 each_of (Slot slot) = (refl, (refl, tt))
+each_of (Cell cell) = (refl, (refl, tt))
 each_of (Line line) = (refl, tt)
 each_of (Text text) = (refl, tt)
 

@@ -1,3 +1,4 @@
+mod Celling
 mod Descents
 mod Documents
 mod Drawn

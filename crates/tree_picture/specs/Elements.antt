@@ -8,7 +8,7 @@ use Rattle.tree_picture.specs.declared.shape.PageBox.{PageBox}
 use Rattle.tree_picture.specs.declared.shape.RecordLine.{RecordLine}
 use Rattle.tree_picture.specs.declared.shape.Rectangle.{Rectangle}
 use Rattle.tree_picture.specs.declared.shape.Shape.{Shape}
-use Rattle.tree_picture.specs.declared.shape.Shape.TheVariants.{Page, Box, Record, Line, Slot, Text}
+use Rattle.tree_picture.specs.declared.shape.Shape.TheVariants.{Page, Box, Record, Line, Slot, Cell, Text}
 use Rattle.tree_picture.specs.declared.shape.SlotBox.{SlotBox}
 use Rattle.tree_picture.specs.declared.shape.Text.{Text as TextOf}
 use Rattle.tree_picture.specs.declared.stands.Stand.{Stand}
@@ -92,15 +92,17 @@ box_element page = rectangle_element (attribute (codes "class") (codes "page-" +
 abbrev pub slot_element : SlotBox → Element
 slot_element slot = rectangle_element (attribute (codes "class") (codes "slot-" ++ decimal slot.slot.number) ∷ []) slot.rectangle
 
-abbrev pub words_in : SlotBox → TextOf
-words_in slot = record { x = slot.rectangle.x + SLOT_INSET; y = slot.rectangle.y + SLOT_DROP; size = 11; bold = false; colour = Ink; words = slot.words }
+-- the words in the box of a slot or of a cell
+abbrev pub words_in : Rectangle → List ℕ → TextOf
+words_in r words = record { x = r.x + SLOT_INSET; y = r.y + SLOT_DROP; size = 11; bold = false; colour = Ink; words = words }
 
--- A page's box is followed by its PID, its mark, its range and its actors, a slot's by its words.
+-- A page's box is followed by its PID, its mark, its range and its actors, a slot's or a cell's by its words.
 abbrev pub elements_of : Shape → List Element
 elements_of (Page page) = box_element page ∷ text_element (name_in page) ∷ text_element (mark_in page) ∷ text_element (range_in page) ∷ stand_elements page.rectangle 0 page.stands.items
 elements_of (Box r) = rectangle_element [] r ∷ []
 elements_of (Record line) = record_element line ∷ []
-elements_of (Slot slot) = slot_element slot ∷ text_element (words_in slot) ∷ []
+elements_of (Slot slot) = slot_element slot ∷ text_element (words_in slot.rectangle slot.words) ∷ []
+elements_of (Cell cell) = rectangle_element [] cell.rectangle ∷ text_element (words_in cell.rectangle cell.words) ∷ []
 elements_of (Line line) = line_element line ∷ []
 elements_of (Text text) = text_element text ∷ []
 

@@ -1,4 +1,5 @@
 pub mod Adding
+pub mod Cells
 pub mod Colours
 pub mod Document
 pub mod Elements

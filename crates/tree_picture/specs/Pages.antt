@@ -1,16 +1,18 @@
--- The pages and the slots of a picture.
+-- The pages, the slots and the cells of a picture.
 use Rattle.std.specs.Prelude.{ℕ, List, [], ◌∷◌, ◌++◌}
+use Rattle.tree_picture.specs.declared.cells.Cell.{Cell as CellOf}
 use Rattle.tree_picture.specs.declared.shape.Mark.{Mark}
 use Rattle.tree_picture.specs.declared.shape.PageBox.{PageBox}
 use Rattle.tree_picture.specs.declared.shape.RecordLine.{RecordLine as RecordLineOf}
 use Rattle.tree_picture.specs.declared.shape.Rectangle.{Rectangle}
 use Rattle.tree_picture.specs.declared.shape.Shape.{Shape}
-use Rattle.tree_picture.specs.declared.shape.Shape.TheVariants.{Page, Box, Record, Line, Slot, Text}
+use Rattle.tree_picture.specs.declared.shape.Shape.TheVariants.{Page, Box, Record, Line, Slot, Cell, Text}
 use Rattle.tree_picture.specs.declared.slots.Slot.{Slot as SlotOf}
 use Rattle.tree_picture.specs.declared.stands.Stand.{Stand}
 use Rattle.tree_picture.specs.RecordLines.{RecordLine}
 
--- the PIDs, the boxes, the words of the ranges and the marks of some pages, and the actors at each, all in the pages' order; the lines of the records in them; and slots
+-- the PIDs, the boxes, the words of the ranges and the marks of some pages, and the actors at each, all in the pages' order; the lines of the records in them; slots; and
+-- cells
 pub record DrawnPages : Type 0 where
   pub pids : List ℕ
   pub boxes : List Rectangle
@@ -19,8 +21,9 @@ pub record DrawnPages : Type 0 where
   pub stands : List (List Stand)
   pub records : List RecordLine
   pub slots : List SlotOf
+  pub cells : List CellOf
 
--- one page, one line of a record or one slot before some others
+-- one page, one line of a record, one slot or one cell before some others
 abbrev pub on_front : PageBox → DrawnPages → DrawnPages
 on_front page pages = record {
   pids = page.pid ∷ pages.pids;
@@ -30,13 +33,17 @@ on_front page pages = record {
   stands = page.stands.items ∷ pages.stands;
   records = pages.records;
   slots = pages.slots;
+  cells = pages.cells;
 }
 
 abbrev pub record_on_front : RecordLine → DrawnPages → DrawnPages
-record_on_front line pages = record { pids = pages.pids; boxes = pages.boxes; ranges = pages.ranges; marks = pages.marks; stands = pages.stands; records = line ∷ pages.records; slots = pages.slots }
+record_on_front line pages = record pages { records = line ∷ pages.records }
 
 abbrev pub slot_on_front : SlotOf → DrawnPages → DrawnPages
-slot_on_front slot pages = record { pids = pages.pids; boxes = pages.boxes; ranges = pages.ranges; marks = pages.marks; stands = pages.stands; records = pages.records; slots = slot ∷ pages.slots }
+slot_on_front slot pages = record pages { slots = slot ∷ pages.slots }
+
+abbrev pub cell_on_front : CellOf → DrawnPages → DrawnPages
+cell_on_front cell pages = record pages { cells = cell ∷ pages.cells }
 
 -- the words of a line that was drawn, and whether it is drawn as one that counts
 abbrev pub line_drawn : RecordLineOf → RecordLine
@@ -44,11 +51,12 @@ line_drawn line = record { words = line.words; counts = line.counts }
 
 -- what is among the shapes
 abbrev pub pages_in : List Shape → DrawnPages
-pages_in [] = record { pids = []; boxes = []; ranges = []; marks = []; stands = []; records = []; slots = [] }
+pages_in [] = record { pids = []; boxes = []; ranges = []; marks = []; stands = []; records = []; slots = []; cells = [] }
 pages_in (Page page ∷ shapes) = on_front page (pages_in shapes)
 pages_in (Box r ∷ shapes) = pages_in shapes
 pages_in (Record line ∷ shapes) = record_on_front (line_drawn line) (pages_in shapes)
 pages_in (Slot slot ∷ shapes) = slot_on_front slot.slot (pages_in shapes)
+pages_in (Cell cell ∷ shapes) = cell_on_front cell.cell (pages_in shapes)
 pages_in (Line line ∷ shapes) = pages_in shapes
 pages_in (Text text ∷ shapes) = pages_in shapes
 
@@ -73,7 +81,10 @@ records_of shapes = (pages_in shapes).records
 abbrev pub slots_of : List Shape → List SlotOf
 slots_of shapes = (pages_in shapes).slots
 
--- one page, some lines of records or some slots more
+abbrev pub cells_of : List Shape → List CellOf
+cells_of shapes = (pages_in shapes).cells
+
+-- one page, some lines of records, some slots or some cells more
 abbrev pub with_page : DrawnPages → PageBox → DrawnPages
 with_page pages page = record {
   pids = pages.pids ++ page.pid ∷ [];
@@ -83,10 +94,14 @@ with_page pages page = record {
   stands = pages.stands ++ page.stands.items ∷ [];
   records = pages.records;
   slots = pages.slots;
+  cells = pages.cells;
 }
 
 abbrev pub with_records : DrawnPages → List RecordLine → DrawnPages
-with_records pages lines = record { pids = pages.pids; boxes = pages.boxes; ranges = pages.ranges; marks = pages.marks; stands = pages.stands; records = pages.records ++ lines; slots = pages.slots }
+with_records pages lines = record pages { records = pages.records ++ lines }
 
 abbrev pub with_slots : DrawnPages → List SlotOf → DrawnPages
-with_slots pages slots = record { pids = pages.pids; boxes = pages.boxes; ranges = pages.ranges; marks = pages.marks; stands = pages.stands; records = pages.records; slots = pages.slots ++ slots }
+with_slots pages slots = record pages { slots = pages.slots ++ slots }
+
+abbrev pub with_cells : DrawnPages → List CellOf → DrawnPages
+with_cells pages cells = record pages { cells = pages.cells ++ cells }

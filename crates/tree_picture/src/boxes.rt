@@ -36,6 +36,7 @@ pub(crate) fn page_box(
     ensures marks { OnOk result (sheet.new.marks ≡ sheet.old.marks ++ mark ∷ []) }
     ensures stands { OnOk result (sheet.new.stands ≡ sheet.old.stands ++ page_stands stands.now page.now ∷ []) }
     ensures slots { OnOk result (sheet.new.slots ≡ sheet.old.slots) }
+    ensures cells { OnOk result (sheet.new.cells ≡ sheet.old.cells) }
     ensures records { OnOk result (sheet.new.records ≡ sheet.old.records ++ page_records page.now) }
     ensures laid { OnOk result ((width bottom next : ℕ) → AreLaidTo width bottom x y sheet.old.boxes → x + PAGE_WIDTH ≤ width → x + PAGE_WIDTH ≤ next
         → y + page_height page.now ≤ bottom → AreLaidTo width bottom next y sheet.new.boxes) }

@@ -1,51 +1,56 @@
 //! What each actor is doing, and what it keeps.
-ghost use Rattle.std.specs.Prelude.{◌≡◌};
+ghost use Rattle.std.specs.Prelude.{◌≡◌, ◌∷◌, ◌++◌, OnOk, false, true};
 ghost use Rattle.op_machine.specs.machine.Actors.{IsActorShown};
+ghost use Rattle.tree_picture.specs.Cells.{limbo_cells};
+ghost use Rattle.tree_picture.specs.Pages.{with_cells};
 
-use crate::colour::Colour;
-use crate::places::LEFT;
-use crate::shape::Text;
+use crate::cells::{cell_box, limbo_boxes};
+use crate::places::{CELL_HEIGHT, CELL_WIDTH, CELLS, LEFT};
 use crate::sheet::Sheet;
 use crate::steps::{command_words, step_words};
 use crate::words::Words;
 use crate::write::{with_key, with_number};
+use crate::{Cell, Stand};
 use bw_model::Key;
 use core_memory::CoreRows;
-use epochs::{Entry, Stage};
 use op_machine::{Actor, Hand};
+use std::alloc::AllocError;
 
-/// How many numbers or keys of a list are written.
+/// How many errands are written.
 const FEW: usize = 8;
 
-/// An actor: three lines, of which the first begins at the height `y`.
+/// An actor from a height on: the epoch that it has announced, what it is doing, what it keeps, and its limbo. Answers the height behind it.
 pub(crate) fn actor_lines(
     sheet: &mut Sheet,
     number: u8,
     actor: &Actor<CoreRows>,
     announced: u64,
+    stands: &[Stand],
     y: u64,
-)
+) -> Result<u64, AllocError>
     requires { IsActorShown actor.now }
-    ensures { sheet.new ≡ sheet.old }
+    ensures { OnOk result (sheet.new ≡ with_cells sheet.old (Cell.Epoch number announced ∷ limbo_cells true number actor.now.hand.limbo.rows.entries
+        ++ limbo_cells false number actor.now.hand.limbo.pids.entries)) }
 {
-    let mut words = Words::new();
-    with_number(&mut words, b"actor ", u64::from(number));
-    sheet.text(Text {
-        x: LEFT,
-        y,
-        size: 13,
-        bold: true,
-        colour: Colour::Ink,
-        words,
-    });
-    let x = LEFT + 70;
-    sheet.words(x, y, 12, doing(actor, announced));
-    sheet.words(x, y.saturating_add(16), 12, kept(actor.hand()));
-    sheet.words(x, y.saturating_add(32), 12, limbo(actor.hand()));
+    let stand = stands.iter().find(|stand| stand.actor == number);
+    cell_box(sheet, Cell::Epoch(number, announced), LEFT, y)?;
+    let x = LEFT + CELL_WIDTH + 16;
+    sheet.words(x, y.saturating_add(14), 12, doing(actor, stand));
+    sheet.words(x, y.saturating_add(32), 12, kept(actor.hand()));
+    let limbo = actor.hand().limbo();
+    let rows = limbo.rows();
+    let pids = limbo.pids();
+    let under = y.saturating_add(42);
+    let behind = rows.len() as u64;
+    limbo_boxes(sheet, true, number, rows, 0, x, under)?;
+    limbo_boxes(sheet, false, number, pids, behind, x, under)?;
+    let cells = behind.saturating_add(pids.len() as u64);
+    let lines = cells.saturating_add(CELLS - 1) / CELLS;
+    Ok(under.saturating_add(lines.saturating_mul(CELL_HEIGHT).saturating_add(12)))
 }
 
-/// What it was asked, the step that it wants, and its errands.
-fn doing(actor: &Actor<CoreRows>, announced: u64) -> Words
+/// What it was asked, where it stands, the step that it wants, and its errands.
+fn doing(actor: &Actor<CoreRows>, stand: Option<&Stand>) -> Words
     requires { IsActorShown actor.now }
 {
     let mut words = Words::new();
@@ -56,11 +61,11 @@ fn doing(actor: &Actor<CoreRows>, announced: u64) -> Words
     if let Some(command) = actor.command() {
         command_words(&mut words, command);
     }
+    if let Some(stand) = stand {
+        with_number(&mut words, b"; at PID ", u64::from(stand.page));
+    }
     words.add(b"; wants to ");
     step_words(&mut words, &actor.wanted());
-    if announced > 0 {
-        with_number(&mut words, b"; is in epoch ", announced);
-    }
     errands(&mut words, actor.errands());
     words
 }
@@ -95,37 +100,4 @@ fn kept(hand: &Hand) -> Words {
         with_number(&mut words, b" row ", u64::from(*row));
     }
     words
-}
-
-/// What it took out of the tree and has not freed.
-fn limbo(hand: &Hand) -> Words {
-    let mut words = Words::new();
-    let rows = hand.limbo().rows();
-    let pids = hand.limbo().pids();
-    with_number(&mut words, b"limbo: ", rows.len() as u64);
-    words.add(b" rows");
-    entries(&mut words, rows);
-    with_number(&mut words, b"; ", pids.len() as u64);
-    words.add(b" PIDs");
-    entries(&mut words, pids);
-    words
-}
-
-/// Some numbers in limbo, with their stamps.
-fn entries(words: &mut Words, entries: &[Entry]) {
-    let mut left = FEW;
-    for entry in entries {
-        if left == 0 {
-            words.add(b", ..");
-            return;
-        }
-        let before: &[u8] = if left == FEW { b": " } else { b", " };
-        left -= 1;
-        with_number(words, before, u64::from(entry.number));
-        match entry.stage {
-            Stage::Unstamped => {}
-            Stage::Stamped(epoch) => with_number(words, b" at ", epoch),
-            Stage::Passed(epoch) => with_number(words, b" passed ", epoch),
-        }
-    }
 }

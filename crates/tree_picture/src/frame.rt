@@ -110,6 +110,16 @@ pub(crate) fn legend(sheet: &mut Sheet, y: u64) -> u64
         12,
         plain(b"grey and struck through: taken away by a newer record"),
     );
+    sheet.text(Text {
+        x: LEFT + 370,
+        y: lines.saturating_add(38),
+        size: 12,
+        bold: true,
+        colour: Colour::Actor,
+        words: plain(
+            b"an actor at the page whose slot it read last; the row that it reads next has this edge",
+        ),
+    });
     y.saturating_add(92)
 }
 

@@ -36,6 +36,7 @@ fn level_rows(
     ensures ranges { OnOk result (sheet.new.ranges ≡ sheet.old.ranges ++ level_ranges level.now) }
     ensures stands { OnOk result (sheet.new.stands ≡ sheet.old.stands ++ level_stands stands.now level.now) }
     ensures slots { OnOk result (sheet.new.slots ≡ sheet.old.slots) }
+    ensures cells { OnOk result (sheet.new.cells ≡ sheet.old.cells) }
     ensures records { OnOk result (sheet.new.records ≡ sheet.old.records ++ level_records level.now) }
     ensures marks { OnOk result ((own : List Mark) × (sheet.new.marks ≡ sheet.old.marks ++ own) × AllZip (IsMarkFor root above.now) level.now own) }
     ensures laid { IfOk result (λ end. AreLaidTo width top 0 top sheet.old.boxes → AreLaidTo width end 0 end sheet.new.boxes) }
@@ -112,6 +113,7 @@ pub(crate) fn rows(
     ensures ranges { OnOk result (sheet.new.ranges ≡ sheet.old.ranges ++ all_ranges levels.now) }
     ensures stands { OnOk result (sheet.new.stands ≡ sheet.old.stands ++ all_stands stands.now levels.now) }
     ensures slots { OnOk result (sheet.new.slots ≡ sheet.old.slots) }
+    ensures cells { OnOk result (sheet.new.cells ≡ sheet.old.cells) }
     ensures records { OnOk result (sheet.new.records ≡ sheet.old.records ++ all_records levels.now) }
     ensures marks { OnOk result ((own : List Mark) × (sheet.new.marks ≡ sheet.old.marks ++ own) × AreMarked root [] levels.now own) }
     ensures laid { IfOk result (λ end. AreLaidTo width top 0 top sheet.old.boxes → AreLaidTo width end 0 end sheet.new.boxes) }

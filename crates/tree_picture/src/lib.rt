@@ -8,6 +8,7 @@
 #![tactic(auto)]
 
 mod boxes;
+mod cells;
 mod colour;
 mod counting;
 mod counts;
@@ -31,6 +32,7 @@ mod whole;
 mod words;
 mod write;
 
+pub use cells::Cell;
 pub use colour::Colour;
 pub use counting::newest_decides;
 pub use counts::{free_pids, free_rows};
@@ -38,7 +40,7 @@ pub use level::Level;
 pub use page::ScenePage;
 pub use scene::Scene;
 pub use shape::{
-    INSET, Line, MARK_INSET, Mark, NAME_DROP, PageBox, RANGE_DROP, RecordLine, Rectangle,
+    CellBox, INSET, Line, MARK_INSET, Mark, NAME_DROP, PageBox, RANGE_DROP, RecordLine, Rectangle,
     SLOT_DROP, SLOT_INSET, STAND_DROP, STAND_ROW, Shape, SlotBox, Text,
 };
 pub use sheet::Picture;

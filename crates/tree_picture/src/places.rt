@@ -46,6 +46,15 @@ pub(crate) const SLOT_HEIGHT: u64 = 20;
 /// How much room the mapping table has, to the left of the levels.
 pub(crate) const TABLE: u64 = 150;
 
+/// How wide a cell of the table of epochs and limbo is.
+pub(crate) const CELL_WIDTH: u64 = 140;
+
+/// How high it is.
+pub(crate) const CELL_HEIGHT: u64 = 20;
+
+/// How many cells of an actor's limbo stand beside each other.
+pub(crate) const CELLS: u64 = 5;
+
 const LEAST_WIDTH: u64 = 1000;
 
 /// How many of so many pages stand beside each other.

@@ -1,9 +1,11 @@
 //! Shapes. A place is told in pixels, from the left and from the top.
 ghost use Rattle.std.specs.Prelude.{◌≡◌};
+ghost use Rattle.tree_picture.specs.Cells.{cell_text};
 ghost use Rattle.tree_picture.specs.Colours.{decoration, line_colour};
 ghost use Rattle.tree_picture.specs.SlotTexts.{slot_text};
 ghost use Rattle.tree_picture.specs.Texts.{EndInBox, mark_text};
 
+use crate::cells::Cell;
 use crate::colour::Colour;
 use crate::slots::Slot;
 use crate::stands::Stand;
@@ -158,7 +160,17 @@ pub struct SlotBox {
     pub ghost worded: { words ≡ slot_text slot },
 }
 
-/// How far to the right of the corner of a slot's box its words begin.
+/// The box of a cell of the table of epochs and limbo, and the words in it.
+#[derive(Drop)]
+pub struct CellBox {
+    pub cell: Cell,
+    pub rectangle: Rectangle,
+    pub words: Words,
+    /// The words are those for the cell.
+    pub ghost worded: { words ≡ cell_text cell },
+}
+
+/// How far to the right of the corner of a slot's or a cell's box its words begin.
 pub const SLOT_INSET: u64 = 8;
 
 /// How far under that corner they stand.
@@ -175,6 +187,8 @@ pub enum Shape {
     Record(RecordLine),
     /// A slot of the mapping table.
     Slot(SlotBox),
+    /// A cell of the table of epochs and limbo.
+    Cell(CellBox),
     /// A line.
     Line(Line),
     /// Words.

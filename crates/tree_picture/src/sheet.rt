@@ -1,9 +1,9 @@
 //! Shapes while they are drawn.
 ghost use Rattle.std.specs.Prelude.{◌≡◌, ◌∷◌, [], IfOk, OnOk};
-ghost use Rattle.tree_picture.specs.Pages.{line_drawn, pages_in, with_page, with_records, with_slots};
+ghost use Rattle.tree_picture.specs.Pages.{line_drawn, pages_in, with_cells, with_page, with_records, with_slots};
 
 use crate::colour::Colour;
-use crate::shape::{Line, PageBox, RecordLine, Rectangle, Shape, SlotBox, Text};
+use crate::shape::{CellBox, Line, PageBox, RecordLine, Rectangle, Shape, SlotBox, Text};
 use crate::words::Words;
 use std::alloc::{AllocError, Global};
 use std::marker::Model;
@@ -77,6 +77,15 @@ impl Sheet {
         ensures { OnOk result (self.new ≡ with_slots self.old (slot.slot ∷ [])) }
     {
         self.shapes.push(Shape::Slot(slot))?;
+        Ok(())
+    }
+
+    /// The box of a cell.
+    #[tactic(auto, using(crate::proofs::Shapes::cell_more))]
+    pub(crate) fn cell(&mut self, cell: CellBox) -> Result<(), AllocError>
+        ensures { OnOk result (self.new ≡ with_cells self.old (cell.cell ∷ [])) }
+    {
+        self.shapes.push(Shape::Cell(cell))?;
         Ok(())
     }
 

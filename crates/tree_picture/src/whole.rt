@@ -1,14 +1,16 @@
 //! The whole picture.
-ghost use Rattle.std.specs.Prelude.{◌≡◌, ◌≤◌, [], IfOk};
+ghost use Rattle.std.specs.Prelude.{◌≡◌, ◌≤◌, [], List, IfOk, OnOk};
+ghost use Rattle.op_machine.specs.machine.Actors.{Actor as ActorSeen};
+ghost use Rattle.traces.specs.trace.Trace.{memory_of};
+ghost use Rattle.tree_picture.specs.Cells.{AreActors, cells_from};
 ghost use Rattle.tree_picture.specs.Layout.{AreLaidOut};
 ghost use Rattle.tree_picture.specs.Marks.{AreMarked};
-ghost use Rattle.tree_picture.specs.Pages.{boxes_of, marks_of, pids_of, ranges_of, records_of, slots_of, stands_of};
+ghost use Rattle.tree_picture.specs.Pages.{boxes_of, cells_of, marks_of, pids_of, ranges_of, records_of, slots_of, stands_of, with_cells};
 ghost use Rattle.tree_picture.specs.Pids.{all_pids};
 ghost use Rattle.tree_picture.specs.Ranges.{all_ranges};
 ghost use Rattle.tree_picture.specs.RecordLines.{all_records};
 ghost use Rattle.tree_picture.specs.Stands.{all_stands, stands_in};
 
-use crate::Scene;
 use crate::doings::actor_lines;
 use crate::frame::{counts, head, legend, title};
 use crate::levels::{all_links, rows};
@@ -16,6 +18,7 @@ use crate::places::{DROP, LEFT, SLOTS_TOP, TOP, first_x, width_of};
 use crate::sheet::{Picture, Sheet};
 use crate::slots::{slot_boxes, slots_bottom};
 use crate::stands::stands_of;
+use crate::{Scene, Stand};
 use std::alloc::{AllocError, Global};
 use step_core::Core;
 
@@ -26,6 +29,8 @@ pub fn picture(alloc: Global, scene: &Scene, core: &Core) -> Result<Picture, All
     ensures ranges { IfOk result (λ picture. ranges_of picture.shapes.items ≡ all_ranges scene.now.levels) }
     ensures records { IfOk result (λ picture. records_of picture.shapes.items ≡ all_records scene.now.levels) }
     ensures slots { IfOk result (λ picture. slots_of picture.shapes.items ≡ scene.now.slots) }
+    ensures cells { IfOk result (λ picture. (actors : List ActorSeen) × AreActors core.now.limits core.now.entries core.now.demand.wanted actors
+        × (cells_of picture.shapes.items ≡ cells_from (memory_of core.now.limits core.now.entries) 0 actors)) }
     ensures stands { IfOk result (λ picture. stands_of picture.shapes.items ≡ all_stands (stands_in core.now.limits core.now.entries core.now.demand.wanted) scene.now.levels) }
     ensures marks { IfOk result (λ picture. AreMarked scene.now.root [] scene.now.levels (marks_of picture.shapes.items)) }
     ensures laid { IfOk result (λ picture. AreLaidOut picture.width picture.height (boxes_of picture.shapes.items)) }
@@ -53,7 +58,7 @@ pub fn picture(alloc: Global, scene: &Scene, core: &Core) -> Result<Picture, All
         end.saturating_sub(DROP / 2),
         slots_bottom(scene.slots(), SLOTS_TOP),
     );
-    let y = all_actors(&mut sheet, core, under);
+    let y = all_actors(&mut sheet, core, stands.as_slice(), under)?;
     let height = larger(legend(&mut sheet, y), end);
     sheet.finish(width, height, title(), counts(scene))
 }
@@ -66,16 +71,17 @@ fn larger(one: u64, other: u64) -> u64
 }
 
 /// All actors from a height on, and the height behind them.
-fn all_actors(sheet: &mut Sheet, core: &Core, y: u64) -> u64
-    ensures { sheet.new ≡ sheet.old }
+fn all_actors(sheet: &mut Sheet, core: &Core, stands: &[Stand], y: u64) -> Result<u64, AllocError>
+    ensures { OnOk result ((actors : List ActorSeen) × AreActors core.now.limits core.now.entries core.now.demand.wanted actors
+        × (sheet.new ≡ with_cells sheet.old (cells_from (memory_of core.now.limits core.now.entries) 0 actors))) }
 {
     let mut y = y.saturating_add(20);
     for number in 0..core.limits().actors as u8 {
-        if let Some(actor) = core.actor(number) {
-            let announced = core.memory().announced(number);
-            actor_lines(sheet, number, actor, announced, y);
-            y = y.saturating_add(56);
-        }
+        let Some(actor) = core.actor(number) else {
+            unreachable!()
+        };
+        let announced = core.memory().announced(number);
+        y = actor_lines(sheet, number, actor, announced, stands, y)?;
     }
-    y
+    Ok(y)
 }

@@ -4,7 +4,6 @@ ghost use Rattle.op_machine.specs.machine.Actors.{IsActor, running_command, want
 ghost use Rattle.traces.specs.discipline.Knowledge.{knows};
 ghost use Rattle.traces.specs.discipline.Recalled.{recalls};
 ghost use Rattle.core_memory.specs.Tables.{memory_in};
-ghost use Rattle.step_core.specs.Actors.{AreWanted};
 ghost use Rattle.traces.specs.trace.Trace.{command_of, memory_of};
 ghost use Rattle.tree_law.specs.LevelPages.{HasAllLevels};
 
@@ -30,13 +29,6 @@ impl<A: Allocator> Core<A> {
         ensures { result.now.items ≡ self.now.entries }
     {
         &self.trace
-    }
-
-    /// What each actor's operation wants: the step that it takes next, which its actor may take by what its own entries show. It does nothing.
-    pub fn wants(&self)
-        ensures { AreWanted self.now.limits self.now.entries self.now.demand.wanted }
-    {
-        let _ = &self.actors;
     }
 
     /// The actor of a number, if there is one: it has the operation that the trace says, wants the step that it will take next, and its

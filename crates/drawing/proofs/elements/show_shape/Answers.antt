@@ -18,3 +18,6 @@ returns-in-Record g c = rw c.in-Record.is (shows_then c.show_record.ensures (no_
 
 pub returns-in-Slot : goal.returns-in-Slot
 returns-in-Slot g c = rw c.in-Slot.is c.show_slot.ensures
+
+pub returns-in-Cell : goal.returns-in-Cell
+returns-in-Cell g c = rw c.in-Cell.is c.show_cell.ensures

@@ -17,6 +17,6 @@ returns g c =
       ran.taken,
       told.0,
       ran.reads,
-      inr (trace_of c.in-Some.woven.core, c.in-Some.woven.core.demand.wanted, ran.text, c.in-Some.woven.refused, ran.says, c.linearized.ensures.linearized, c.wants.ensures, rw c.has_failed.ensures at told.1),
+      inr (trace_of c.in-Some.woven.core, c.in-Some.woven.core.demand.wanted, ran.text, c.in-Some.woven.refused, ran.says, c.linearized.ensures.linearized, rw c.has_failed.ensures at told.1),
       told.2,
     )

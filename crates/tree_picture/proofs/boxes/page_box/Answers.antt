@@ -25,6 +25,9 @@ returns-clause-stands c =
 pub returns-clause-slots : goal.returns-clause-slots
 returns-clause-slots c = ap (λ sheet. sheet.slots) c.in_ok-record_boxes.ensures ∙ ap (λ sheet. sheet.slots) c.in_ok-page.ensures
 
+pub returns-clause-cells : goal.returns-clause-cells
+returns-clause-cells c = ap (λ sheet. sheet.cells) c.in_ok-record_boxes.ensures ∙ ap (λ sheet. sheet.cells) c.in_ok-page.ensures
+
 pub returns-clause-records : goal.returns-clause-records
 returns-clause-records c =
     ap (λ sheet. sheet.records) c.in_ok-record_boxes.ensures ∙ ap (λ sheet. sheet.records ++ lines_under [] c.records.result.now) c.in_ok-page.ensures

@@ -41,6 +41,7 @@ loop-page-preserved c =
           ap (λ sheet. sheet.stands) same ∙ c.in_ok-page_box.ensures.stands
           ∙ told_next _ _ _ _ (page_stands c.args.stands.now page ∷ []) c.loop-page.invariant.stands (map_next (page_stands c.args.stands.now) pages c.loop-page.page-index page there c.page-item.is);
       slots = ap (λ sheet. sheet.slots) same ∙ c.in_ok-page_box.ensures.slots ∙ c.loop-page.invariant.slots;
+      cells = ap (λ sheet. sheet.cells) same ∙ c.in_ok-page_box.ensures.cells ∙ c.loop-page.invariant.cells;
       records =
           ap (λ sheet. sheet.records) same ∙ c.in_ok-page_box.ensures.records
           ∙ told_next _ _ _ _ (page_records page) c.loop-page.invariant.records (flat_next page_records pages c.loop-page.page-index page there c.page-item.is);

@@ -16,6 +16,7 @@ invariant-loop-page l = record {
   ranges : l.sheet.ranges ≡ l.initial.sheet.ranges ++ level_ranges (take l.page-index l.pages);
   stands : l.sheet.stands ≡ l.initial.sheet.stands ++ level_stands l.stands (take l.page-index l.pages);
   slots : l.sheet.slots ≡ l.initial.sheet.slots;
+  cells : l.sheet.cells ≡ l.initial.sheet.cells;
   records : l.sheet.records ≡ l.initial.sheet.records ++ level_records (take l.page-index l.pages);
   marks : (own : List Mark) × (l.sheet.marks ≡ l.initial.sheet.marks ++ own) × AllZip (IsMarkFor l.root l.above) (take l.page-index l.pages) own;
   at : IsPlaceAt l.first l.top l.page-index l.place;

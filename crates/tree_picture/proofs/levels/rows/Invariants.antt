@@ -15,6 +15,7 @@ invariant-loop-level l = record {
   ranges : l.sheet.ranges ≡ l.initial.sheet.ranges ++ all_ranges (take l.level-index l.levels);
   stands : l.sheet.stands ≡ l.initial.sheet.stands ++ all_stands l.stands (take l.level-index l.levels);
   slots : l.sheet.slots ≡ l.initial.sheet.slots;
+  cells : l.sheet.cells ≡ l.initial.sheet.cells;
   records : l.sheet.records ≡ l.initial.sheet.records ++ all_records (take l.level-index l.levels);
   marks : (own : List Mark) × (l.sheet.marks ≡ l.initial.sheet.marks ++ own) × AreMarked l.root [] (take l.level-index l.levels) own;
   above : l.above ≡ last_level [] (take l.level-index l.levels);
