@@ -17,7 +17,7 @@ use Rattle.bw_tree_c.specs.Handles.{HasNothingOut, HasWritten, IsAway, IsCallOn,
 use Rattle.bw_tree_c.specs.Receipts.{SeatHand}
 use Rattle.bw_tree_c.specs.Seats.{IsLater}
 use Rattle.bw_tree_c.specs.Slots.{IsPutBack, seat_in, seat_of}
-use Rattle.bw_tree_c.specs.Taken.{CanFinish, HasObserved, HasTaken, IsFinished}
+use Rattle.bw_tree_c.specs.Taken.{CanFinish, HasObserved, HasTakenOut, IsFinished}
 use Rattle.bw_tree_c.specs.declared.handle.shared.Shared.{Shared}
 use Rattle.bw_tree_c.specs.declared.handle.slots.Inside.{Inside}
 use Rattle.bw_tree_c.specs.declared.handle.slots.Inside.TheVariants as inside
@@ -86,7 +86,7 @@ module _ (shared : Shared) (since : Receipt) (may : MayCall shared since) (h0 h1
       there = let it = has_seat (opened_in shared) shared.limits shared.own n below begins.1.log begins.1.was.legal in
           (it.0, ap seat_in (sym is_x) ∙ ap seat_of (sym begins.2) ∙ it.1)
 
-      pub taken : (h2 : SeatHand) → h2.table_id ≡ h1.table_id → h2.me ≡ (h1.me.0, (n, inside.Nothing) ∷ rest h1.me.1) → (s : Seat) → seat_in x ≡ Some s → HasTaken shared n since h2 s
+      pub taken : (h2 : SeatHand) → h2.table_id ≡ h1.table_id → h2.me ≡ (h1.me.0, (n, inside.Nothing) ∷ rest h1.me.1) → (s : Seat) → seat_in x ≡ Some s → HasTakenOut shared n since h2 s
       taken h2 same2 me2 s is = record {
         below = below;
         authors = may.authors;
@@ -133,7 +133,7 @@ module _ (shared : Shared) (since : Receipt) (may : MayCall shared since) (h0 h1
     empty found ne tried = let miss : HasMissed IsPutBack n found (knows may.authors (opened_in shared) may.log, []) h1.me = (tried_so found tried).miss ne in ap (λ m. m.1) miss.looked.now
 
 -- The seat is put back.
-module _ (shared : Shared) (n : ℕ) (since : Receipt) (h h1 : SeatHand) (first seat : Seat) (new : Inside) (has : seat_in new ≡ Some seat) (taken : HasTaken shared n since h first)
+module _ (shared : Shared) (n : ℕ) (since : Receipt) (h h1 : SeatHand) (first seat : Seat) (new : Inside) (has : seat_in new ≡ Some seat) (taken : HasTakenOut shared n since h first)
     (later : IsLater first seat) (me1 : h1.me ≡ (h.me.0, (n, new) ∷ rest h.me.1)) where
   abbrev B : Event Inside
   B = event taken.author (Began n)
@@ -258,10 +258,10 @@ runs_on shared n since it first seat ran on is = record {
 }
 
 -- A call ran on the seat that was taken out.
-module _ (shared : Shared) (n : ℕ) (since : Receipt) (hand : SeatHand) (place lent ran : Place) (lends : lent ≡ place) (taken : HasTaken shared n since hand place.seat)
+module _ (shared : Shared) (n : ℕ) (since : Receipt) (hand : SeatHand) (place lent ran : Place) (lends : lent ≡ place) (taken : HasTakenOut shared n since hand place.seat)
     (later : IsLater lent.seat ran.seat) where
-  lent_taken : HasTaken shared n since hand lent.seat
-  lent_taken = subst (λ (p : Place). HasTaken shared n since hand p.seat) (sym lends) taken
+  lent_taken : HasTakenOut shared n since hand lent.seat
+  lent_taken = subst (λ (p : Place). HasTakenOut shared n since hand p.seat) (sym lends) taken
 
   pub can_finish : CanFinish shared n hand ran.seat
   can_finish = record { since = since; first = lent.seat; taken = lent_taken; later = later }

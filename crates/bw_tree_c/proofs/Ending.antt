@@ -3,7 +3,7 @@ use Rattle.std.proofs.Common.{◌≡◌, ◌∙◌, ◌⊎◌, ℕ, None, Some, 
 use Rattle.bw_tree_c.specs.Closing.{IsHeld, IsOutElsewhere, HasUnfinished, IsRefusedFor, LooksOn, RunsNothing}
 use Rattle.bw_tree_c.specs.Handles.{MayCall, opened_in}
 use Rattle.bw_tree_c.specs.Receipts.{SeatHand}
-use Rattle.bw_tree_c.specs.Shutting.{AreAllIdle, GoesTo, IsInside, IsKeptAs, IsStopped, IsStoppedFor}
+use Rattle.bw_tree_c.specs.Shutting.{AreAllIdle, GoesTo, IsInside, IsKeptAs, HasStoppedClosing, IsStoppedFor}
 use Rattle.bw_tree_c.specs.Statuses.{status_of_refusal}
 use Rattle.bw_tree_c.specs.declared.handle.shared.Shared.{Shared}
 use Rattle.bw_tree_c.specs.declared.handle.slots.Inside.{Inside}
@@ -52,7 +52,7 @@ module _ (shared : Shared) (since : Receipt) (may : MayCall shared since) (n : �
 
   -- They couldn't be taken out.
   module _ (refusal : Refusal) (hand : SeatHand) (stops : IsStoppedFor shared old n refusal hand) where
-    pub stopped_now : IsStopped shared since may n LooksOn inside.Nothing refusal hand
+    pub stopped_now : HasStoppedClosing shared since may n LooksOn inside.Nothing refusal hand
     stopped_now = stops since may inside.Nothing mid_n
 
     pub back_now : IsInside shared since may shared.limits.actors 0 LooksOn inside.Nothing hand

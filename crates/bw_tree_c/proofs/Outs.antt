@@ -14,7 +14,7 @@ use Rattle.tree_limits.specs.declared.limits.Limits.{Limits}
 use Rattle.running_tree.specs.Seats.{Seat}
 use Rattle.bw_tree_c.specs.Handles.{HasNothingOut}
 use Rattle.bw_tree_c.specs.Seats.{IsLater}
-use Rattle.bw_tree_c.specs.Slots.{AreSlots, GoesOnTo, HasLaterSeat, IsGone, IsPutBack, first_seat, seat_in, seat_of}
+use Rattle.bw_tree_c.specs.Slots.{AreSlots, GoesOnTo, HasLaterSeat, IsOutForGood, IsPutBack, first_seat, seat_in, seat_of}
 use Rattle.bw_tree_c.specs.declared.handle.slots.Inside.{Inside}
 use Rattle.bw_tree_c.specs.declared.handle.slots.Inside.TheVariants as inside
 
@@ -88,7 +88,7 @@ module _ (opened : List Inside) where
   two_stays log (event ∷ more) legal two = two_on (more ++ log) event.author event.deed legal.0 (two_stays log more legal.1 two)
 
   -- what is gone stays so
-  pub gone_on : (log before : List (Event Inside)) (n : ℕ) → GoesOn log before → IsLog IsPutBack opened log → IsGone opened before n → IsGone opened log n
+  pub gone_on : (log before : List (Event Inside)) (n : ℕ) → GoesOn log before → IsLog IsPutBack opened log → IsOutForGood opened before n → IsOutForGood opened log n
   gone_on log before n goes legal gone = let legal' = subst (IsLog IsPutBack opened) goes.1 legal in (
     subst (λ l. 0 < stage_of l) (sym goes.1) (stays_closed IsPutBack opened before goes.0 legal' gone.0),
     λ last. ap stage_of goes.1 ∙ two_stays before goes.0 legal' (gone.1 last),

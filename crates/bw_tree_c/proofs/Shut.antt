@@ -16,7 +16,7 @@ use Rattle.call_log.proofs.Logs.{goes_on_one, goes_on_self, has_first, same_firs
 use Rattle.bw_tree_c.specs.Closing.{AreBy, IsOutElsewhere, LooksOn, RunsNothing}
 use Rattle.bw_tree_c.specs.Handles.{HasWritten, MayCall, opened_in}
 use Rattle.bw_tree_c.specs.Receipts.{SeatHand}
-use Rattle.bw_tree_c.specs.Shutting.{Carries, HasBegunAs, IsAt, IsCarried, IsEmptiedAs, IsBusyIn, IsHere, IsInside, IsKeptAs, IsRefusedClosing, IsStopped}
+use Rattle.bw_tree_c.specs.Shutting.{Carries, HasBegunAs, IsClosingAt, IsCarried, IsEmptiedAs, IsBusyIn, IsTakenLast, IsInside, IsKeptAs, IsRefusedClosing, HasStoppedClosing}
 use Rattle.bw_tree_c.specs.Taken.{HasObserved}
 use Rattle.bw_tree_c.specs.declared.statuses.TheConstants.{BUSY, CLOSED}
 use Rattle.bw_tree_c.specs.declared.receipt.Told.{Told}
@@ -101,7 +101,7 @@ module _ (shared : Shared) (since : Receipt) (may : MayCall shared since) (far :
   last_is = sym shared.own.count
 
   -- Others went on.
-  module _ (from : ℕ) (such : Deed Inside → Type 0) (log mine : List (Event Inside)) (carried : List (ℕ × Inside)) (at : IsAt shared since may from far such last log mine carried) where
+  module _ (from : ℕ) (such : Deed Inside → Type 0) (log mine : List (Event Inside)) (carried : List (ℕ × Inside)) (at : IsClosingAt shared since may from far such last log mine carried) where
     still : (later : List (Event Inside)) → WasLog IsPutBack (V log) later → (m : ℕ) (x : Inside) → cell_of O log m ≡ out may.author x → cell_of O later m ≡ out may.author x
     still later was m x is =
         let goes = was.seen in
@@ -123,7 +123,7 @@ module _ (shared : Shared) (since : Receipt) (may : MayCall shared since) (far :
         let one : far ≡ 1 = omega (arith, near, some) in
         ap stage_of goes.1 ∙ stays_one IsPutBack O log goes.0 may.author shared.limits.actors last legal same at.last_out last_is (at.stage ∙ one) ∙ sym one)
 
-    pub moved : (later : List (Event Inside)) → WasLog IsPutBack (V log) later → IsAt shared since may from far such last later mine carried
+    pub moved : (later : List (Event Inside)) → WasLog IsPutBack (V log) later → IsClosingAt shared since may from far such last later mine carried
     moved later was = record {
       legal = was.legal;
       on = on_from later log may.log was.seen at.on;
@@ -244,8 +244,8 @@ module _ (shared : Shared) (since : Receipt) (may : MayCall shared since) (last 
     here : h.me ≡ (U mid.log, (n, head.0) ∷ head.1)
     here = mid.me ∙ ap (λ c. (U mid.log, c)) head.2
 
-    at_here : IsAt shared since may n 0 LooksOn last mid.log mid.mine ((n, head.0) ∷ head.1)
-    at_here = subst (IsAt shared since may n 0 LooksOn last mid.log mid.mine) head.2 mid.at
+    at_here : IsClosingAt shared since may n 0 LooksOn last mid.log mid.mine ((n, head.0) ∷ head.1)
+    at_here = subst (IsClosingAt shared since may n 0 LooksOn last mid.log mid.mine) head.2 mid.at
 
     as_was : head.0 ≡ head.3.x
     as_was = head.3.same (let count = shared.own.count in omega (arith, count, below))
@@ -310,7 +310,7 @@ pub writes_inside : (shared : Shared) (since : Receipt) (may : MayCall shared si
 writes_inside shared since may from far such last h mid = (may.author, subst (λ m. WritesAs m.0.authors may.author) (sym mid.me) may.writes)
 
 pub here_inside : (shared : Shared) (since : Receipt) (may : MayCall shared since) (n far : ℕ) (such : Deed Inside → Type 0) (last : Inside) (h : SeatHand) → n < length (opened_in shared)
-    → IsInside shared since may n far such last h → IsHere n h
+    → IsInside shared since may n far such last h → IsTakenLast n h
 here_inside shared since may n far such last h below mid =
     let it = carried_head (opened_in shared) mid.log may.author n mid.carried below mid.at.carries in
     let me = ap (λ m. m.1) mid.me ∙ it.2 in (it.0, me ∙ ap (λ r. (n, it.0) ∷ r) (sym (ap rest me)))
@@ -318,7 +318,7 @@ here_inside shared since may n far such last h below mid =
 -- The closing stops.
 module _ (shared : Shared) (since : Receipt) (may : MayCall shared since) (last : Inside) (n : ℕ) (below : n < shared.limits.actors) (h h' : SeatHand) (same : h'.table_id ≡ h.table_id) where
   pub stops_busy : (mid : IsInside shared since may (n + 1) 0 LooksOn last h) (found : ℕ) (tried : HasTried IsPutBack n found h.me h'.me) → found ≢ 0
-      → IsStopped shared since may (n + 1) LooksOn last Busy h'
+      → HasStoppedClosing shared since may (n + 1) LooksOn last Busy h'
   stops_busy mid found tried ne = let it = stays shared since may last n below h h' same mid found tried ne in record {
     mid = it;
     log = it.log;
@@ -327,7 +327,7 @@ module _ (shared : Shared) (since : Receipt) (may : MayCall shared since) (last 
     why = inl (refl, elsewhere shared since may last n below h h' same mid found tried ne);
   }
 
-  pub stops_unfinished : (mid : IsInside shared since may n 0 LooksOn last h) → EndsSo IsPutBack n h.me h'.me → IsBusyIn n h → IsStopped shared since may (n + 1) LooksOn last Unfinished h'
+  pub stops_unfinished : (mid : IsInside shared since may n 0 LooksOn last h) → EndsSo IsPutBack n h.me h'.me → IsBusyIn n h → HasStoppedClosing shared since may (n + 1) LooksOn last Unfinished h'
   stops_unfinished mid ends busy =
       let gives = gave shared since may last n below h h' same mid ends in
       let it = carried_head (opened_in shared) mid.log may.author n mid.carried (let count = shared.own.count in omega (arith, count, below)) mid.at.carries in
@@ -348,7 +348,7 @@ module _ (shared : Shared) (since : Receipt) (may : MayCall shared since) (last 
         );
       }
 
-  pub stops_so : (refusal : Refusal) → (stopped : IsStopped shared since may n LooksOn last refusal h) → EndsSo IsPutBack n h.me h'.me → IsStopped shared since may (n + 1) LooksOn last refusal h'
+  pub stops_so : (refusal : Refusal) → (stopped : HasStoppedClosing shared since may n LooksOn last refusal h) → EndsSo IsPutBack n h.me h'.me → HasStoppedClosing shared since may (n + 1) LooksOn last refusal h'
   stops_so refusal stopped ends = let gives = gave shared since may last n below h h' same stopped.mid ends in record {
     mid = gives.0;
     log = stopped.log;
@@ -439,8 +439,8 @@ module _ (shared : Shared) (since : Receipt) (may : MayCall shared since) (last 
       leave same' leaves =
           let seen : HasSeen IsPutBack first_one.1 (W mid.log) h'.me = subst (λ m. HasLeft IsPutBack m h'.me) one_is leaves in
           let L : List (Event Inside) = seen.log in
-          let at0 : IsAt shared since may n 1 RunsNothing last mid.log mid.mine ((n, first_one.0) ∷ first_one.1)
-          = subst (IsAt shared since may n 1 RunsNothing last mid.log mid.mine) first_one.2 mid.at in
+          let at0 : IsClosingAt shared since may n 1 RunsNothing last mid.log mid.mine ((n, first_one.0) ∷ first_one.1)
+          = subst (IsClosingAt shared since may n 1 RunsNothing last mid.log mid.mine) first_one.2 mid.at in
           let at = moved shared since may 1 last n RunsNothing mid.log mid.mine ((n, first_one.0) ∷ first_one.1) at0 L seen.was in record {
             log = L;
             mine = mid.mine;
@@ -642,10 +642,10 @@ module _ (shared : Shared) (since : Receipt) (may : MayCall shared since) (far :
   pub only_last : h.me ≡ (Y mid.log, (Z, inside.Nothing) ∷ [])
   only_last = mid.me ∙ ap (λ c. (Y mid.log, c)) alone
 
-  at_last : IsAt shared since may Z far such last mid.log mid.mine ((Z, inside.Nothing) ∷ [])
-  at_last = subst (IsAt shared since may Z far such last mid.log mid.mine) alone mid.at
+  at_last : IsClosingAt shared since may Z far such last mid.log mid.mine ((Z, inside.Nothing) ∷ [])
+  at_last = subst (IsClosingAt shared since may Z far such last mid.log mid.mine) alone mid.at
 
-  later_at : (later : List (Event Inside)) → WasLog IsPutBack (Y mid.log) later → IsAt shared since may Z far such last later mid.mine ((Z, inside.Nothing) ∷ [])
+  later_at : (later : List (Event Inside)) → WasLog IsPutBack (Y mid.log) later → IsClosingAt shared since may Z far such last later mid.mine ((Z, inside.Nothing) ∷ [])
   later_at later was = moved shared since may far last Z such mid.log mid.mine ((Z, inside.Nothing) ∷ []) at_last later was
 
   log_is : h.me.0.log ≡ mid.log
@@ -694,7 +694,7 @@ module _ (shared : Shared) (since : Receipt) (may : MayCall shared since) (far :
       legal_two : IsLog IsPutBack (opened_in shared) (F ∷ J)
       legal_two = subst (λ a. IsLog IsPutBack (opened_in shared) (event a (Ended Z last y) ∷ J)) ended_by ended.legal
 
-      at_two : IsAt shared since may Z far such last J mid.mine ((Z, inside.Nothing) ∷ [])
+      at_two : IsClosingAt shared since may Z far such last J mid.mine ((Z, inside.Nothing) ∷ [])
       at_two = later_at J ended.was
 
       pub is_kept : (it : Receipt) → it.table_id ≡ h2.table_id → it.views ≡ h2.me.0 ∷ [] → IsKeptAs shared since such h y it

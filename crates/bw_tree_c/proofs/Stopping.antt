@@ -10,7 +10,7 @@ use Rattle.call_log.proofs.Logs.{same_first}
 use Rattle.bw_tree_c.specs.Closing.{HasUnfinished, IsOutElsewhere, IsRefusedFor, LooksOn, RunsNothing}
 use Rattle.bw_tree_c.specs.Handles.{HasSeenLog, MayCall, opened_in}
 use Rattle.bw_tree_c.specs.Receipts.{SeatHand}
-use Rattle.bw_tree_c.specs.Shutting.{HasBegunAs, IsInside, IsKeptAs, IsStopped}
+use Rattle.bw_tree_c.specs.Shutting.{HasBegunAs, IsInside, IsKeptAs, HasStoppedClosing}
 use Rattle.bw_tree_c.specs.Slots.{WaitsFrom}
 use Rattle.bw_tree_c.specs.declared.closing.whole.Whole.{Whole}
 use Rattle.bw_tree_c.specs.declared.handle.shared.Shared.{Shared}
@@ -64,7 +64,7 @@ busy_not P refusal a b = two_apart P (sym a ∙ b)
 
 -- The slots of seats couldn't be taken out.
 module _ (shared : Shared) (since : Receipt) (may : MayCall shared since) (count : ℕ) (is : count ≡ shared.limits.actors) (refusal : Refusal) (hand : SeatHand)
-    (stopped : IsStopped shared since may count LooksOn inside.Nothing refusal hand) where
+    (stopped : HasStoppedClosing shared since may count LooksOn inside.Nothing refusal hand) where
   pub stopped_mid : IsInside shared since may shared.limits.actors 0 LooksOn inside.Nothing hand
   stopped_mid = subst (λ k. IsInside shared since may k 0 LooksOn inside.Nothing hand) is stopped.mid
 

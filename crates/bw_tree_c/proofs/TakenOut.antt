@@ -5,7 +5,7 @@ use Rattle.call_log.specs.Steps.{CanEnd, EndsSo, HasTried}
 use Rattle.bw_tree_c.specs.Closing.{LooksOn}
 use Rattle.bw_tree_c.specs.Handles.{MayCall}
 use Rattle.bw_tree_c.specs.Receipts.{SeatHand}
-use Rattle.bw_tree_c.specs.Shutting.{AreAllIdle, IsBusyIn, IsHere, IsIdleIn, IsInside, IsStopped}
+use Rattle.bw_tree_c.specs.Shutting.{AreAllIdle, IsBusyIn, IsTakenLast, IsIdleIn, IsInside, HasStoppedClosing}
 use Rattle.bw_tree_c.specs.Slots.{IsPutBack}
 use Rattle.bw_tree_c.specs.declared.handle.shared.Shared.{Shared}
 use Rattle.bw_tree_c.specs.declared.handle.slots.Inside.{Inside}
@@ -31,10 +31,10 @@ module _ (shared : Shared) (since : Receipt) (may : MayCall shared since) (last 
     took_it : found ≡ 0 → IsInside shared since may n 0 LooksOn last h1
     took_it hit = took shared since may last n below h h1 same mid_n found tried hit
 
-    pub busy_it : found ≢ 0 → IsStopped shared since may count LooksOn last Busy h1
-    busy_it ne = subst (λ k. IsStopped shared since may k LooksOn last Busy h1) (sym is) (stops_busy shared since may last n below h h1 same mid_n found tried ne)
+    pub busy_it : found ≢ 0 → HasStoppedClosing shared since may count LooksOn last Busy h1
+    busy_it ne = subst (λ k. HasStoppedClosing shared since may k LooksOn last Busy h1) (sym is) (stops_busy shared since may last n below h h1 same mid_n found tried ne)
 
-    pub here_it : found ≡ 0 → IsHere n h1
+    pub here_it : found ≡ 0 → IsTakenLast n h1
     here_it hit = here_inside shared since may n 0 LooksOn last h1 (let c = shared.own.count in omega (arith, c, some, most)) (took_it hit)
 
     -- It was looked at.
@@ -45,12 +45,12 @@ module _ (shared : Shared) (since : Receipt) (may : MayCall shared since) (last 
     pub gives_it : CanEnd IsPutBack n h.me
     gives_it = can_give shared since may last n below h h refl mid
 
-    pub unfinished_it : h1.table_id ≡ h.table_id → EndsSo IsPutBack n h.me h1.me → IsBusyIn n h → IsStopped shared since may count LooksOn last Unfinished h1
-    unfinished_it same ends busy = subst (λ k. IsStopped shared since may k LooksOn last Unfinished h1) (sym is) (stops_unfinished shared since may last n below h h1 same mid ends busy)
+    pub unfinished_it : h1.table_id ≡ h.table_id → EndsSo IsPutBack n h.me h1.me → IsBusyIn n h → HasStoppedClosing shared since may count LooksOn last Unfinished h1
+    unfinished_it same ends busy = subst (λ k. HasStoppedClosing shared since may k LooksOn last Unfinished h1) (sym is) (stops_unfinished shared since may last n below h h1 same mid ends busy)
 
-  pub stopped_it : (h h1 : SeatHand) (refusal : Refusal) → IsStopped shared since may n LooksOn last refusal h → h1.table_id ≡ h.table_id → EndsSo IsPutBack n h.me h1.me
-      → IsStopped shared since may count LooksOn last refusal h1
-  stopped_it h h1 refusal stopped same ends = subst (λ k. IsStopped shared since may k LooksOn last refusal h1) (sym is) (stops_so shared since may last n below h h1 same refusal stopped ends)
+  pub stopped_it : (h h1 : SeatHand) (refusal : Refusal) → HasStoppedClosing shared since may n LooksOn last refusal h → h1.table_id ≡ h.table_id → EndsSo IsPutBack n h.me h1.me
+      → HasStoppedClosing shared since may count LooksOn last refusal h1
+  stopped_it h h1 refusal stopped same ends = subst (λ k. HasStoppedClosing shared since may k LooksOn last refusal h1) (sym is) (stops_so shared since may last n below h h1 same refusal stopped ends)
 
 -- One more idle seat is out.
 pub more_idle : (n : ℕ) (h h1 : SeatHand) (x : Inside) → h1.me.1 ≡ (n, x) ∷ h.me.1 → AreAllIdle h.me.1 → IsIdleIn n h1 → AreAllIdle h1.me.1

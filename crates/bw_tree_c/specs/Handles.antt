@@ -8,7 +8,7 @@ use Rattle.call_log.specs.Rule.{knows}
 use Rattle.call_log.specs.Steps.{event}
 use Rattle.running_tree.specs.Seats.{Seat}
 use Rattle.bw_tree_c.specs.Seats.{IsLater}
-use Rattle.bw_tree_c.specs.Slots.{IsGone, IsPutBack, seat_in}
+use Rattle.bw_tree_c.specs.Slots.{IsOutForGood, IsPutBack, seat_in}
 use Rattle.bw_tree_c.specs.declared.handle.slots.Inside.{Inside}
 use Rattle.bw_tree_c.specs.declared.statuses.TheConstants.{BUSY, CLOSED, NO_SEAT}
 use Rattle.bw_tree_c.specs.declared.receipt.Receipt.{Receipt}
@@ -31,7 +31,7 @@ IsReceipt (Some shared) authors log it = HasSeenLog shared authors log it
 
 -- No slot is out with one of these authors, unless for good.
 abbrev pub HasNothingOut : List Inside → Authors → List (Event Inside) → Type 0
-HasNothingOut opened authors log = (author n : ℕ) (x : Inside) → HasAuthor authors author → cell_of opened log n ≡ out author x → IsGone opened log n
+HasNothingOut opened authors log = (author n : ℕ) (x : Inside) → HasAuthor authors author → cell_of opened log n ≡ out author x → IsOutForGood opened log n
 
 -- A call with this receipt may be written into the log of the handle: it is a seat there, and has an author. No call of its authors is under way.
 pub record MayCall (shared : Shared) (it : Receipt) : Type 0 where

@@ -11,7 +11,7 @@ use Rattle.running_tree.specs.Seats.{Seat, unfinished_command}
 use Rattle.bw_tree_c.specs.Closing.{AreBy, HasUnfinished, IsBusy, IsClosed, IsClosedBy, IsInUse, IsOutElsewhere, LooksOn, RunsNothing}
 use Rattle.bw_tree_c.specs.Handles.{HasWritten, MayCall, opened_in}
 use Rattle.bw_tree_c.specs.Receipts.{SeatHand}
-use Rattle.bw_tree_c.specs.Slots.{IsGone, IsPutBack, WaitsFrom, seat_in, seat_of}
+use Rattle.bw_tree_c.specs.Slots.{IsOutForGood, IsPutBack, WaitsFrom, seat_in, seat_of}
 use Rattle.bw_tree_c.specs.declared.closing.whole.Whole.{Whole}
 use Rattle.bw_tree_c.specs.declared.handle.shared.Shared.{Shared}
 use Rattle.bw_tree_c.specs.declared.handle.slots.Inside.{Inside}
@@ -35,7 +35,7 @@ Carries opened log author n [] = n ≡ length opened
 Carries opened log author n (it ∷ more) = (it.0 ≡ n) × IsCarried opened log author n it.1 × Carries opened log author (n + 1) more
 
 -- The closing with this receipt wrote these events, and has these slots out, from this number on: the last one had this in it. The tree is as far as that.
-pub record IsAt (shared : Shared) (since : Receipt) (may : MayCall shared since) (from far : ℕ) (such : Deed Inside → Type 0) (last : Inside) (log mine : List (Event Inside))
+pub record IsClosingAt (shared : Shared) (since : Receipt) (may : MayCall shared since) (from far : ℕ) (such : Deed Inside → Type 0) (last : Inside) (log mine : List (Event Inside))
     (carried : List (ℕ × Inside)) : Type 0 where
   pub legal : IsLog IsPutBack (opened_in shared) log
   pub on : GoesOn log may.log
@@ -46,7 +46,7 @@ pub record IsAt (shared : Shared) (since : Receipt) (may : MayCall shared since)
   pub carries : Carries (opened_in shared) log may.author from carried
   pub last_out : cell_of (opened_in shared) log shared.limits.actors ≡ out may.author last
   pub no_seat : seat_in last ≡ None
-  pub below : (a n : ℕ) (x : Inside) → HasAuthor may.authors a → cell_of (opened_in shared) log n ≡ out a x → (from ≤ n) ⊎ IsGone (opened_in shared) log n
+  pub below : (a n : ℕ) (x : Inside) → HasAuthor may.authors a → cell_of (opened_in shared) log n ≡ out a x → (from ≤ n) ⊎ IsOutForGood (opened_in shared) log n
 
 -- The hand is that of such a closing.
 pub record IsInside (shared : Shared) (since : Receipt) (may : MayCall shared since) (from far : ℕ) (such : Deed Inside → Type 0) (last : Inside) (hand : SeatHand) : Type 0 where
@@ -55,7 +55,7 @@ pub record IsInside (shared : Shared) (since : Receipt) (may : MayCall shared si
   pub carried : List (ℕ × Inside)
   pub table : hand.table_id ≡ shared.table.shared.table_id
   pub me : hand.me ≡ (knows may.authors (opened_in shared) log, carried)
-  pub at : IsAt shared since may from far such last log mine carried
+  pub at : IsClosingAt shared since may from far such last log mine carried
 
 -- It goes on to this.
 abbrev pub GoesTo : Shared → SeatHand → ℕ → ℕ → (Deed Inside → Type 0) → SeatHand → ℕ → ℕ → (Deed Inside → Type 0) → Type 0
@@ -71,7 +71,7 @@ abbrev pub WhyNot : List Inside → Refusal → ℕ → List (Event Inside) → 
 WhyNot opened refusal author log = ((refusal ≡ Busy) × IsOutElsewhere opened author log) ⊎ ((refusal ≡ Unfinished) × HasUnfinished opened log)
 
 -- The slots of seats weren't taken out for this cause, and are back.
-pub record IsStopped (shared : Shared) (since : Receipt) (may : MayCall shared since) (from : ℕ) (such : Deed Inside → Type 0) (last : Inside) (refusal : Refusal) (hand : SeatHand) : Type 0 where
+pub record HasStoppedClosing (shared : Shared) (since : Receipt) (may : MayCall shared since) (from : ℕ) (such : Deed Inside → Type 0) (last : Inside) (refusal : Refusal) (hand : SeatHand) : Type 0 where
   pub mid : IsInside shared since may from 0 such last hand
   pub log : List (Event Inside)
   pub since_then : GoesOn log may.log
@@ -90,7 +90,7 @@ AreAllIdle (it ∷ more) = ((seat : Seat) → seat_in it.1 ≡ Some seat → unf
 -- The closing stopped for this cause: what it took since then is back.
 abbrev pub IsStoppedFor : Shared → SeatHand → ℕ → Refusal → SeatHand → Type 0
 IsStoppedFor shared old count refusal new = (since : Receipt) (may : MayCall shared since) (last : Inside) → IsInside shared since may count 0 LooksOn last old
-    → IsStopped shared since may count LooksOn last refusal new
+    → HasStoppedClosing shared since may count LooksOn last refusal new
 
 -- The hand took the last slot, and this was in it: nothing, and the tree is open; or what waits.
 pub record HasBegunAs (shared : Shared) (since : Receipt) (may : MayCall shared since) (x : Inside) (hand : SeatHand) : Type 0 where
@@ -98,8 +98,8 @@ pub record HasBegunAs (shared : Shared) (since : Receipt) (may : MayCall shared 
   pub closing : IsInside shared since may shared.limits.actors far LooksOn x hand
   pub what : ((far ≡ 0) × (x ≡ inside.Nothing)) ⊎ ((far ≡ 1) × WaitsFrom (opened_in shared) hand.me.0.log x)
 
-abbrev pub HasBegun : Shared → Receipt → Inside → SeatHand → Type 0
-HasBegun shared since x hand = (may : MayCall shared since) → HasBegunAs shared since may x hand
+abbrev pub HasBegunClosing : Shared → Receipt → Inside → SeatHand → Type 0
+HasBegunClosing shared since x hand = (may : MayCall shared since) → HasBegunAs shared since may x hand
 
 -- The last slot was out: another closing runs, or nothing waits any more.
 abbrev pub IsRefusedClosing : Shared → Receipt → Told → Type 0
@@ -107,8 +107,8 @@ IsRefusedClosing shared since told = ((told.status ≡ BUSY) × IsBusy (Some sha
     ⊎ ((told.status ≡ CLOSED) × IsClosed (Some shared) since told.receipt)
 
 -- The slot of this number was taken last.
-abbrev pub IsHere : ℕ → SeatHand → Type 0
-IsHere slot hand = (y : Inside) × (hand.me.1 ≡ (slot, y) ∷ rest hand.me.1)
+abbrev pub IsTakenLast : ℕ → SeatHand → Type 0
+IsTakenLast slot hand = (y : Inside) × (hand.me.1 ≡ (slot, y) ∷ rest hand.me.1)
 
 abbrev pub IsIdleIn : ℕ → SeatHand → Type 0
 IsIdleIn slot hand = (y : Inside) (seat : Seat) → hand.me.1 ≡ (slot, y) ∷ rest hand.me.1 → seat_in y ≡ Some seat → unfinished_command seat ≡ None
@@ -141,8 +141,8 @@ pub record IsKeptAs (shared : Shared) (since : Receipt) (such : Deed Inside → 
   pub stage : stage_of written.after ≡ stage_of hand.me.0.log
   pub upto : GoesOn written.after hand.me.0.log
 
-abbrev pub IsKept : Shared → (Deed Inside → Type 0) → SeatHand → Inside → Receipt → Type 0
-IsKept shared such hand y it = (since : Receipt) (may : MayCall shared since) (last : Inside) → IsInside shared since may shared.limits.actors 1 such last hand
+abbrev pub IsBackInside : Shared → (Deed Inside → Type 0) → SeatHand → Inside → Receipt → Type 0
+IsBackInside shared such hand y it = (since : Receipt) (may : MayCall shared since) (last : Inside) → IsInside shared since may shared.limits.actors 1 such last hand
     → IsKeptAs shared since such hand y it
 
 abbrev pub IsLetGo : Shared → SeatHand → Receipt → Type 0

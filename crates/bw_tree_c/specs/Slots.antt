@@ -94,5 +94,5 @@ pub record AreSlots (limits : Limits) (opened : List Inside) : Type 0 where
   pub last : slice_get opened limits.actors ≡ Some inside.Nothing
 
 -- The slot of this number is out for good: the tree is closed, and if it is the last slot, nothing waits.
-abbrev pub IsGone : List Inside → List (Event Inside) → ℕ → Type 0
-IsGone opened log n = (0 < stage_of log) × (n + 1 ≡ length opened → stage_of log ≡ 2)
+abbrev pub IsOutForGood : List Inside → List (Event Inside) → ℕ → Type 0
+IsOutForGood opened log n = (0 < stage_of log) × (n + 1 ≡ length opened → stage_of log ≡ 2)

@@ -24,7 +24,7 @@ pub record HasObserved (shared : Shared) (since : Receipt) (hand : SeatHand) : T
 
 -- The hand took out the slot of this number, in which this seat was, and has nothing in it now; its first author wrote so, behind all that the receipt had seen, and its
 -- authors wrote nothing else.
-pub record HasTaken (shared : Shared) (number : ℕ) (since : Receipt) (hand : SeatHand) (seat : Seat) : Type 0 where
+pub record HasTakenOut (shared : Shared) (number : ℕ) (since : Receipt) (hand : SeatHand) (seat : Seat) : Type 0 where
   pub below : number < shared.limits.actors
   pub authors : Authors
   pub before : List (Event Inside)
@@ -46,10 +46,10 @@ pub record HasTaken (shared : Shared) (number : ℕ) (since : Receipt) (hand : S
 pub record CanFinish (shared : Shared) (number : ℕ) (hand : SeatHand) (seat : Seat) : Type 0 where
   pub since : Receipt
   pub first : Seat
-  pub taken : HasTaken shared number since hand first
+  pub taken : HasTakenOut shared number since hand first
   pub later : IsLater first seat
 
 -- The seat was put back, and the call is in the log.
 abbrev pub IsFinished : Shared → ℕ → SeatHand → Seat → Receipt → Type 0
-IsFinished shared number hand seat it = (since : Receipt) (first : Seat) → HasTaken shared number since hand first → IsLater first seat
+IsFinished shared number hand seat it = (since : Receipt) (first : Seat) → HasTakenOut shared number since hand first → IsLater first seat
     → IsCallOn shared number since it (λ before after. (before ≡ first) × (after ≡ seat))

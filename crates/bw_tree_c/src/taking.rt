@@ -1,7 +1,7 @@
 //! A call takes its seat out of its slot, and puts it back at its end. So nobody waits: where the seat is away, the call is refused.
 ghost use Rattle.std.specs.Prelude.{◌≡◌, IfErr, IfOk, Some};
 ghost use Rattle.bw_tree_c.specs.Handles.{IsRefused, MayCall};
-ghost use Rattle.bw_tree_c.specs.Taken.{CanFinish, HasTaken, IsFinished};
+ghost use Rattle.bw_tree_c.specs.Taken.{CanFinish, HasTakenOut, IsFinished};
 
 use crate::handle::shared::Shared;
 use crate::handle::slots::{Inside, SeatHand};
@@ -19,7 +19,7 @@ pub struct Taken {
 /// Takes a seat out of its slot, for a call; or refuses.
 pub(crate) fn take(shared: &Shared, seat: u32, since: Receipt) -> Result<Taken, Told>
     requires { MayCall shared.now since }
-    ensures taken { IfOk result (λ taken. HasTaken shared.now seat since taken.hand taken.place.value.seat) }
+    ensures taken { IfOk result (λ taken. HasTakenOut shared.now seat since taken.hand taken.place.value.seat) }
     ensures refused { IfErr result (IsRefused (Some shared.now) seat since) }
     ensures may { IfErr result (λ told. MayCall shared.now told.receipt) }
 {

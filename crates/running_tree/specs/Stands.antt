@@ -23,6 +23,6 @@ pub record Stands (limits : Limits) (table seat : TableId) (actor : ℕ) (me : M
   pub read : HasReadRecord (knows (seen_of me) actor) row content
 
 -- The same of a row with the place of its first word.
-pub record StandsAt (limits : Limits) (table seat : TableId) (actor : ℕ) (me : Mine) (row : PlacedRow) (content : Record) : Type 0 where
+pub record StandsWithPlace (limits : Limits) (table seat : TableId) (actor : ℕ) (me : Mine) (row : PlacedRow) (content : Record) : Type 0 where
   pub stands : Stands limits table seat actor me row.row content
   pub place : row.place ≡ row_at limits row.row 0

@@ -5,7 +5,7 @@ ghost use Rattle.record_slots.specs.Spelling.{words_of};
 ghost use Rattle.record_slots.specs.Spells.{HasSpelling};
 ghost use Rattle.record_slots.specs.declared.layout.TheConstants.{ROW_WORDS};
 ghost use Rattle.tree_words.specs.Words.{stored, used_in};
-ghost use Rattle.running_tree.specs.Stands.{StandsAt};
+ghost use Rattle.running_tree.specs.Stands.{StandsWithPlace};
 
 use crate::lawful_runs::runs_keep_rows_apart;
 use crate::tree::Tree;
@@ -55,13 +55,13 @@ impl<A: Allocator> Rows for Tree<A> {
 impl<A: Allocator> CompactRows for Tree<A> {
     ghost use Rattle.std.specs.Prelude.{◌≡◌, true};
     ghost use Rattle.record_slots.specs.Spells.{HasSpelling};
-    ghost use Rattle.running_tree.specs.Stands.{StandsAt};
+    ghost use Rattle.running_tree.specs.Stands.{StandsWithPlace};
 
     type Pass = Desk;
 
     type Row = PlacedRow;
 
-    ghost has = { λ tree desk row content. StandsAt tree.limits tree.table desk.place.table_id desk.number desk.place.me row content × HasSpelling content
+    ghost has = { λ tree desk row content. StandsWithPlace tree.limits tree.table desk.place.table_id desk.number desk.place.me row content × HasSpelling content
         × (tree.limits.is_large ≡ true) };
 
     #[inline]
@@ -79,12 +79,12 @@ impl<A: Allocator> CompactRows for Tree<A> {
 /// A word that a record has in its row, by one load.
 #[inline]
 fn look_word<A: Allocator>(tree: &Tree<A>, desk: &mut Desk, row: PlacedRow, at: usize) -> u64
-    requires has { (content : Record) × StandsAt tree.now.limits tree.now.table desk.old.place.table_id desk.old.number desk.old.place.me row content }
+    requires has { (content : Record) × StandsWithPlace tree.now.limits tree.now.table desk.old.place.table_id desk.old.number desk.old.place.me row content }
     requires within { at < ROW_WORDS }
     ensures same { desk.new ≡ desk.old }
-    ensures word { (content : Record) → StandsAt tree.now.limits tree.now.table desk.old.place.table_id desk.old.number desk.old.place.me row content
+    ensures word { (content : Record) → StandsWithPlace tree.now.limits tree.now.table desk.old.place.table_id desk.old.number desk.old.place.me row content
         → at < used_in tree.now.limits (Some content) → result ≡ slice_index (stored tree.now.limits content) at }
-    ensures spelt { (content : Record) → StandsAt tree.now.limits tree.now.table desk.old.place.table_id desk.old.number desk.old.place.me row content → HasSpelling content }
+    ensures spelt { (content : Record) → StandsWithPlace tree.now.limits tree.now.table desk.old.place.table_id desk.old.number desk.old.place.me row content → HasSpelling content }
 {
     runs_keep_rows_apart();
     look_at(
@@ -100,11 +100,11 @@ fn look_word<A: Allocator>(tree: &Tree<A>, desk: &mut Desk, row: PlacedRow, at: 
 
 /// A word of the spelling of a record of a large tree.
 fn look_compact<A: Allocator>(tree: &Tree<A>, desk: &mut Desk, row: PlacedRow, at: usize) -> u64
-    requires has { (content : Record) × StandsAt tree.now.limits tree.now.table desk.old.place.table_id desk.old.number desk.old.place.me row content }
+    requires has { (content : Record) × StandsWithPlace tree.now.limits tree.now.table desk.old.place.table_id desk.old.number desk.old.place.me row content }
     requires within { at < ROW_WORDS }
     requires large { tree.now.limits.is_large ≡ true }
     ensures same { desk.new ≡ desk.old }
-    ensures word { (content : Record) → StandsAt tree.now.limits tree.now.table desk.old.place.table_id desk.old.number desk.old.place.me row content
+    ensures word { (content : Record) → StandsWithPlace tree.now.limits tree.now.table desk.old.place.table_id desk.old.number desk.old.place.me row content
         → result ≡ slice_index (words_of content) at }
 {
     let first = look_word(tree, desk, row, 0);

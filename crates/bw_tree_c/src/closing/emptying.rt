@@ -2,7 +2,7 @@
 ghost use Rattle.std.specs.Prelude.{◌≡◌, ◌≤◌, IfErr, IfOk, MatchBool, false, true};
 ghost use Rattle.bw_tree_c.specs.Closing.{LooksOn, RunsNothing};
 ghost use Rattle.bw_tree_c.specs.Handles.{MayCall, opened_in};
-ghost use Rattle.bw_tree_c.specs.Shutting.{AreAllIdle, GoesTo, HasBegun, IsBusyIn, IsClosing, IsEmptied, IsHere, IsIdleIn, IsKept, IsLetGo, IsOpenClosing, IsRefusedClosing, IsStoppedFor, MayGather};
+ghost use Rattle.bw_tree_c.specs.Shutting.{AreAllIdle, GoesTo, HasBegunClosing, IsBusyIn, IsClosing, IsEmptied, IsTakenLast, IsIdleIn, IsBackInside, IsLetGo, IsOpenClosing, IsRefusedClosing, IsStoppedFor, MayGather};
 ghost use Rattle.bw_tree_c.specs.Slots.{HasAllOf, WaitsFrom};
 ghost use Rattle.bw_tree_c.specs.declared.refusal.Refusal.TheVariants.{Busy};
 
@@ -31,7 +31,7 @@ impl Shared {
     /// Takes out the last slot: so no other closing runs. Refused where one does, or where nothing is left.
     pub(crate) fn begin_closing(&self, since: Receipt) -> Result<Begun, Told>
         requires { MayCall self.now since }
-        ensures begun { IfOk result (λ begun. HasBegun self.now since begun.inside begun.hand) }
+        ensures begun { IfOk result (λ begun. HasBegunClosing self.now since begun.inside begun.hand) }
         ensures refused { IfErr result (IsRefusedClosing self.now since) }
     {
         let slot = self.last();
@@ -82,7 +82,7 @@ impl Shared {
     /// Whether a slot that is out may stay so: its seat has no unfinished operation, if it is to be idle.
     fn is_fit(&self, hand: &mut SeatHand, slot: usize, is_to_be_idle: bool) -> bool
         requires table { hand.old.table_id ≡ self.now.table.shared.table_id }
-        requires out { IsHere slot hand.old }
+        requires out { IsTakenLast slot hand.old }
         ensures same { hand.new.table_id ≡ hand.old.table_id }
         ensures me { hand.new.me ≡ hand.old.me }
         ensures fit { result ≡ true → is_to_be_idle ≡ true → IsIdleIn slot hand.old }
@@ -94,7 +94,7 @@ impl Shared {
     /// Whether the seat in a slot that is out has no unfinished operation.
     fn is_idle(&self, hand: &mut SeatHand, slot: usize) -> bool
         requires table { hand.old.table_id ≡ self.now.table.shared.table_id }
-        requires out { IsHere slot hand.old }
+        requires out { IsTakenLast slot hand.old }
         ensures same { hand.new.table_id ≡ hand.old.table_id }
         ensures me { hand.new.me ≡ hand.old.me }
         ensures idle { MatchBool result (IsIdleIn slot hand.old) (IsBusyIn slot hand.old) }
@@ -164,8 +164,8 @@ impl Shared {
         requires closing { IsClosing self.now self.now.limits.actors 1 RunsNothing hand }
         requires waits { WaitsFrom (opened_in self.now) hand.me.0.log inside }
         ensures status { result.status ≡ status }
-        ensures kept { IsKept self.now RunsNothing hand inside result.receipt }
-        ensures looked { IsKept self.now LooksOn hand inside result.receipt }
+        ensures kept { IsBackInside self.now RunsNothing hand inside result.receipt }
+        ensures looked { IsBackInside self.now LooksOn hand inside result.receipt }
     {
         let slot = self.last();
         self.table.shared.exchange(&mut hand, slot, inside);
