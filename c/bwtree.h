@@ -236,7 +236,7 @@ BWTREE_INLINE uint32_t bwtree_open_from(const bwtree_limits *limits, const bwtre
     return status;
 }
 
-/* Closes a tree, and frees it; or frees the pairs that wait. OK; CLOSED, BUSY: the tree stays open. 209 bytes of an opened tree, and 24 for each seat, are
+/* Closes a tree, and frees it; or frees the pairs that wait. OK; CLOSED, BUSY: the tree stays open. 176 bytes of an opened tree, and 40 for each seat, are
  * never freed, so that a call that comes too late is answered CLOSED, whenever it comes. */
 BWTREE_INLINE uint32_t bwtree_close(const bwtree *tree) {
     if (!tree) return BWTREE_NULL;
