@@ -83,7 +83,7 @@ enum {
     BWTREE_NO_ROOM = 7,     /* the tree is closed, and its pairs, which are more than there is room for, wait (close_pairs) */
     BWTREE_CLOSED = 16,     /* the tree is closed, or was never opened */
     BWTREE_NO_SEAT = 17,    /* the tree has no seat of this number */
-    BWTREE_BUSY = 18,       /* another call is inside the seat; of close: inside some seat */
+    BWTREE_BUSY = 18,       /* another call is inside the seat; of close: inside some seat, or another closing runs */
     BWTREE_UNFINISHED = 19, /* the seat's last operation isn't done: resume it first; of close_pairs: some seat's */
     BWTREE_IDLE = 20,       /* the seat has no operation to resume */
     BWTREE_TOO_LONG = 21,   /* a key or a value has more than 64 bytes */
@@ -151,7 +151,7 @@ int bwtree_goes_with(const char *version);
  * Proved of them: a call continues its seat from the last call on it, and a closing hands over what all calls that have returned have left
  * (docs/PROVED.md, Calls from C).
  * Each answers what its namesake below answers (raw_swap what compare_and_set, raw_room what free_room does), but BWTREE_NULL. The two that open answer OPEN
- * also of a handle whose tree is closed: bwtree_raw_vacate makes its bytes zero first (OK), and answers OPEN where the tree isn't closed or pairs wait, with
+ * also of a handle whose tree is closed: bwtree_raw_vacate empties it first (OK), and answers OPEN where the tree isn't closed or pairs wait, with
  * the handle as it was. ---- */
 
 uint32_t bwtree_raw_limits_for_keys(uint64_t actors, uint64_t keys, bwtree_limits *limits);
@@ -245,7 +245,7 @@ BWTREE_INLINE uint32_t bwtree_close(const bwtree *tree) {
 
 /* Closes a tree on which nothing is under way, frees it, and hands all its pairs over, keys ascending, `count` of them: bwtree_open_from takes them. OK.
  * NO_ROOM: there is room for fewer than `count`, and none is written. The tree is closed to all other calls, and its pairs wait: for this call with more
- * room, or for bwtree_close. UNFINISHED, CLOSED, BUSY; NO_MEMORY, for a list of 24 pairs a page, for which no closed tree asks: nothing is done, and the
+ * room, or for bwtree_close. UNFINISHED, CLOSED, BUSY; NO_MEMORY, for a list of 24 pairs a page, for which no closed tree asks: the
  * tree stays open. */
 BWTREE_INLINE uint32_t bwtree_close_pairs(const bwtree *tree, bwtree_pair *pairs, size_t room, uint64_t *count) {
     bwtree_pair none;

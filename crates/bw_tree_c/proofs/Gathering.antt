@@ -1,6 +1,6 @@
 -- The seats that a closing has out are gathered, one after the other.
 use Rattle.std.proofs.Common.{◌≡◌, ◌+◌, ◌*◌, ◌<◌, ◌≤◌, ◌++◌, ◌∷◌, ◌∙◌, ℕ, List, [], None, Some, ap, arith, length, refl, subst, sym}
-use Rattle.std.specs.Prelude.{IfSome, Option, slice_get}
+use Rattle.std.specs.Prelude.{MatchOption, Option, slice_get}
 use Rattle.std.specs.Arc.{arc_value}
 use Rattle.std.specs.Vec.{vec_capacity}
 use Rattle.std.proofs.lemmas.List.{length-append}
@@ -35,11 +35,11 @@ pub record HasGathered (shared : Shared) (n : ℕ) (hand : SeatHand) (old whole 
   pub each : (m : ℕ) (seat : Seat) → slice_get whole.seats.items m ≡ Some seat → seat_of (cell_of (opened_in shared) hand.me.0.log m) ≡ Some seat
   pub room : whole.room ≡ old.room
   pub capacity : vec_capacity whole.seats ≡ vec_capacity old.seats
-  pub own : 0 < n → IfSome whole.share (λ share. (m : ℕ) × (seat : Seat) × (slice_get whole.seats.items m ≡ Some seat) × IsSeatOf (arc_value share) seat)
+  pub own : 0 < n → MatchOption whole.share ⊥ (λ share. (m : ℕ) × (seat : Seat) × (slice_get whole.seats.items m ≡ Some seat) × IsSeatOf (arc_value share) seat)
   pub idle : AreIdleBelow shared shared.limits.actors hand
 
-if_some : {X : Type 0} (A B : X → Type 0) (o : Option X) → ((x : X) → A x → B x) → IfSome o A → IfSome o B
-if_some A B None f h = tt
+if_some : {X : Type 0} (A B : X → Type 0) (o : Option X) → ((x : X) → A x → B x) → MatchOption o ⊥ A → MatchOption o ⊥ B
+if_some A B None f h = absurd h
 if_some A B (Some x) f h = f x h
 
 nothing_at : (xs : List Seat) (n : ℕ) (x : Seat) (P : Type 0) → xs ≡ [] → slice_get xs n ≡ Some x → P
@@ -101,7 +101,7 @@ module _ (shared : Shared) (since : Receipt) (may : MayCall shared since) (last 
 
     pub one_gathered : (h2 : SeatHand) → GoesOn h2.me.0.log h.me.0.log → IsLog IsPutBack (opened_in shared) h2.me.0.log → (s : Seat) → seat_in y ≡ Some s → (old w1 w2 : Whole)
         → HasGathered shared n h old w1 → w2.seats.items ≡ w1.seats.items ++ s ∷ [] → vec_capacity w2.seats ≡ vec_capacity w1.seats → w2.room ≡ w1.room
-        → IfSome w2.share (λ share. IsSeatOf (arc_value share) s) → HasGathered shared (n + 1) h2 old w2
+        → MatchOption w2.share ⊥ (λ share. IsSeatOf (arc_value share) s) → HasGathered shared (n + 1) h2 old w2
     one_gathered h2 goes legal s at old w1 w2 g seats capacity room tree =
         let some : 0 < stage_of h.me.0.log = (let is = ap (λ m. stage_of m.0.log) mid.me ∙ mid.at.stage in omega (arith, is)) in
         let stays = kept (opened_in shared) shared.limits shared.own h.me.0.log h2.me.0.log goes legal some in

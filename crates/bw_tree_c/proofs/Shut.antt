@@ -227,6 +227,7 @@ module _ (shared : Shared) (since : Receipt) (may : MayCall shared since) (last 
 
     pub elsewhere : (ne : found ≢ 0) → IsOutElsewhere Q may.author (stays ne).log
     elsewhere ne = let it = miss ne in let at = (stays ne).at in record {
+      stage = let stage = at.stage in omega (arith, stage);
       n = n;
       by = it.author;
       x = it.x;
@@ -344,6 +345,7 @@ module _ (shared : Shared) (since : Receipt) (may : MayCall shared since) (last 
             seat = busy.1;
             at = ap seat_of it.3.away ∙ ap seat_in (sym (it.3.same (let count = shared.own.count in omega (arith, count, below))) ∙ is) ∙ busy.3;
             busy = busy.4;
+            stage = mid.at.stage;
           },
         );
       }
@@ -585,6 +587,7 @@ module _ (shared : Shared) (since : Receipt) (may : MayCall shared since) (h0 h1
           from = miss.looked.was.seen;
           upto = goes_on_self miss.looked.log;
           why = record {
+            stage = one.1 (sym shared.own.count);
             n = T;
             by = miss.author;
             x = miss.x;

@@ -97,7 +97,7 @@ HasMore (Some shared) since it room told = KeepsPairs shared since it room told
 abbrev pub TellsPairs : ℕ → Type 0
 TellsPairs status = (status ≡ OK) ⊎ (status ≡ NO_ROOM) ⊎ (status ≡ NO_MEMORY)
 
--- A closing was refused for this cause, which the log had while the call ran: it put all back that it took out.
+-- A closing was refused for this cause, which a log had between what the caller had seen and what the receipt has: it put all back that it took out.
 pub record IsRefusedFor (shared : Shared) (cause : ℕ → List (Event Inside) → Type 0) (since it : Receipt) : Type 0 where
   pub author : ℕ
   pub mine : List (Event Inside)
@@ -108,20 +108,22 @@ pub record IsRefusedFor (shared : Shared) (cause : ℕ → List (Event Inside) �
   pub upto : GoesOn written.after log
   pub why : cause author log
 
--- A slot was out with another author.
+-- A slot was out with another author, and something waited, or the tree was open.
 pub record IsOutElsewhere (opened : List Inside) (author : ℕ) (log : List (Event Inside)) : Type 0 where
   pub n : ℕ
   pub by : ℕ
   pub x : Inside
   pub away : cell_of opened log n ≡ out by x
   pub another : by ≢ author
+  pub stage : stage_of log < 2
 
--- A seat had an unfinished operation.
+-- A seat had an unfinished operation, and the tree was open.
 pub record HasUnfinished (opened : List Inside) (log : List (Event Inside)) : Type 0 where
   pub n : ℕ
   pub seat : Seat
   pub at : seat_of (cell_of opened log n) ≡ Some seat
   pub busy : IsSome (unfinished_command seat)
+  pub stage : stage_of log ≡ 0
 
 abbrev pub IsBusy : Option Shared → Receipt → Receipt → Type 0
 IsBusy None since it = ⊥
@@ -136,7 +138,7 @@ abbrev pub IsClosed : Option Shared → Receipt → Receipt → Type 0
 IsClosed None since it = it ≡ since
 IsClosed (Some shared) since it = IsAtStage shared (λ stage. stage ≡ 2) since it
 
--- Memory was refused, or a share of the tree is left somewhere: then nothing was done; or the tree is closed, and waits, whole, in the last slot. No call ran on a seat.
+-- Something is at home in the last slot: nothing, and the tree is open; or what waits of a closed one, as the tree with its seats. No call ran on a seat.
 pub record IsHeld (shared : Shared) (since it : Receipt) : Type 0 where
   pub author : ℕ
   pub mine : List (Event Inside)

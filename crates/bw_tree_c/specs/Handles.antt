@@ -42,13 +42,13 @@ pub record MayCall (shared : Shared) (it : Receipt) : Type 0 where
   pub writes : WritesAs authors author
   pub nothing : HasNothingOut (opened_in shared) authors log
 
--- The same of a handle that may keep no tree: then nothing is written.
+-- A call on a handle may be so written; where it keeps no tree, nothing is.
 abbrev pub MayCallOn : Option Shared → Receipt → Type 0
 MayCallOn None it = ⊤
 MayCallOn (Some shared) it = MayCall shared it
 
 -- The call wrote these events into the log of the handle, the last first, as its caller's first author, behind all that the caller had seen: as the caller's authors
--- nothing else is written, and no slot is left out.
+-- nothing else is written, and no slot is left out, unless for good.
 pub record HasWritten (shared : Shared) (author : ℕ) (mine : List (Event Inside)) (since it : Receipt) : Type 0 where
   pub authors : Authors
   pub before : List (Event Inside)
@@ -60,7 +60,7 @@ pub record HasWritten (shared : Shared) (author : ℕ) (mine : List (Event Insid
   pub only : WroteNoMore authors (mine ++ before) after
   pub back : HasNothingOut (opened_in shared) authors after
 
--- The slot of this number was out: a call of another author is inside the seat, or the tree is closed. Nothing was written.
+-- The slot of this number was out: a call is inside the seat, or the tree is closed. Nothing was written.
 pub record IsAway (shared : Shared) (number : ℕ) (since : Receipt) (told : Told) : Type 0 where
   pub below : number < shared.limits.actors
   pub author : ℕ

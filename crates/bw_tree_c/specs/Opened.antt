@@ -43,7 +43,7 @@ pub record ProposesLimits (seats keys : ℕ) (shows : TreeLimits) : Type 0 where
   pub epoch : shows.epoch ≡ 1
   pub kind : shows.large ≡ 0
 
--- The same for a large tree, whose rows are as wide as pairs with keys and values of so many bytes ask.
+-- They are those for a large tree, whose rows are as wide as pairs with keys and values of so many bytes ask.
 pub record ProposesPairLimits (seats keys key value : ℕ) (shows : TreeLimits) : Type 0 where
   pub actors : shows.actors ≡ seats
   pub pids : shows.pids ≡ large_pids_for seats keys
@@ -55,6 +55,6 @@ pub record ProposesPairLimits (seats keys key value : ℕ) (shows : TreeLimits) 
   pub narrow_words : shows.narrow_words ≡ narrow_words_for key value
   pub page_words : shows.page_words ≡ page_words_for key value
 
--- The same for pairs of any length.
+-- They are those for pairs of any length.
 abbrev pub ProposesLargeLimits : ℕ → ℕ → TreeLimits → Type 0
 ProposesLargeLimits seats keys shows = ProposesPairLimits seats keys 64 64 shows

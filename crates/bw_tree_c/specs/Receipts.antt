@@ -15,6 +15,6 @@ SeatHand = Seat Inside (Knows Inside)
 abbrev pub knows_row : RattleType
 knows_row = knows.the_row inside.the_row
 
--- The hand has what views of this table's seats these are: the one view, if it is one and of this table.
+-- If these views are one, and of this table, the hand has it.
 abbrev pub HasViewOf : TableId → List (Knows Inside) → TableId → SeatHand → Type 0
 HasViewOf from views which hand = from ≡ which → (view : Knows Inside) → views ≡ view ∷ [] → hand.me.0 ≡ view

@@ -40,8 +40,9 @@ IsRunToPage seat command status old new next = IsCalledAndTold seat command many
 abbrev pub IsTidied : Seat → Command → ℕ → Seat → Type 0
 IsTidied seat command status next = IsCalledAndTold seat command many status ⊤ (λ called. ⊤) next
 
--- The seat's operation went on, in one history; its status, its value and its page are told.
+-- The seat has an operation, which went on, in one history; its status, its value and its page are told.
 pub record WasResumed (seat : Seat) (budget answer : ℕ) (old new : Bytes) (page shows : Page) (next : Seat) : Type 0 where
+  pub busy : IsSome (unfinished_command seat)
   pub called : Called
   pub resumed : IsResumed seat budget called next
   pub fits : IfSome (unfinished_command seat) (λ command. CameFitting command called)

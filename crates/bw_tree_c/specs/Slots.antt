@@ -1,5 +1,5 @@
 -- What is in the slots of a handle, and what may be put back.
-use Rattle.std.specs.Prelude.{◌≡◌, ◌+◌, ◌*◌, ◌<◌, ◌≤◌, ◌⊎◌, [], ℕ, IfSome, List, None, Option, Some, length, slice_get}
+use Rattle.std.specs.Prelude.{◌≡◌, ◌+◌, ◌*◌, ◌<◌, ◌≤◌, ◌⊎◌, [], ℕ, List, MatchOption, None, Option, Some, length, slice_get}
 use Rattle.std.specs.Arc.{arc_value}
 use Rattle.std.specs.Vec.{vec_capacity}
 use Rattle.call_log.specs.declared.log.Event.{Event}
@@ -52,7 +52,7 @@ GoesOnTo (inside.Whole whole) new = new ≡ inside.Whole whole
 
 -- The seats of a tree are all here, none has an operation, and there is room for their pairs.
 pub record HasAllIn (whole : Whole) : Type 0 where
-  pub own : IfSome whole.share (λ share. AreSeatsOf (arc_value share) whole.seats.items)
+  pub own : MatchOption whole.share ⊥ (λ share. AreSeatsOf (arc_value share) whole.seats.items)
   pub idle : AreIdle whole.seats.items
   pub limits : Limits
   pub one : HaveOneTree limits whole.seats.items
@@ -72,7 +72,8 @@ WaitsFrom opened log (inside.Seat place) = ⊥
 WaitsFrom opened log (inside.Pairs pairs) = LeavesPairs opened log pairs.items
 WaitsFrom opened log (inside.Whole whole) = HasAllOf opened log whole.value
 
--- What may be put back: while the tree is open, what was taken out, as it went on; once it is closed, into the last slot, the pairs that it left.
+-- What may be put back: while the tree is open, what was taken out, as it went on; once it is closed, into the last slot, the pairs that it left, or the tree
+-- with its seats.
 abbrev pub IsPutBack : List Inside → List (Event Inside) → ℕ → Inside → Inside → Type 0
 IsPutBack opened log n old new = ((stage_of log ≡ 0) × GoesOnTo old new) ⊎ ((stage_of log ≡ 1) × (n + 1 ≡ length opened) × WaitsFrom opened log new)
 

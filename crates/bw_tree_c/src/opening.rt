@@ -94,6 +94,7 @@ pub extern "C" fn bwtree_raw_open(alloc: Global, limits: &TreeLimits, tree: &mut
     ensures authors { result.status ≡ OK → IsReceipt tree.new.kept.value (AllFrom 0) [] result.receipt }
     ensures may { result.status ≡ OK → MayCallOn tree.new.kept.value result.receipt }
     ensures open { result.status ≡ OPEN → IsSome tree.old.kept.value }
+    ensures kept { AreOpenable limits.now → IsSome tree.old.kept.value → result.status ≡ OPEN }
     ensures over { result.status ≡ OK → tree.old.kept.value ≡ None }
     ensures same { (result.status ≡ OK → ⊥) → tree.new ≡ tree.old }
 {

@@ -24,7 +24,7 @@ module _ {S : Type 0} (ends : Ends S) where
   AuthorsAreKnown = (opened : List S) (s : State S (Knows S)) → Holds ends opened s → (i j author : ℕ) (one other : Knows S)
       → get_elem? s.views i ≡ some one → get_elem? s.views j ≡ some other → HasAuthor one.authors author → GoesOn (by author one.log) (by author other.log)
 
-  -- What an author has out stays so while it writes nothing, and the stage is the same if all slots are out with it, or one at all is while the tree is open.
+  -- What an author has out stays so while it writes nothing, and an open tree stays open.
   pub record StaysOutAfter (opened : List S) (log more : List (Event S)) (author n : ℕ) (x : S) : Type 0 where
     pub out_still : cell_of opened (more ++ log) n ≡ out author x
     pub open_still : stage_of log ≡ 0 → stage_of (more ++ log) ≡ 0

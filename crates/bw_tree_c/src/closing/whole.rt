@@ -1,5 +1,5 @@
 //! A closed tree with all its seats, and room for its pairs.
-ghost use Rattle.std.specs.Prelude.{◌≡◌, ◌≤◌, ◌+◌, ◌*◌, ◌++◌, ◌∷◌, [], IfErr, IfOk, IfSome, length};
+ghost use Rattle.std.specs.Prelude.{◌≡◌, ◌≤◌, ◌+◌, ◌*◌, ◌++◌, ◌∷◌, [], IfErr, IfOk, IfSome, MatchOption, length};
 ghost use Rattle.std.specs.Arc.{arc_value};
 ghost use Rattle.std.specs.Vec.{vec_capacity};
 ghost use Rattle.running_tree.specs.Trees.{AreClosed, AreSeatsOf, IsSeatOf};
@@ -44,7 +44,7 @@ impl Whole {
         ensures seats { self.new.seats.items ≡ self.old.seats.items ++ place.value.seat ∷ [] }
         ensures capacity { vec_capacity self.new.seats ≡ vec_capacity self.old.seats }
         ensures room { self.new.room ≡ self.old.room }
-        ensures tree { IfSome self.new.share (λ share. IsSeatOf (arc_value share) place.value.seat) }
+        ensures tree { MatchOption self.new.share ⊥ (λ share. IsSeatOf (arc_value share) place.value.seat) }
     {
         let Place {
             tree,
@@ -62,7 +62,7 @@ impl Whole {
         ensures back { IfErr result (λ same. same.value ≡ whole.value) }
     {
         let Some(share) = whole.share.take() else {
-            return Err(whole);
+            unreachable!();
         };
         match Arc::try_unwrap(share) {
             Ok(tree) => {
