@@ -1,8 +1,8 @@
 -- The status of a run.
 use Rattle.std.proofs.Common.{◌≡◌, ◌⊎◌, ℕ, List, Bool, Option}
 use Rattle.tree_limits.specs.declared.limits.Limits.{Limits}
-use Rattle.shell_options.specs.declared.words.Program.{Program}
-use Rattle.shell_options.specs.declared.words.Program.TheVariants.{Script, Weave, Draw, Film, Race}
+use Rattle.shell_options.specs.declared.settings.Program.{Program}
+use Rattle.shell_options.specs.declared.settings.Program.TheVariants.{Script, Weave, Draw, Film, Race}
 use Rattle.bwtree.specs.Runs.{IsProgramRun}
 
 -- Each program ends with 0 or 1.

@@ -1,10 +1,11 @@
 -- What the programs do, from what they read to what they write.
-use Rattle.std.specs.Prelude.{◌≡◌, ℕ, List, Bool, Option}
+use Rattle.std.specs.Prelude.{ℕ, List, Bool, Option}
 use Rattle.tree_limits.specs.declared.limits.Limits.{Limits}
 use Rattle.shell_lines.specs.declared.request.Language.TheVariants as language
-use Rattle.shell_options.specs.declared.words.Program.{Program}
-use Rattle.shell_options.specs.declared.words.Program.TheVariants.{Script, Weave, Draw, Film, Race}
-use Rattle.shell_options.specs.declared.words.Settings.{Settings}
+use Rattle.shell_options.specs.declared.settings.Program.{Program}
+use Rattle.shell_options.specs.declared.settings.Program.TheVariants.{Script, Weave, Draw, Film, Race}
+use Rattle.shell_options.specs.declared.settings.Settings.{Settings}
+use Rattle.shell_options.specs.Settings.{AreLimitsOf}
 use Rattle.bw_shell.specs.Weave.{IsWholeRun}
 use Rattle.drawing.specs.Drawings.{IsWholeDrawing}
 use Rattle.filming.specs.Films.{IsWholeFilm}
@@ -21,9 +22,5 @@ IsProgramRun Race = IsRace
 -- The program that the settings name ran so, on a tree of exactly their limits.
 pub record HasRunProgram (settings : Settings) (in_old in_new : Option (List ℕ)) (read_failed : Bool) (out_old out_new : Option (List ℕ)) (write_failed : Bool) (status : ℕ) : Type 0 where
   pub limits : Limits
-  pub actors : limits.actors ≡ settings.actors
-  pub pids : limits.pids ≡ settings.pids
-  pub rows : limits.rows ≡ settings.rows
-  pub epoch : limits.epoch ≡ settings.epoch
-  pub kind : limits.is_large ≡ settings.is_large
+  pub are_of : AreLimitsOf settings limits
   pub runs : IsProgramRun settings.program limits in_old in_new read_failed out_old out_new write_failed status

@@ -1,7 +1,7 @@
 //! A run of the program: from the words of a command line to an exit status.
 
 ghost use Rattle.std.specs.Prelude.{◌≡◌, ◌⊎◌};
-ghost use Rattle.shell_options.specs.Words.{MayOpen};
+ghost use Rattle.shell_options.specs.Settings.{MayOpen};
 
 use crate::programs::run_settings;
 use bw_shell::Refusal;
@@ -60,6 +60,10 @@ fn refuse(rt: &HostRuntime, error: OptionsError) -> u8 {
             }
             unwritten(rt);
             1
+        }
+        OptionsError::Misplaced(option) => {
+            let _ = eprintln!(rt; "error: {option}");
+            2
         }
         OptionsError::Memory => no_memory(rt),
     }

@@ -1,7 +1,7 @@
 //! The five programs, over any input and output.
 
 ghost use Rattle.std.specs.Prelude.{◌≡◌, ◌≤◌, ◌^◌, ◌↔◌, [], IfSome, IsSome, None, false};
-ghost use Rattle.shell_options.specs.Words.{MayOpen};
+ghost use Rattle.shell_options.specs.Settings.{MayOpen};
 ghost use Rattle.bwtree.specs.Runs.{HasRunProgram, IsProgramRun};
 
 use bw_model::Limits;

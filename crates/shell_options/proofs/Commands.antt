@@ -5,7 +5,7 @@ use Rattle.clap.specs.Words.{AddsArg, AddsSubcommand, Rule, app_of, rule_of, wit
 use Rattle.clap.specs.declared.builder.arg.Arg.{Arg}
 use Rattle.clap.specs.declared.builder.command.Command.{Command}
 use Rattle.clap.specs.declared.builder.command.Command.TheViews.{out-Command as fields_of}
-use Rattle.shell_options.specs.Words.{IsApp, MakesApp}
+use Rattle.shell_options.specs.Grammar.{IsApp, MakesApp}
 
 is_made : {E : Type 0} (made : Result Command E) (command : Command) (app : App) → made ≡ Ok command → MakesApp app made → (app_of command ≡ app) × ((fields_of command).has_globals ≡ false)
 is_made {E = E} made command app found makes = subst (λ (m : Result Command E). MakesApp app m) found makes

@@ -1,10 +1,11 @@
 -- What a number that was read says of the words.
-use Rattle.std.proofs.Common.{◌≡◌, ℕ, Bool, List, [], Option, Some, None, Result, Ok, Err, sym, refl, ap, ◌∙◌, subst, codes, false, true, MatchBool, MatchOption, IfOk, Box}
+use Rattle.std.proofs.Common.{◌≡◌, ℕ, Bool, List, Option, Some, None, Result, Ok, Err, sym, refl, ap, ◌∙◌, subst, codes, false, true}
+use Rattle.std.proofs.Common.{MatchBool, MatchOption, IfErr, IfOk, Box}
 use Rattle.std.specs.Prelude.{option_map}
 use Rattle.std.specs.Option.{option_map_or}
-use Rattle.std.specs.Str.Parse.{digits_value, without_leading_plus}
+use Rattle.std.specs.Str.Parse.{digits_value, without_leading_plus, ParsesUnsigned, ExplainsUnsignedError, HasUnsignedDigitsIfOk}
 use Rattle.std.specs.Box.{box_value}
-use Rattle.clap.specs.Words.{App, Row, Text, is_simple, is_simple_and_free, one_text, rows_of, takes}
+use Rattle.clap.specs.Words.{App, Row, Text, is_simple, is_simple_and_free, one_of, one_text, rows_of, subcommand_of, takes, TriesOne}
 use Rattle.clap.specs.Simple.{subcommand_rows}
 use Rattle.clap.specs.declared.parser.matches.ArgMatches.TheViews.{out-SubCommand}
 use Rattle.clap.specs.declared.error.kind.ErrorKind.{ErrorKind}
@@ -14,23 +15,28 @@ use Rattle.clap.proofs.WalkLemmas.{one_text-rows}
 use Rattle.clap.proofs.OnLiterals.{clap_on_literals}
 use Rattle.clap.specs.declared.parser.matches.SubCommand.{SubCommand}
 use Rattle.shell_options.specs.declared.words.OptionsError.{OptionsError}
-use Rattle.shell_options.specs.declared.words.Program.{Program}
-use Rattle.shell_options.specs.declared.words.Settings.{Settings}
-use Rattle.shell_options.specs.Words.{bwtree_app, name_of, AreTaken, HasNumbers, IsNamedBy, SpellsFlag, SpellsOr}
+use Rattle.shell_options.specs.declared.words.OptionsError.TheVariants.{Clap, Misplaced, Memory}
+use Rattle.shell_options.specs.declared.settings.Program.{Program}
+use Rattle.shell_options.specs.declared.settings.Settings.{Settings}
+use Rattle.shell_options.specs.Grammar.{bwtree_app}
+use Rattle.shell_options.specs.Words.{behind, name_of, number_in, AreTaken, HasNoFault, HasNumbers, IsNamedBy, MayMisplace, MayRefuse, SpellsFlag}
 
-abbrev pub Reads : ℕ → ℕ → Option Text → Type 0
-Reads default n o = MatchOption o (n ≡ default) (λ text. digits_value 10 (without_leading_plus text) ≡ n)
+-- a number that was read is the one that the option's word spells
+with_text : (rows : List Row) (id : Text) (o : Option Text) → o ≡ one_of id rows → (r : Option ℕ) → (o ≡ None → r ≡ None)
+    → ((t : Text) → o ≡ Some t → r ≡ Some (digits_value 10 (without_leading_plus t))) → r ≡ number_in rows id
+with_text rows id None is r none some = none refl ∙ ap (option_map (λ text. digits_value 10 (without_leading_plus text))) is
+with_text rows id (Some t) is r none some = some t refl ∙ ap (option_map (λ text. digits_value 10 (without_leading_plus text))) is
 
-pub spells : (found : Found) (id : Text) (default n : ℕ) → Reads default n (one_text found id) → SpellsOr (rows_of found) id default n
-spells found id default n r = subst (Reads default n) (one_text-rows found id) r
+pub is_number : (found : Found) (id : Text) (r : Option ℕ) → (one_text found id ≡ None → r ≡ None)
+    → ((t : Text) → one_text found id ≡ Some t → r ≡ Some (digits_value 10 (without_leading_plus t))) → r ≡ number_in (rows_of found) id
+is_number found id r none some = with_text (rows_of found) id (one_text found id) (one_text-rows found id) r none some
 
-pub reads_given : (default n : ℕ) (o : Option Text) → (o ≡ None → ⊥) → ((t : Text) → o ≡ Some t → n ≡ digits_value 10 (without_leading_plus t)) → Reads default n o
-reads_given default n None none some = absurd (none refl)
-reads_given default n (Some t) none some = sym (some t refl)
-
-pub reads_default : (default : ℕ) (o : Option Text) → ((t : Text) → o ≡ Some t → ⊥) → Reads default default o
-reads_default default None some = refl
-reads_default default (Some t) some = absurd (some t refl)
+-- what a text was read as
+pub value_read : (t : Text) (r : Option ℕ)
+    → TriesOne (λ bs r. ParsesUnsigned 64 10 bs r × ExplainsUnsignedError 10 bs r × HasUnsignedDigitsIfOk bs r) t (Ok r)
+    → r ≡ Some (digits_value 10 (without_leading_plus t))
+value_read t (Some v) read = ap (λ (m : ℕ). Some m) read.0.1
+value_read t None read = absurd read
 
 abbrev pub IsFlagWord : Bool → Text → Type 0
 IsFlagWord is_there text = MatchBool is_there (text ≡ codes "true") (text ≡ codes "false")
@@ -57,7 +63,7 @@ pub is_simple_and_free-bwtree_app : is_simple_and_free bwtree_app ≡ true
 unfolding clap_on_literals
 is_simple_and_free-bwtree_app = refl
 
-pub rows_of_some : (o : Option (Text × List Row)) (rows : List Row) → option_map (λ p. p.1) o ≡ Some rows → option_map_or (λ p. p.1) o [] ≡ rows
+pub rows_of_some : (o : Option (Text × List Row)) (rows : List Row) → option_map (λ p. p.1) o ≡ Some rows → behind o ≡ rows
 rows_of_some None rows h = cc
 rows_of_some (Some p) rows h = cc
 
@@ -70,11 +76,24 @@ outside app words kind is only other taken = other (only (subst (λ (a : App). t
 pub is_told : (told : Option (Text × List Row)) (program : Program) (read : List Row) (r : Result Settings OptionsError)
     → option_map (λ p. p.0) told ≡ Some (name_of program) → option_map (λ p. p.1) told ≡ Some read
     → IfOk r (HasNumbers read) → IfOk r (λ (line : Settings). line.program ≡ program) → IfOk r (IsNamedBy told)
-is_told told program read (Ok line) named behind numbers same = record {
+is_told told program read (Ok line) named is numbers same = record {
   program = named ∙ ap (λ (p : Program). Some (name_of p)) (sym same);
-  numbers = subst (λ (r : List Row). HasNumbers r line) (sym (rows_of_some told read behind)) numbers;
+  numbers = subst (λ (r : List Row). HasNumbers r line) (sym (rows_of_some told read is)) numbers;
 }
-is_told told program read (Err error) named behind numbers same = tt
+is_told told program read (Err error) named is numbers same = tt
+
+-- what is refused of the options behind a program's name
+pub is_misplaced : (told : Option (Text × List Row)) (read : List Row) (r : Result Settings OptionsError)
+    → option_map (λ p. p.1) told ≡ Some read → IfErr r (MayMisplace read) → IfErr r (MayMisplace (behind told))
+is_misplaced told read r is refused = subst (λ (rows : List Row). IfErr r (MayMisplace rows)) (sym (rows_of_some told read is)) refused
+
+-- what is refused of the words that have no fault
+pub is_refused : (words : List Text) (r : Result Settings OptionsError)
+    → HasNoFault words → IfErr r (MayMisplace (behind (subcommand_of bwtree_app words))) → IfErr r (MayRefuse words)
+is_refused words (Ok line) faultless refused = tt
+is_refused words (Err (Clap error)) faultless refused = absurd refused
+is_refused words (Err (Misplaced option)) faultless refused = (faultless, refused)
+is_refused words (Err Memory) faultless refused = tt
 
 module _ {Z : Type 0} where
   pub name_is : (o : Option (Box SubCommand Z)) → option_map (λ p. p.0) (subcommand_rows o) ≡ option_map (λ b. (out-SubCommand (box_value b)).name.now) o

@@ -23,7 +23,9 @@ A program that refuses a line prints 'refused line N: C' and ends; a refusal of 
 
 The status is 0 where the input was read to its end, all was written and nothing was refused; 2 where the command line was refused; else 1.
 
-A tree never grows: if it is too small, writers reply 'full' for good. For K different keys, ever, and A actors or seats (a script has one),
+A tree never grows: if it is too small, writers reply 'full' for good. --keys K opens one for K different keys, ever. With --large its rows are only as wide as
+their records need, and several actors have room for 16384 updates while one is stopped.
+In place of --keys, for K different keys, ever, and A actors or seats (a script has one),
 with divisions that round down, and each result rounded up to a multiple of 64:
   leaves = K / 8 + 1               pages = leaves + leaves / 6 + 1
   --pids = pages + 1 + 11 A        --rows = 9 pids + 120 A

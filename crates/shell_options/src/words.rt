@@ -1,61 +1,34 @@
-//! The command line's words.
+//! What the words of a command line mean.
 
-ghost use Rattle.std.specs.Prelude.{◌≡◌, ◌↔◌, IfErr, IfOk, IfSome, IsOk, map, false};
+ghost use Rattle.std.specs.Prelude.{◌≡◌, IfErr, IfOk, Some, map, codes};
 ghost use Rattle.std.specs.String.{string_bytes};
-ghost use Rattle.clap.specs.Words.{App, found_of, new_app, rows_of, rule_of, with_rule, with_subcommand};
-ghost use Rattle.shell_options.specs.Words.{flag_rule, number_rule, limits_rules, actors_app, draw_app, film_app, script_app, weave_app, race_app, bwtree_app};
-ghost use Rattle.shell_options.specs.Words.{SpellsFlag, SpellsOr, HasActors, HasNumbers, IsApp, MakesApp, default_pids_of, default_rows_of, told_by};
-ghost use Rattle.shell_options.specs.Words.{HasNoFault, IsSpelled, IsNamedBy, MayRefuse, MayOpen};
+ghost use Rattle.clap.specs.Words.{found_of, rows_of};
+ghost use Rattle.shell_options.specs.Words.{default_pids_of, default_rows_of, number_in, told_by, behind, IsAbsent, IsThere};
+ghost use Rattle.shell_options.specs.Words.{SpellsFlag, SpellsOr, SpellsSize, HasActors, HasNumbers, HasNoCounts, HasNoLengths, LacksPairs};
+ghost use Rattle.shell_options.specs.Words.{HasNoFault, IsSpelled, IsNamedBy, MayMisplace, MayRefuse};
 
-use crate::help;
+use crate::grammar::command;
+use crate::settings::{Program, Settings, TreeSize};
 use clap::error::ErrorKind;
-use clap::{Arg, ArgAction, ArgMatches, Command, Error, value_parser};
-use std::alloc::{AllocError, Global};
-use tree_limits::{BadLimits, Limits};
+use clap::{ArgMatches, Error};
+use std::alloc::Global;
 
-/// What the program is to do.
-#[derive(Clone, Copy, Debug, PartialEq, Eq)]
-pub enum Program {
-    /// Runs commands, one after another.
-    Script,
-    /// Runs operations of several actors, turn by turn.
-    Weave,
-    /// Runs the lines of `Weave`, and draws the tree at the end of the input.
-    Draw,
-    /// Runs the lines of `Weave`, and draws the tree after each step.
-    Film,
-    /// Runs jobs on threads.
-    Race,
-}
-
-/// What the words of a command line ask for.
-#[derive(Clone, Copy, Debug, PartialEq, Eq)]
-pub struct Settings {
-    pub program: Program,
-    pub actors: u64,
-    pub pids: u64,
-    pub rows: u64,
-    /// Whether the limits are those of a large tree.
-    pub is_large: bool,
-    pub epoch: u64,
-}
-
-impl Settings {
-    /// The limits of these numbers, of a large tree where they are said to be, refused exactly where one is outside its range.
-    pub fn limits(&self) -> Result<Limits, BadLimits>
-        ensures allowed { IsOk result ↔ MayOpen self.now }
-        ensures actors { IfOk result (λ limits. limits.actors ≡ self.now.actors) }
-        ensures pids { IfOk result (λ limits. limits.pids ≡ self.now.pids) }
-        ensures rows { IfOk result (λ limits. limits.rows ≡ self.now.rows) }
-        ensures epoch { IfOk result (λ limits. limits.epoch ≡ self.now.epoch) }
-        ensures kind { IfOk result (λ limits. limits.is_large ≡ self.now.is_large) }
-    {
-        if self.is_large {
-            Limits::large(self.actors, self.pids, self.rows, self.epoch)
-        } else {
-            Limits::new(self.actors, self.pids, self.rows, self.epoch)
-        }
-    }
+/// An option that may not be given with those beside it. The grammar takes it, since clap doesn't promise which words a grammar takes whose
+/// options exclude one another.
+#[derive(Clone, Copy, Debug, Drop, PartialEq, Eq, thiserror::Error)]
+pub enum Misplaced {
+    /// `--pids` beside `--keys`.
+    #[error("--pids cannot be used with --keys")]
+    Pids,
+    /// `--rows` beside `--keys`.
+    #[error("--rows cannot be used with --keys")]
+    Rows,
+    /// `--key-bytes` without both `--keys` and `--large`.
+    #[error("--key-bytes can be used only with --keys and --large")]
+    KeyBytes,
+    /// `--value-bytes` without both `--keys` and `--large`.
+    #[error("--value-bytes can be used only with --keys and --large")]
+    ValueBytes,
 }
 
 /// Why they say nothing.
@@ -64,243 +37,55 @@ pub enum OptionsError {
     /// The words are outside the grammar, or ask for help.
     #[error(transparent)]
     Clap(Error),
+    /// An option is there that may not be given with those beside it.
+    #[error("{0}")]
+    Misplaced(Misplaced),
     /// A growth of memory was refused.
     #[error("no memory to read the command line")]
     Memory,
 }
 
-/// An option with a number.
-fn option<'a>(alloc: Global, name: &'a str) -> Arg<'a>
-    ensures rule { rule_of result ≡ number_rule name.entry.now }
-    ensures local { result.global ≡ false }
-{
-    Arg::new(alloc, name)
-        .long(name)
-        .value_parser(value_parser!(u64))
-}
+/// How many bytes a key and a value have at most.
+const MOST_BYTES: u64 = 64;
 
-/// An option with a number, and its line in help.
-fn number<'a>(alloc: Global, name: &'a str, help: &'a str) -> Arg<'a>
-    ensures rule { rule_of result ≡ number_rule name.entry.now }
-    ensures local { result.global ≡ false }
-{
-    option(alloc, name).help(help)
-}
-
-/// The command with one such option more, if there is a command.
-fn with_number<'a>(
-    alloc: Global,
-    command: Result<Command<'a>, AllocError>,
-    name: &'a str,
-    help: &'a str,
-) -> Result<Command<'a>, AllocError>
-    ensures { (app : App) → MakesApp app command.entry → MakesApp (with_rule app (number_rule name.entry.now)) result }
-{
-    command?.arg(number(alloc, name, help))
-}
-
-/// A flag: an option without a value.
-fn flag<'a>(alloc: Global, name: &'a str) -> Arg<'a>
-    ensures rule { rule_of result ≡ flag_rule name.entry.now }
-    ensures local { result.global ≡ false }
-{
-    Arg::new(alloc, name).long(name).action(ArgAction::SetTrue)
-}
-
-/// The command with one flag more, if there is a command.
-fn with_flag<'a>(
-    alloc: Global,
-    command: Result<Command<'a>, AllocError>,
-    name: &'a str,
-    help: &'a str,
-) -> Result<Command<'a>, AllocError>
-    ensures { (app : App) → MakesApp app command.entry → MakesApp (with_rule app (flag_rule name.entry.now)) result }
-{
-    command?.arg(flag(alloc, name).help(help))
-}
-
-/// A program's words: a command with the options of its limits, but for the number of actors.
-fn with_limits<'a>(
-    alloc: Global,
-    command: Result<Command<'a>, AllocError>,
-    pids_help: &'a str,
-    rows_help: &'a str,
-) -> Result<Command<'a>, AllocError>
-    ensures { (app : App) → MakesApp app command.entry → MakesApp (limits_rules app) result }
-{
-    let command = with_number(alloc, command, "pids", pids_help);
-    let command = with_number(alloc, command, "rows", rows_help);
-    let large_help =
-        "A large tree, with the larger ranges: its pages are consolidated at two deltas in place of eight";
-    let command = with_flag(alloc, command, "large", large_help);
-    let epoch_help = "The opening epoch, 1 to 4611686018427387904 [default: 1]";
-    with_number(alloc, command, "epoch", epoch_help)
-}
-
-/// The limits of a program that takes turns.
-fn with_few<'a>(
-    alloc: Global,
-    command: Result<Command<'a>, AllocError>,
-) -> Result<Command<'a>, AllocError>
-    ensures { (app : App) → MakesApp app command.entry → MakesApp (limits_rules app) result }
-{
-    with_limits(
-        alloc,
-        command,
-        "Page identifiers, 64 to 4096, with --large to 4194304, a multiple of 64 [default: 64]",
-        "Rows for records, 64 to 16384, with --large to 67108864, a multiple of 64; below nine a page, with --large three, a map may be full for good [default: 256]",
-    )
-}
-
-/// A command without options, and what help says of it.
-fn described<'a>(
-    alloc: Global,
-    name: &'a str,
-    about: &'a str,
-    example: &'a str,
-) -> Result<Command<'a>, AllocError>
-    ensures { MakesApp (new_app name.entry.now) result }
-{
-    Ok(Command::new(alloc, name).about(about).after_help(example))
-}
-
-/// The words of a program of several actors that take turns.
-fn actors_command<'a>(
-    alloc: Global,
-    name: &'a str,
-    about: &'a str,
-    example: &'a str,
-) -> Result<Command<'a>, AllocError>
-    ensures { MakesApp (actors_app name.entry.now) result }
-{
-    let command = described(alloc, name, about, example);
-    let command = with_number(
-        alloc,
-        command,
-        "actors",
-        "Actors, 1 to 16, with --large to 63 [default: 2]",
-    );
-    with_few(alloc, command)
-}
-
-fn weave_command<'a>(alloc: Global) -> Result<Command<'a>, AllocError>
-    ensures { MakesApp weave_app result }
-{
-    actors_command(
-        alloc,
-        "weave",
-        "Runs the lines of standard input, turn by turn, and prints the replies",
-        help::WEAVE,
-    )
-}
-
-fn draw_command<'a>(alloc: Global) -> Result<Command<'a>, AllocError>
-    ensures { MakesApp draw_app result }
-{
-    actors_command(
-        alloc,
-        "draw",
-        "Runs the lines of standard input as weave does, and prints a picture of the tree, as SVG",
-        help::DRAW,
-    )
-}
-
-fn film_command<'a>(alloc: Global) -> Result<Command<'a>, AllocError>
-    ensures { MakesApp film_app result }
-{
-    actors_command(
-        alloc,
-        "film",
-        "Runs the lines of standard input as weave does, and prints a page with a picture of the tree after each step, as HTML",
-        help::FILM,
-    )
-}
-
-fn script_command<'a>(alloc: Global) -> Result<Command<'a>, AllocError>
-    ensures { MakesApp script_app result }
-{
-    let script = described(
-        alloc,
-        "script",
-        "Runs the commands of standard input, one a line, and prints the replies",
-        help::SCRIPT,
-    );
-    with_few(alloc, script)
-}
-
-fn race_command<'a>(alloc: Global) -> Result<Command<'a>, AllocError>
-    ensures { MakesApp race_app result }
-{
-    let race = described(
-        alloc,
-        "race",
-        "Runs the jobs of standard input on threads, and prints the replies and all pairs",
-        help::RACE,
-    );
-    let seats_help = "Seats, one thread each, 1 to 16, with --large to 63 [default: 2]";
-    let race = with_number(alloc, race, "seats", seats_help);
-    with_limits(
-        alloc,
-        race,
-        "Page identifiers, 64 to 4096, with --large to 4194304, a multiple of 64 [default: 4096]",
-        "Rows for records, 64 to 16384, with --large to 67108864, a multiple of 64; below nine a page, with --large three, a map may be full for good [default: 16384]",
-    )
-}
-
-/// The command with a program more, if there is a command, and where that one's words could be made.
-fn with_program<'a>(
-    command: Result<Command<'a>, AllocError>,
-    made: Result<Command<'a>, AllocError>,
-) -> Result<Command<'a>, AllocError>
-    ensures { (app sub : App) → IsApp app command.entry → MakesApp sub made.entry → IsApp (with_subcommand app sub.top) result }
-{
-    command?.subcommand(made?)
-}
-
-/// The words of all programs.
-fn command<'a>(alloc: Global) -> Result<Command<'a>, AllocError>
-    ensures { IsApp bwtree_app result }
-{
-    let command = Command::new(alloc, "bwtree")
-        .about("An ordered map of keys to values, kept in a latch-free Bw-tree")
-        .version(help::VERSION)
-        .after_help(help::PROGRAM)
-        .subcommand_required(true);
-    let command = with_program(Ok(command), script_command(alloc));
-    let command = with_program(command, weave_command(alloc));
-    let command = with_program(command, draw_command(alloc));
-    let command = with_program(command, film_command(alloc));
-    with_program(command, race_command(alloc))
-}
-
-/// The number of the option `name`, or `default` where it isn't there.
-fn chosen(matches: &ArgMatches<'_>, name: &str, default: u64) -> Option<u64>
-    ensures { IfSome result (SpellsOr (rows_of (found_of matches.now)) name.now default) }
+/// The number of the option `name`, if it is there.
+fn given(matches: &ArgMatches<'_>, name: &str) -> Result<Option<u64>, OptionsError>
+    ensures ok { IfOk result (λ given. given ≡ number_in (rows_of (found_of matches.now)) name.now) }
+    ensures refused { IfErr result (λ error. error ≡ OptionsError.Memory) }
 {
     match matches.try_get_one::<u64>(name) {
-        Ok(Some(number)) => Some(number),
-        Ok(None) => Some(default),
-        Err(_) => None,
+        Ok(number) => Ok(number),
+        Err(_) => Err(OptionsError::Memory),
     }
 }
 
+/// The number of the option `name`, or `default` where it isn't there.
+fn chosen(matches: &ArgMatches<'_>, name: &str, default: u64) -> Result<u64, OptionsError>
+    ensures ok { IfOk result (SpellsOr (rows_of (found_of matches.now)) name.now default) }
+    ensures refused { IfErr result (λ error. error ≡ OptionsError.Memory) }
+{
+    Ok(given(matches, name)?.unwrap_or(default))
+}
+
 /// Whether the flag `name` is there.
-fn has_flag(matches: &ArgMatches<'_>, name: &str) -> Option<bool>
-    ensures { IfSome result (SpellsFlag (rows_of (found_of matches.now)) name.now) }
+fn has_flag(matches: &ArgMatches<'_>, name: &str) -> Result<bool, OptionsError>
+    ensures ok { IfOk result (SpellsFlag (rows_of (found_of matches.now)) name.now) }
+    ensures refused { IfErr result (λ error. error ≡ OptionsError.Memory) }
 {
     match matches.try_get_one::<bool>(name) {
-        Ok(Some(is_there)) => Some(is_there),
-        Ok(None) => Some(false),
-        Err(_) => None,
+        Ok(Some(is_there)) => Ok(is_there),
+        Ok(None) => Ok(false),
+        Err(_) => Err(OptionsError::Memory),
     }
 }
 
 /// The number of actors that a program has, from the words behind its name.
-fn actors(program: Program, matches: &ArgMatches<'_>) -> Option<u64>
-    ensures { IfSome result (HasActors program (rows_of (found_of matches.now))) }
+fn actors(program: Program, matches: &ArgMatches<'_>) -> Result<u64, OptionsError>
+    ensures ok { IfOk result (HasActors program (rows_of (found_of matches.now))) }
+    ensures refused { IfErr result (λ error. error ≡ OptionsError.Memory) }
 {
     match program {
-        Program::Script => Some(1),
+        Program::Script => Ok(1),
         Program::Weave | Program::Draw | Program::Film => chosen(matches, "actors", 2),
         Program::Race => chosen(matches, "seats", 2),
     }
@@ -326,33 +111,108 @@ fn default_rows(program: Program) -> u64
     }
 }
 
+/// Refuses lengths of keys and values, where no large tree is for a number of keys.
+fn no_lengths(matches: &ArgMatches<'_>) -> Result<(), OptionsError>
+    requires { LacksPairs (rows_of (found_of matches.now)) }
+    ensures ok { IfOk result (λ _. HasNoLengths (rows_of (found_of matches.now))) }
+    ensures refused { IfErr result (MayMisplace (rows_of (found_of matches.now))) }
+{
+    if given(matches, "key-bytes")?.is_some() {
+        return Err(OptionsError::Misplaced(Misplaced::KeyBytes));
+    }
+    if given(matches, "value-bytes")?.is_some() {
+        return Err(OptionsError::Misplaced(Misplaced::ValueBytes));
+    }
+    Ok(())
+}
+
+/// Refuses numbers of page identifiers and rows, where a number of keys is there.
+fn no_counts(matches: &ArgMatches<'_>) -> Result<(), OptionsError>
+    requires { IsThere (rows_of (found_of matches.now)) (codes "keys") }
+    ensures ok { IfOk result (λ _. HasNoCounts (rows_of (found_of matches.now))) }
+    ensures refused { IfErr result (MayMisplace (rows_of (found_of matches.now))) }
+{
+    if given(matches, "pids")?.is_some() {
+        return Err(OptionsError::Misplaced(Misplaced::Pids));
+    }
+    if given(matches, "rows")?.is_some() {
+        return Err(OptionsError::Misplaced(Misplaced::Rows));
+    }
+    Ok(())
+}
+
+/// How large a program's tree is by its numbers of page identifiers and rows, where no number of keys is there.
+fn counted(
+    program: Program,
+    matches: &ArgMatches<'_>,
+    is_large: bool,
+) -> Result<TreeSize, OptionsError>
+    requires kind { SpellsFlag (rows_of (found_of matches.now)) (codes "large") is_large }
+    requires no_keys { IsAbsent (rows_of (found_of matches.now)) (codes "keys") }
+    ensures ok { IfOk result (SpellsSize program (rows_of (found_of matches.now))) }
+    ensures refused { IfErr result (MayMisplace (rows_of (found_of matches.now))) }
+{
+    no_lengths(matches)?;
+    let pids = chosen(matches, "pids", default_pids(program))?;
+    let rows = chosen(matches, "rows", default_rows(program))?;
+    if is_large {
+        Ok(TreeSize::Large { pids, rows })
+    } else {
+        Ok(TreeSize::Small { pids, rows })
+    }
+}
+
+/// How large a program's tree is for so many keys, which the words give.
+fn proposed(
+    program: Program,
+    matches: &ArgMatches<'_>,
+    is_large: bool,
+    keys: u64,
+) -> Result<TreeSize, OptionsError>
+    requires kind { SpellsFlag (rows_of (found_of matches.now)) (codes "large") is_large }
+    requires keys { number_in (rows_of (found_of matches.now)) (codes "keys") ≡ Some keys }
+    ensures ok { IfOk result (SpellsSize program (rows_of (found_of matches.now))) }
+    ensures refused { IfErr result (MayMisplace (rows_of (found_of matches.now))) }
+{
+    no_counts(matches)?;
+    if !is_large {
+        no_lengths(matches)?;
+        return Ok(TreeSize::ForKeys { keys });
+    }
+    let key_bytes = chosen(matches, "key-bytes", MOST_BYTES)?;
+    let value_bytes = chosen(matches, "value-bytes", MOST_BYTES)?;
+    Ok(TreeSize::ForPairs {
+        keys,
+        key_bytes,
+        value_bytes,
+    })
+}
+
+/// How large a program's tree is, from the words behind its name.
+fn size(program: Program, matches: &ArgMatches<'_>) -> Result<TreeSize, OptionsError>
+    ensures ok { IfOk result (SpellsSize program (rows_of (found_of matches.now))) }
+    ensures refused { IfErr result (MayMisplace (rows_of (found_of matches.now))) }
+{
+    let is_large = has_flag(matches, "large")?;
+    match given(matches, "keys")? {
+        Some(keys) => proposed(program, matches, is_large, keys),
+        None => counted(program, matches, is_large),
+    }
+}
+
 /// The numbers of a program, from the words behind its name.
 fn numbers(program: Program, matches: &ArgMatches<'_>) -> Result<Settings, OptionsError>
     ensures ok { IfOk result (HasNumbers (rows_of (found_of matches.now))) }
     ensures program { IfOk result (λ settings. settings.program ≡ program) }
-    ensures refused { IfErr result (λ error. error ≡ OptionsError.Memory) }
+    ensures refused { IfErr result (MayMisplace (rows_of (found_of matches.now))) }
 {
-    let Some(actors) = actors(program, matches) else {
-        return Err(OptionsError::Memory);
-    };
-    let Some(pids) = chosen(matches, "pids", default_pids(program)) else {
-        return Err(OptionsError::Memory);
-    };
-    let Some(rows) = chosen(matches, "rows", default_rows(program)) else {
-        return Err(OptionsError::Memory);
-    };
-    let Some(is_large) = has_flag(matches, "large") else {
-        return Err(OptionsError::Memory);
-    };
-    let Some(epoch) = chosen(matches, "epoch", 1) else {
-        return Err(OptionsError::Memory);
-    };
+    let actors = actors(program, matches)?;
+    let size = size(program, matches)?;
+    let epoch = chosen(matches, "epoch", 1)?;
     Ok(Settings {
         program,
         actors,
-        pids,
-        rows,
-        is_large,
+        size,
         epoch,
     })
 }
@@ -360,7 +220,7 @@ fn numbers(program: Program, matches: &ArgMatches<'_>) -> Result<Settings, Optio
 /// The program that the matches name, with its numbers.
 fn named_program(matches: &ArgMatches<'_>) -> Result<Settings, OptionsError>
     ensures told { IfOk result (IsNamedBy (told_by matches.now)) }
-    ensures refused { IfErr result (λ error. error ≡ OptionsError.Memory) }
+    ensures refused { IfErr result (MayMisplace (behind (told_by matches.now))) }
 {
     if let Some(script) = matches.subcommand_matches("script") {
         return numbers(Program::Script, script);

@@ -134,7 +134,7 @@ fn outside(alloc: Global, line: &str) -> Result<String, Fail> {
 }
 
 /// Lines, and what is said of them.
-const OUTSIDE: [(&str, &str); 8] = [
+const OUTSIDE: [(&str, &str); 14] = [
     (
         "weave --actors 0 --pids 63",
         "0 is outside the range of --actors: 1 to 16, or with --large to 63",
@@ -167,7 +167,65 @@ const OUTSIDE: [(&str, &str); 8] = [
         "weave --large --epoch 4611686018427387905",
         "4611686018427387905 is outside the range of --epoch: 1 to 4611686018427387904",
     ),
+    (
+        "script --keys 12200",
+        "12200 is outside the range of --keys: 0 to 12199, or with --large to some 27 million",
+    ),
+    (
+        "race --keys 9752 --seats 16 --epoch 0",
+        "9752 is outside the range of --keys: 0 to 9751, or with --large to some 27 million",
+    ),
+    (
+        "race --keys 9752 --seats 17",
+        "17 is outside the range of --seats: 1 to 16, or with --large to 63",
+    ),
+    (
+        "race --large --keys 100000000",
+        "100000000 is outside the range of --keys: 0 to some 27 million",
+    ),
+    (
+        "draw --large --keys 1 --key-bytes 65 --value-bytes 65",
+        "65 is outside the range of --key-bytes: 0 to 64",
+    ),
+    (
+        "film --large --keys 1 --value-bytes 66",
+        "66 is outside the range of --value-bytes: 0 to 64",
+    ),
 ];
+
+/// Lines with an option that is refused beside the others, and what is printed of it.
+const MISPLACED: [(&str, &str); 4] = [
+    (
+        "script --keys 1 --pids 64",
+        "--pids cannot be used with --keys",
+    ),
+    (
+        "race --keys 1 --rows 64",
+        "--rows cannot be used with --keys",
+    ),
+    (
+        "weave --large --key-bytes 8",
+        "--key-bytes can be used only with --keys and --large",
+    ),
+    (
+        "draw --keys 1 --value-bytes 8",
+        "--value-bytes can be used only with --keys and --large",
+    ),
+];
+
+#[test]
+fn a_misplaced_option_is_named(rt: HostRuntime) -> Result<(), Fail> {
+    for (line, told) in MISPLACED {
+        match options(rt.alloc(), words(rt.alloc(), line)?.as_slice()) {
+            Err(error) => {
+                let text = format!(in rt.alloc(); "{error}")?;
+                assert_eq!(rt; text.as_str(), told, "{line}");
+            }
+            Ok(_) => return Err(Fail::from("the words are taken")),
+        }
+    }
+    Ok(())
+}
 
 #[test]
 fn a_number_outside_its_range_is_named(rt: HostRuntime) -> Result<(), Fail> {

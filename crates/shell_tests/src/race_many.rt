@@ -1,7 +1,7 @@
 //! Many commands.
 
 use crate::race_runs::{add_parts, prints};
-use bw_model::Limits;
+use crate::words::limits_of;
 use std::alloc::Global;
 use std::sync::Wait;
 use std::thread::Threads;
@@ -52,9 +52,9 @@ fn add_lines(text: &mut Vec<u8>, line: Line) -> bool {
     true
 }
 
-// Whether four jobs insert a thousand keys each, of its own.
-fn are_inserted<R: Threads + Wait + Sync>(rt: &R, alloc: Global) -> bool {
-    let Ok(limits) = Limits::new(4, 4096, 16384, 1) else {
+// Whether four jobs insert a thousand keys each, of its own, into a tree of the limits that these words ask for.
+fn are_inserted<R: Threads + Wait + Sync>(rt: &R, alloc: Global, line: &str) -> bool {
+    let Some(limits) = limits_of(alloc, line) else {
         return false;
     };
     let mut input = Vec::new(alloc);
@@ -68,5 +68,17 @@ fn are_inserted<R: Threads + Wait + Sync>(rt: &R, alloc: Global) -> bool {
 
 #[test]
 fn thousands_of_inserts(rt: HostRuntime) {
-    assert!(rt; are_inserted(&rt, rt.alloc()));
+    assert!(rt; are_inserted(&rt, rt.alloc(), "race --seats 4"));
+}
+
+#[test]
+fn thousands_of_inserts_by_keys(rt: HostRuntime) {
+    assert!(rt; are_inserted(&rt, rt.alloc(), "race --seats 4 --keys 4000"));
+}
+
+// Of a large tree, whose rows have three widths.
+#[test]
+fn thousands_of_inserts_in_a_large_tree(rt: HostRuntime) {
+    let line = "race --seats 4 --large --keys 4000 --key-bytes 8 --value-bytes 8";
+    assert!(rt; are_inserted(&rt, rt.alloc(), line));
 }

@@ -2,7 +2,8 @@
 
 use crate::breaking::Ran;
 use crate::numbered::Width;
-use crate::runs::{Rows, agree, limits, whole};
+use crate::runs::{Rows, add, agree, limits, whole};
+use crate::words::limits_of;
 use bw_model::Limits;
 use shell_lines::Language;
 use std::alloc::{AllocError, Global};
@@ -55,6 +56,58 @@ fn refused_commands(rt: HostRuntime) {
         ),
     ];
     agree(&rt, rt.alloc(), Language::Script, rows);
+}
+
+/// Adds a line of five pairs, whose keys and values have 64 bytes, behind a word for each.
+fn add_long_pairs(lines: &mut Vec<u8>, word: &[u8]) -> Result<(), AllocError> {
+    for letter in [b"a", b"b", b"c", b"d", b"e"] {
+        let parts: [(&[u8], u32); 6] = [
+            (word, 1),
+            (letter, 1),
+            (b"k", 63),
+            (b" ", 1),
+            (b"v", 64),
+            (b"\n", 1),
+        ];
+        for (part, times) in parts {
+            add(lines, part, times)?;
+        }
+    }
+    Ok(())
+}
+
+/// A script of five such inserts, and what it prints.
+fn long_script(alloc: Global) -> Result<(Vec<u8>, Vec<u8>), AllocError> {
+    let mut input = Vec::new(alloc);
+    add_long_pairs(&mut input, b"insert ")?;
+    add(&mut input, b"list\n", 1)?;
+    let mut output = Vec::new(alloc);
+    add(&mut output, b"0 inserted\n", 5)?;
+    add(&mut output, b"pairs 5\n", 1)?;
+    add_long_pairs(&mut output, b"")?;
+    Ok((input, output))
+}
+
+/// Whether it prints that in a tree of the limits that these words ask for.
+fn is_long_script(alloc: Global, line: &str) -> bool {
+    match (limits_of(alloc, line), long_script(alloc)) {
+        (Some(limits), Ok((input, output))) => {
+            whole(alloc, Language::Script, limits, input.as_slice()).is(output.as_slice(), 0)
+        }
+        _ => false,
+    }
+}
+
+// The rows for pages have 64 words where keys and values are to have one byte: five of these pairs take more, so their page is in a wide row.
+#[test]
+fn scripts_by_keys(rt: HostRuntime) {
+    for line in [
+        "script --keys 1000",
+        "script --large --keys 1000",
+        "script --large --keys 1000 --key-bytes 1 --value-bytes 1",
+    ] {
+        assert!(rt; is_long_script(rt.alloc(), line), "{line}");
+    }
 }
 
 /// Commands of a script, each with a key's number in place of each #.

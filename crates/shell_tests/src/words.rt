@@ -1,7 +1,7 @@
 //! The words of a command line.
 
 use bw_model::Limits;
-use shell_options::{OptionsError, Program, Settings, options};
+use shell_options::{Misplaced, OptionsError, Program, Settings, options};
 use std::alloc::{AllocError, Global};
 use std::process::Abort;
 
@@ -16,6 +16,8 @@ enum Said {
     BadLimits,
     /// They are refused.
     Refused,
+    /// An option is refused beside the others.
+    Misplaced(Misplaced),
     /// Help, or the version.
     Help,
     Memory,
@@ -61,6 +63,7 @@ fn answer_to(alloc: Global, words: &[String]) -> Said {
         Ok(settings) => said_by(&settings),
         Err(OptionsError::Clap(error)) if error.use_stderr() => Said::Refused,
         Err(OptionsError::Clap(_)) => Said::Help,
+        Err(OptionsError::Misplaced(option)) => Said::Misplaced(option),
         Err(OptionsError::Memory) => Said::Memory,
     }
 }
@@ -81,7 +84,7 @@ fn all_say(rt: &impl Abort, alloc: Global, lines: &[&str], wanted: Said) {
 }
 
 /// Lines, and the numbers of their programs.
-const NUMBERS: [(&str, Program, [u64; 4]); 12] = [
+const NUMBERS: [(&str, Program, [u64; 4]); 16] = [
     ("weave", Program::Weave, [2, 64, 256, 1]),
     (
         "weave --rows 64 --epoch=7 --actors 3 --pids 0128",
@@ -110,10 +113,23 @@ const NUMBERS: [(&str, Program, [u64; 4]); 12] = [
         [16, 128, 64, 7],
     ),
     ("race --seats 1", Program::Race, [1, 4096, 16384, 1]),
+    // by the rule: pages 148 and 1780, and 2 where there are no keys
+    ("script --keys 1000", Program::Script, [1, 192, 1856, 1]),
+    (
+        "race --seats 4 --keys=1000",
+        Program::Race,
+        [4, 256, 2816, 1],
+    ),
+    (
+        "script --keys 12199 --epoch 7",
+        Program::Script,
+        [1, 1792, 16256, 7],
+    ),
+    ("weave --keys 0", Program::Weave, [2, 64, 832, 1]),
 ];
 
 /// Lines for large trees, and the numbers of their programs.
-const LARGE: [(&str, Program, [u64; 4]); 7] = [
+const LARGE: [(&str, Program, [u64; 4]); 11] = [
     ("weave --large", Program::Weave, [2, 64, 256, 1]),
     ("draw --large --pids 4160", Program::Draw, [2, 4160, 256, 1]),
     (
@@ -141,6 +157,27 @@ const LARGE: [(&str, Program, [u64; 4]); 7] = [
         Program::Race,
         [63, 4096, 16384, 1],
     ),
+    // rows are narrow 576, for pages 320, wide 64; and of two actors 17216, 8640, 192
+    (
+        "script --large --keys 1000",
+        Program::Script,
+        [1, 192, 960, 1],
+    ),
+    (
+        "race --large --keys 1000 --epoch 9",
+        Program::Race,
+        [2, 8448, 26048, 9],
+    ),
+    (
+        "draw --keys 1000 --value-bytes 8 --large --key-bytes 16",
+        Program::Draw,
+        [2, 8448, 26048, 1],
+    ),
+    (
+        "script --large --keys 27068967",
+        Program::Script,
+        [1, 4194304, 12648768, 1],
+    ),
 ];
 
 #[test]
@@ -160,7 +197,7 @@ fn numbers_of_options(rt: HostRuntime) {
 }
 
 /// Numbers that are none of 64 bits, words that are none, a flag with a value, and options that stand twice.
-const REFUSED: [&str; 26] = [
+const REFUSED: [&str; 31] = [
     "weave --rows x",
     "weave --rows -1",
     "weave --rows 64.0",
@@ -187,10 +224,34 @@ const REFUSED: [&str; 26] = [
     "race --large=",
     "draw --large --large",
     "--large script",
+    "weave --keys x",
+    "weave --keys",
+    "race --keys 1 --keys 1",
+    "script --large --keys 1 --key-bytes -1",
+    "--keys 1 script",
+];
+
+/// Options that are refused beside the others.
+const MISPLACED: [(&str, Misplaced); 12] = [
+    ("script --keys 1000 --pids 64", Misplaced::Pids),
+    ("race --pids 64 --rows 64 --keys 1", Misplaced::Pids),
+    ("weave --large --pids 64 --keys 1", Misplaced::Pids),
+    ("draw --rows 64 --keys 1", Misplaced::Rows),
+    ("film --keys 1 --large --rows 64", Misplaced::Rows),
+    ("weave --key-bytes 8", Misplaced::KeyBytes),
+    ("race --large --key-bytes 8", Misplaced::KeyBytes),
+    ("script --keys 1 --key-bytes 64", Misplaced::KeyBytes),
+    ("draw --value-bytes 8", Misplaced::ValueBytes),
+    ("script --large --value-bytes 8", Misplaced::ValueBytes),
+    ("race --keys 1 --value-bytes 64", Misplaced::ValueBytes),
+    (
+        "race --large --rows 64 --value-bytes 8",
+        Misplaced::ValueBytes,
+    ),
 ];
 
 /// Numbers outside their ranges.
-const BAD_LIMITS: [&str; 27] = [
+const BAD_LIMITS: [&str; 38] = [
     "weave --actors 0",
     "weave --actors 17",
     "weave --actors 18446744073709551615",
@@ -218,6 +279,17 @@ const BAD_LIMITS: [&str; 27] = [
     "draw --actors 0 --large",
     "race --large --seats 64",
     "race --seats 63",
+    "script --keys 12200",
+    "race --seats 16 --keys 9752",
+    "race --seats 17 --keys 1",
+    "weave --actors 0 --large --keys 1",
+    "weave --keys 18446744073709551615",
+    "script --large --keys 27068968",
+    "script --large --keys 18446744073709551615",
+    "draw --large --keys 1 --key-bytes 65",
+    "film --large --keys 1 --value-bytes 65",
+    "weave --keys 1 --epoch 0",
+    "race --large --keys 1 --epoch 0",
 ];
 
 /// Words that ask for help or the version.
@@ -236,4 +308,33 @@ fn refused_words(rt: HostRuntime) {
     all_say(&rt, alloc, &REFUSED, Said::Refused);
     all_say(&rt, alloc, &BAD_LIMITS, Said::BadLimits);
     all_say(&rt, alloc, &HELP, Said::Help);
+    for (line, option) in MISPLACED {
+        assert!(rt; says(alloc, line, Said::Misplaced(option)), "{line}");
+    }
+}
+
+/// How many words a narrow row and a page's row have.
+fn widths_of(alloc: Global, line: &str) -> Option<(u64, u64)> {
+    limits_of(alloc, line).map(|limits| (limits.narrow_words, limits.page_words))
+}
+
+// A put of a pair of such lengths, and 19 pairs with two bounds, in words and then whole lines of eight.
+#[test]
+fn rows_are_sized_by_lengths(rt: HostRuntime) {
+    let alloc = rt.alloc();
+    for (line, widths) in [
+        ("script --large --keys 1", (24, 344)),
+        (
+            "script --large --keys 1 --key-bytes 16 --value-bytes 8",
+            (8, 88),
+        ),
+        (
+            "script --large --keys 1 --key-bytes 8 --value-bytes 16",
+            (8, 80),
+        ),
+        ("script --large --keys 1 --key-bytes 8", (16, 200)),
+        ("script --large --keys 1 --value-bytes 0", (16, 192)),
+    ] {
+        assert_eq!(rt; widths_of(alloc, line), Some(widths), "{line}");
+    }
 }

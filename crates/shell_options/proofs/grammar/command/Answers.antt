@@ -1,7 +1,7 @@
 use Rattle.std.proofs.Common.{ap, true, ◌∙◌}
 use Rattle.clap.specs.Simple.{app_of_fields, on_top}
-use Rattle.shell_options.specs.Words.{script_app, weave_app, draw_app, film_app, race_app}
-use Rattle.shell_options.proofs.words.command.Goals as goal
+use Rattle.shell_options.specs.Grammar.{script_app, weave_app, draw_app, film_app, race_app}
+use Rattle.shell_options.proofs.grammar.command.Goals as goal
 
 pub returns : goal.returns
 returns c =

@@ -1,6 +1,6 @@
 use Rattle.std.proofs.Common.{ap, ◌∙◌}
 use Rattle.clap.specs.Words.{rule_of}
-use Rattle.shell_options.proofs.words.number.Goals as goal
+use Rattle.shell_options.proofs.grammar.number.Goals as goal
 
 pub returns-clause-rule : goal.returns-clause-rule
 returns-clause-rule c = ap rule_of c.help.ensures ∙ c.option.ensures.rule
