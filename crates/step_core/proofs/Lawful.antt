@@ -3,7 +3,7 @@ use Rattle.std.proofs.Common.{◌≡◌, ◌<◌, ℕ, zero, suc, List, Option, 
 use Rattle.std.specs.Prelude.{Bool, IsSome, IsTrue, is_some}
 use Rattle.tree_limits.specs.declared.limits.Limits.{Limits}
 use Rattle.bw_model.specs.declared.step.Step.{Step as StepOf}
-use Rattle.bw_model.specs.declared.step.Step.TheVariants.{Row, Epoch, Place, Exchange, Enter, Leave, Retire, ReusePids, ReuseRows}
+use Rattle.bw_model.specs.declared.step.Step.TheVariants.{Slot, Row, Epoch, Announce, PidBits, RowBits, Place, Exchange, TakePid, TakeRow, Enter, Leave, Retire, ReusePids, ReuseRows}
 use Rattle.deltas.specs.declared.record.Record.{Record}
 use Rattle.deltas.specs.Memory.{Memory}
 use Rattle.traces.specs.declared.trace.Entry.{Entry}

@@ -14,7 +14,8 @@ use Rattle.tree_limits.specs.declared.limits.Limits.{Limits}
 use Rattle.bw_model.specs.declared.step.Answer.{Answer}
 use Rattle.bw_model.specs.declared.step.Answer.TheVariants.{Content}
 use Rattle.bw_model.specs.declared.step.Step.{Step as StepOf}
-use Rattle.bw_model.specs.declared.step.Step.TheVariants.{Place, Row}
+use Rattle.bw_model.specs.declared.step.Step.TheVariants as wants
+use Rattle.bw_model.specs.declared.step.Step.TheVariants.{Announce, Exchange, PidBits, Place, Retire, ReusePids, ReuseRows, Row, RowBits, Slot, TakePid, TakeRow}
 use Rattle.bw_model.specs.Numbers.{is_number}
 use Rattle.bw_model.specs.Replies.{command_key, reply_of}
 use Rattle.deltas.specs.declared.record.Record.{Record}
@@ -33,7 +34,7 @@ use Rattle.change_machine.specs.declared.taking.Kind.{Kind}
 use Rattle.op_machine.specs.machine.Hands.{Hand}
 use Rattle.op_machine.specs.machine.Shows.{ShowsState}
 use Rattle.op_machine.specs.machine.Tasks.{Task}
-use Rattle.op_machine.specs.machine.States.{State, Enter, Read, Write, Leave}
+use Rattle.op_machine.specs.machine.States.{State, Begun, Epoch, Enter, Read, Write, Change, Leave}
 use Rattle.step_core.specs.Actors.{IsPageEnd, IsReady, NeedsRoom}
 
 -- a reply that a test decides between two without pairs
