@@ -12,7 +12,7 @@ style_text =
     ++ codes "body{font:16px system-ui,sans-serif;margin:1rem auto;max-width:1400px;padding:0 1rem;color:#1b1f24;background:#fff}\n"
     ++ codes "h1{font-size:1.3rem;margin:.3rem 0}h2{font-size:1.1rem;margin:.6rem 0 .2rem}h3{font-size:1rem;margin:.6rem 0 .2rem}p,ul{margin:.3rem 0;max-width:75rem}\n"
     ++ codes "nav{position:sticky;top:0;background:inherit;padding:.4rem 0;display:flex;flex-wrap:wrap;gap:.5rem;align-items:center}button{font:inherit;padding:.2rem .7rem}\n"
-    ++ codes "section{scroll-margin-top:99rem}svg{max-width:100%;height:auto}pre{margin:0;columns:10rem}.changed{font-weight:bold}.told{position:absolute;left:-99rem}\n"
+    ++ codes "section{scroll-margin-top:99rem}svg{max-width:100%;height:auto}pre,ol{margin:0;columns:10rem}.changed{font-weight:bold}.told{position:absolute;left:-99rem}\n"
     ++ codes "@media (prefers-color-scheme:dark){body{color:#e6edf3;background:#0d1117}}\n"
 
 abbrev pub guide_text : List ℕ

@@ -25,7 +25,7 @@ fn show_looks<O: Output>(out: &mut O)
         b"nav{position:sticky;top:0;background:inherit;padding:.4rem 0;display:flex;flex-wrap:wrap;gap:.5rem;align-items:center}button{font:inherit;padding:.2rem .7rem}\n",
     );
     out.show(
-        b"section{scroll-margin-top:99rem}svg{max-width:100%;height:auto}pre{margin:0;columns:10rem}.changed{font-weight:bold}.told{position:absolute;left:-99rem}\n",
+        b"section{scroll-margin-top:99rem}svg{max-width:100%;height:auto}pre,ol{margin:0;columns:10rem}.changed{font-weight:bold}.told{position:absolute;left:-99rem}\n",
     );
     out.show(b"@media (prefers-color-scheme:dark){body{color:#e6edf3;background:#0d1117}}\n");
 }
