@@ -3,6 +3,7 @@ use Rattle.std.proofs.Common.{◌≡◌, ◌<◌, ◌≤◌, ℕ, zero, suc, ◌
 use Rattle.std.specs.Prelude.{slice_get, slice_index_or, Some}
 use Rattle.std.proofs.lemmas.List.{append-nil, map-append}
 use Rattle.std.proofs.Math.Seq.{take-suc}
+use Rattle.bw_model.specs.Log.{Update}
 use Rattle.step_core.specs.Turns.{AddsTurn, Core}
 use Rattle.step_core.specs.declared.event.Event.{Event}
 use Rattle.traces.specs.declared.trace.Turn.{Turn}
@@ -34,26 +35,29 @@ pub frames_next : (number : ℕ) (turns : List Turn) (i : ℕ) (turn : Turn) →
     → frames_behind number (take (i + 1) turns) ≡ next_frame (frames_behind number (take i turns)) turn
 frames_next number turns i turn more = ap (frames_behind number) more ∙ frames_more number (take i turns) turn
 
-pub filmed_more : (number : ℕ) (before mid after : Core) (turns : List Turn) (turn : Turn) (event : Event) (text own : List ℕ) → AreFilmed number before turns mid text
-    → AddsTurn mid turn event after → IsFilmed (frames_behind number turns) mid turn after own → AreFilmed number before (turns ++ turn ∷ []) after (text ++ own)
+pub filmed_more : (number : ℕ) (before mid after : Core) (log mid_log more : List Update) (turns : List Turn) (turn : Turn) (event : Event) (text own : List ℕ)
+    → AreFilmed number before log turns mid mid_log text → AddsTurn mid turn event after → IsFilmed (frames_behind number turns) mid turn event mid_log after more own
+    → AreFilmed number before log (turns ++ turn ∷ []) after more (text ++ own)
 unfolding AreFilmed
-filmed_more number before mid after [] turn event text own all adds is = (
+filmed_more number before mid after log mid_log more [] turn event text own all adds is = (
   event,
   after,
+  more,
   own,
   [],
   subst (λ (c : Core). AddsTurn c turn event after) all.0 adds,
-  subst (λ (c : Core). IsFilmed number c turn after own) all.0 is,
-  (refl, refl),
-  ap (λ (t : List ℕ). t ++ own) all.1 ∙ sym (append-nil own),
+  subst (λ (l : List Update). IsFilmed number before turn event l after more own) all.1 (subst (λ (c : Core). IsFilmed number c turn event mid_log after more own) all.0 is),
+  (refl, refl, refl),
+  ap (λ (t : List ℕ). t ++ own) all.2 ∙ sym (append-nil own),
 )
-filmed_more number before mid after (first ∷ turns) turn event text own all adds is = (
+filmed_more number before mid after log mid_log more (first ∷ turns) turn event text own all adds is = (
   all.0,
   all.1,
   all.2,
-  all.3 ++ own,
-  all.4,
+  all.3,
+  all.4 ++ own,
   all.5,
-  filmed_more (next_frame number first) all.1 mid after turns turn event all.3 own all.6 adds is,
-  ap (λ (t : List ℕ). t ++ own) all.7 ∙ append_assoc all.2 all.3 own,
+  all.6,
+  filmed_more (next_frame number first) all.1 mid after all.2 mid_log more turns turn event all.4 own all.7 adds is,
+  ap (λ (t : List ℕ). t ++ own) all.8 ∙ append_assoc all.3 all.4 own,
 )

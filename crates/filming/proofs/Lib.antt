@@ -1,1 +1,2 @@
 mod Filming
+mod Places

@@ -4,7 +4,8 @@ use Rattle.std.specs.Io.KnownBytes.{Consumes}
 use Rattle.tree_limits.specs.declared.limits.Limits.{Limits}
 use Rattle.traces.specs.declared.trace.Turn.{Turn}
 use Rattle.traces.specs.declared.trace.Turn.TheVariants.{Begin, Step}
-use Rattle.traces.specs.trace.Trace.{turn_of}
+use Rattle.traces.specs.trace.Trace.{command_of, turn_of}
+use Rattle.bw_model.specs.Log.{Update}
 use Rattle.step_core.specs.Turns.{AddsTurn, Core}
 use Rattle.step_core.specs.declared.event.Event.{Event}
 use Rattle.listing.specs.Listed.{IsListing}
@@ -16,6 +17,7 @@ use Rattle.bw_shell.specs.Turns.{Trace, IsOneMap, opening_trace, trace_of}
 use Rattle.bw_shell.specs.Weave.{IsTranscriptFrom}
 use Rattle.byte_streams.specs.Output.{Writes}
 use Rattle.drawing.specs.Drawings.{IsPictureOf}
+use Rattle.filming.specs.Logs.{log_after, place_text}
 use Rattle.filming.specs.Pages.{frame_text, head_text, refusal_text, tail_text}
 
 -- A film has a frame for each turn that takes a step.
@@ -31,9 +33,10 @@ frames_behind number (turn ∷ turns) = frames_behind (next_frame number turn) t
 abbrev pub steps_in : List Turn → ℕ
 steps_in turns = frames_behind 0 turns
 
--- The text is a frame with this number: some words, how the map before became the map after, the picture of what stands after, and the map after. In the picture
--- actors stand by the steps that they will take next.
-pub record IsFrame (number : ℕ) (before after : Core) (text : List ℕ) : Type 0 where
+-- The text is a frame with this number, of an actor's step that told the event: some words, how the map before became the map after, the place in the order of an
+-- operation that is done without an update, the picture of what stands after, the map after, and the log. In the picture actors stand by the steps that they will
+-- take next.
+pub record IsFrame (number : ℕ) (before : Core) (actor : ℕ) (event : Event) (log : List Update) (after : Core) (text : List ℕ) : Type 0 where
   pub words : List ℕ
   pub picture : List ℕ
   pub pairs_before : List (List ℕ × List ℕ)
@@ -41,19 +44,19 @@ pub record IsFrame (number : ℕ) (before after : Core) (text : List ℕ) : Type
   pub listed_before : IsListing before.limits before.entries pairs_before
   pub listed_after : IsListing after.limits after.entries pairs_after
   pub shown : IsPictureOf (trace_of after) after.demand.wanted picture
-  pub spells : text ≡ frame_text number words pairs_before picture pairs_after
+  pub spells : text ≡ frame_text number words pairs_before (place_text log (command_of before.entries actor) event) picture pairs_after log
 
--- What is written for a turn: nothing where it begins an operation, else the frame of its step.
-abbrev pub IsFilmed : ℕ → Core → Turn → Core → List ℕ → Type 0
-IsFilmed number before (Begin actor command) after text = text ≡ []
-IsFilmed number before (Step actor) after text = IsFrame number before after text
+-- What is written for a turn that told the event, and the log behind it: nothing where it begins an operation, else the frame of its step.
+abbrev pub IsFilmed : ℕ → Core → Turn → Event → List Update → Core → List Update → List ℕ → Type 0
+IsFilmed number before (Begin actor command) event log after more text = (text ≡ []) × (more ≡ log)
+IsFilmed number before (Step actor) event log after more text = IsFrame number before actor event more after text × (more ≡ log_after before actor event log)
 
--- The core took the turns, one after another, and these are their frames, in that order, from this number on.
-unfoldable pub AreFilmed : ℕ → Core → List Turn → Core → List ℕ → Type 0
-AreFilmed number before [] after text = (after ≡ before) × (text ≡ [])
-AreFilmed number before (turn ∷ turns) after text =
-    (event : Event) × (mid : Core) × (own : List ℕ) × (rest : List ℕ) × AddsTurn before turn event mid × IsFilmed number before turn mid own
-    × AreFilmed (next_frame number turn) mid turns after rest × (text ≡ own ++ rest)
+-- The core took the turns, one after another, from a log on, and these are their frames, in that order, from this number on.
+unfoldable pub AreFilmed : ℕ → Core → List Update → List Turn → Core → List Update → List ℕ → Type 0
+AreFilmed number before log [] after more text = (after ≡ before) × (more ≡ log) × (text ≡ [])
+AreFilmed number before log (turn ∷ turns) after more text =
+    (event : Event) × (mid : Core) × (mid_log : List Update) × (own : List ℕ) × (rest : List ℕ) × AddsTurn before turn event mid
+    × IsFilmed number before turn event log mid mid_log own × AreFilmed (next_frame number turn) mid mid_log turns after more rest × (text ≡ own ++ rest)
 
 -- A core was opened and took the turns, all of them where `whole`, else those before one for which there was no memory; the text is their frames.
 pub record AreFramesOf (limits : Limits) (turns : List Turn) (text : List ℕ) (whole : Bool) : Type 0 where
@@ -64,7 +67,8 @@ pub record AreFramesOf (limits : Limits) (turns : List Turn) (text : List ℕ) (
   pub others : List Turn
   pub left : Core
   pub are : turns ≡ taken ++ others
-  pub filmed : AreFilmed 1 opened taken left text
+  pub log : List Update
+  pub filmed : AreFilmed 1 opened [] taken left log text
   pub all : whole ≡ true → others ≡ []
 
 -- the last frame: that there was no memory for the frames behind, or the refused line, if there is one

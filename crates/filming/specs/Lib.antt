@@ -1,3 +1,4 @@
 pub mod Films
+pub mod Logs
 pub mod Maps
 pub mod Pages

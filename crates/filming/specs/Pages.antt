@@ -1,6 +1,8 @@
 -- The text of a page that moves: what stands before the frames and behind them, and around each.
 use Rattle.std.specs.Prelude.{ℕ, List, ◌++◌, codes, decimal}
 use Rattle.tree_picture.specs.Document.{escape}
+use Rattle.bw_model.specs.Log.{Update}
+use Rattle.filming.specs.Logs.{log_text}
 use Rattle.filming.specs.Maps.{change_text, map_text}
 
 -- the beginning of each page: how it looks, what is to be seen, and its buttons
@@ -10,7 +12,7 @@ style_text =
     ++ codes "body{font:16px system-ui,sans-serif;margin:1rem auto;max-width:1400px;padding:0 1rem;color:#1b1f24;background:#fff}\n"
     ++ codes "h1{font-size:1.3rem;margin:.3rem 0}h2{font-size:1.1rem;margin:.6rem 0 .2rem}h3{font-size:1rem;margin:.6rem 0 .2rem}p,ul{margin:.3rem 0;max-width:75rem}\n"
     ++ codes "nav{position:sticky;top:0;background:inherit;padding:.4rem 0;display:flex;flex-wrap:wrap;gap:.5rem;align-items:center}button{font:inherit;padding:.2rem .7rem}\n"
-    ++ codes "section{scroll-margin-top:99rem}svg{max-width:100%;height:auto}pre{margin:0;columns:10rem}.changed{font-weight:bold}.told{position:absolute;left:-99rem}\n"
+    ++ codes "section{scroll-margin-top:99rem}svg{max-width:100%;height:auto}pre,ol{margin:0;columns:10rem}.changed{font-weight:bold}.told{position:absolute;left:-99rem}\n"
     ++ codes "@media (prefers-color-scheme:dark){body{color:#e6edf3;background:#0d1117}}\n"
 
 abbrev pub guide_text : List ℕ
@@ -23,13 +25,13 @@ guide_text =
     ++ codes "<li>A record that is linked never changes. To change a page, an actor places a new record, whose next one is the newest that it has read, in a row of its own.</li>\n"
     ++ codes "<li>Then it exchanges the slot: one compare-and-swap from the row that it has read to the new one. If another actor was faster, the slot has another row by then.\n"
     ++ codes "The exchange is lost, nothing has changed, and the actor begins anew. This one word takes the place of a lock.</li>\n"
-    ++ codes "<li>The newest record that names a key decides it. What newer records took away is grey and struck through.</li>\n"
+    ++ codes "<li>The newest record that names a key decides it. What newer records took away is grey and struck through.</li>\n<li>Under a page stands each actor whose operation read its slot last, with the row that it reads next.</li>\n"
     ++ codes "<li>Consolidation: one base replaces a long chain. Split: the upper items of a full page go to a new page, to which a side link leads. A term, which is a key and a\n"
     ++ codes "child, is then posted in the page above.</li>\n"
     ++ codes "<li>Removal of a small page: its term is held, the page is removed, its left page takes its items by a merge, its term is taken out, and its slot is cleared.</li>\n"
     ++ codes "<li>Epochs: an actor announces the epoch in which it enters, and leaves at its end. What it took out of the tree waits in its limbo, and is free once each other\n"
-    ++ codes "actor was outside or in a later epoch. So nobody inside ever meets a row that is used anew. In limbo, '9 at 1' is row 9 with epoch 1.</li>\n"
-    ++ codes "<li>Keys: left and right, home and end; space plays; n goes to the next exchange, p to the one before. #12 behind the address is frame 12.</li>\n"
+    ++ codes "actor was outside or in a later epoch. So nobody inside ever meets a row that is used anew. In limbo, 'row 9, epoch 1' is row 9 with epoch 1 for its stamp.</li>\n"
+    ++ codes "<li>The log has all updates in their order. Each took effect at its exchange; an operation that changes nothing at one of its own steps, which is known when its reply comes.</li>\n<li>Keys: left and right, home and end; space plays; n goes to the next exchange, p to the one before. #12 behind the address is frame 12.</li>\n"
     ++ codes "</ul>\n</details>\n"
 
 abbrev pub buttons_text : List ℕ
@@ -60,11 +62,12 @@ tail_text =
     ++ codes "onhashchange=show;show();\n"
     ++ codes "</script>\n</body>\n</html>\n"
 
--- a frame: its number, the words for its step, how the map before it became the map after it, the picture, and the map after it
-abbrev pub frame_text : ℕ → List ℕ → List (List ℕ × List ℕ) → List ℕ → List (List ℕ × List ℕ) → List ℕ
-frame_text number words before picture after =
-    codes "<section id=\"" ++ decimal number ++ codes "\">\n<h2>" ++ decimal number ++ codes ": " ++ escape words ++ codes "</h2>\n" ++ change_text before after ++ picture
-    ++ map_text after ++ codes "</section>\n"
+-- a frame: its number, the words for its step, how the map before it became the map after it, the place of an operation that is done, the picture, and the map and
+-- the log after it
+abbrev pub frame_text : ℕ → List ℕ → List (List ℕ × List ℕ) → List ℕ → List ℕ → List (List ℕ × List ℕ) → List Update → List ℕ
+frame_text number words before place picture after log =
+    codes "<section id=\"" ++ decimal number ++ codes "\">\n<h2>" ++ decimal number ++ codes ": " ++ escape words ++ codes "</h2>\n" ++ change_text before after ++ place
+    ++ picture ++ map_text after ++ log_text log ++ codes "</section>\n"
 
 -- the last frame of a film that ends at a refusal
 abbrev pub refusal_text : List ℕ → List ℕ

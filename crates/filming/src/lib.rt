@@ -8,6 +8,7 @@
 #![tactic(auto)]
 
 mod frames;
+mod logs;
 mod maps;
 mod page;
 mod run;

@@ -31,7 +31,7 @@ fn show_digits<O: Output>(out: &mut O, bytes: &[u8])
 }
 
 /// A key or a value, as the program prints it.
-fn show_token<O: Output>(out: &mut O, bytes: &[u8])
+pub(crate) fn show_token<O: Output>(out: &mut O, bytes: &[u8])
     requires { length bytes.now ≤ longest }
     ensures { Prints (O.state out.old) (O.state out.new) (token_text bytes.now) }
 {

@@ -25,7 +25,7 @@ fn show_looks<O: Output>(out: &mut O)
         b"nav{position:sticky;top:0;background:inherit;padding:.4rem 0;display:flex;flex-wrap:wrap;gap:.5rem;align-items:center}button{font:inherit;padding:.2rem .7rem}\n",
     );
     out.show(
-        b"section{scroll-margin-top:99rem}svg{max-width:100%;height:auto}pre{margin:0;columns:10rem}.changed{font-weight:bold}.told{position:absolute;left:-99rem}\n",
+        b"section{scroll-margin-top:99rem}svg{max-width:100%;height:auto}pre,ol{margin:0;columns:10rem}.changed{font-weight:bold}.told{position:absolute;left:-99rem}\n",
     );
     out.show(b"@media (prefers-color-scheme:dark){body{color:#e6edf3;background:#0d1117}}\n");
 }
@@ -55,7 +55,7 @@ fn show_guide<O: Output>(out: &mut O)
         b"The exchange is lost, nothing has changed, and the actor begins anew. This one word takes the place of a lock.</li>\n",
     );
     out.show(
-        b"<li>The newest record that names a key decides it. What newer records took away is grey and struck through.</li>\n",
+        b"<li>The newest record that names a key decides it. What newer records took away is grey and struck through.</li>\n<li>Under a page stands each actor whose operation read its slot last, with the row that it reads next.</li>\n",
     );
     out.show(
         b"<li>Consolidation: one base replaces a long chain. Split: the upper items of a full page go to a new page, to which a side link leads. A term, which is a key and a\n",
@@ -68,10 +68,10 @@ fn show_guide<O: Output>(out: &mut O)
         b"<li>Epochs: an actor announces the epoch in which it enters, and leaves at its end. What it took out of the tree waits in its limbo, and is free once each other\n",
     );
     out.show(
-        b"actor was outside or in a later epoch. So nobody inside ever meets a row that is used anew. In limbo, '9 at 1' is row 9 with epoch 1.</li>\n",
+        b"actor was outside or in a later epoch. So nobody inside ever meets a row that is used anew. In limbo, 'row 9, epoch 1' is row 9 with epoch 1 for its stamp.</li>\n",
     );
     out.show(
-        b"<li>Keys: left and right, home and end; space plays; n goes to the next exchange, p to the one before. #12 behind the address is frame 12.</li>\n",
+        b"<li>The log has all updates in their order. Each took effect at its exchange; an operation that changes nothing at one of its own steps, which is known when its reply comes.</li>\n<li>Keys: left and right, home and end; space plays; n goes to the next exchange, p to the one before. #12 behind the address is frame 12.</li>\n",
     );
     out.show(b"</ul>\n</details>\n");
 }

@@ -43,11 +43,11 @@ const SHOWN: [(&[u8], usize); 9] = [
     ),
     (b"<p>The map is unchanged by this step.</p>", 9),
     (
-        b"<h3>The map after this step (pairs: 0)</h3>\n<pre class=\"map\"></pre>\n</section>\n",
+        b"<h3>The map after this step (pairs: 0)</h3>\n<pre class=\"map\"></pre>\n<h3>The log after this step (updates: 0)</h3>\n<ol class=\"log\">\n</ol>\n</section>\n",
         8,
     ),
     (
-        b"<h3>The map after this step (pairs: 1)</h3>\n<pre class=\"map\">k02 &lt;\n</pre>\n</section>\n",
+        b"<pre class=\"map\">k02 &lt;\n</pre>\n<h3>The log after this step (updates: 1)</h3>\n<ol class=\"log\">\n<li>k02 = &lt;</li>\n</ol>\n</section>\n",
         2,
     ),
 ];

@@ -42,6 +42,7 @@ mod numbered;
 mod parts;
 #[cfg(test)]
 mod picture_actors;
+#[cfg(test)]
 mod picture_commands;
 #[cfg(test)]
 mod picture_items;

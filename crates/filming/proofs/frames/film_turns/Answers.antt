@@ -7,7 +7,7 @@ use Rattle.filming.proofs.frames.film_turns.Goals as goal
 
 pub loop-turn-init : goal.loop-turn-init
 unfolding AreFilmed
-loop-turn-init g c = record { filmed = ([], (refl, refl), no_text _); number = refl; few = omega arith }
+loop-turn-init g c = record { filmed = ([], (refl, c.new-log.ensures.items, refl), no_text _); number = refl; few = omega arith }
 
 pub loop-turn-preserved : goal.loop-turn-preserved
 loop-turn-preserved g c =
@@ -17,7 +17,7 @@ loop-turn-preserved g c =
     record {
       filmed = (
         before.filmed.0 ++ told.1,
-        rw more (filmed_more 1 _ _ _ _ _ told.0 _ _ before.filmed.1 told.2 (rw before.number at told.3)),
+        rw more (filmed_more 1 _ _ _ _ _ _ _ _ told.0 _ _ before.filmed.1 told.2 (rw before.number at told.3)),
         shows_then before.filmed.2 told.4,
       );
       number = c.next_frame-number.ensures ∙ ap (λ number. next_frame number c.turn-item.result) before.number ∙ sym (frames_next 1 c.args.turns.now c.loop-turn.turn-index c.turn-item.result more);
@@ -30,6 +30,7 @@ returns-then-not-film_turn g c =
       take c.loop-turn.turn-index c.args.turns.now,
       drop c.loop-turn.turn-index c.args.turns.now,
       c.loop-turn.core,
+      c.loop-turn.log.items,
       before.0,
       sym (take-append-drop c.loop-turn.turn-index c.args.turns.now),
       before.1,
@@ -43,6 +44,7 @@ returns g c =
       take c.loop-turn.turn-index c.args.turns.now,
       [],
       c.loop-turn.core,
+      c.loop-turn.log.items,
       before.0,
       sym (append-nil _ ∙ take_all c.loop-turn.turn-index c.args.turns.now c.loop-turn-test.false),
       before.1,

@@ -7,7 +7,7 @@ returns g c =
     let filmed = c.film_turns-whole.ensures in (
       _,
       (
-        filmed.3,
+        filmed.4,
         record {
           opened = c.args.core;
           empty = c.requires.fresh;
@@ -15,11 +15,12 @@ returns g c =
           taken = filmed.0;
           others = filmed.1;
           left = filmed.2;
-          are = filmed.4;
-          filmed = filmed.5;
-          all = filmed.7;
+          are = filmed.5;
+          log = filmed.3;
+          filmed = filmed.6;
+          all = filmed.8;
         },
         refl,
       ),
-      shows_then c.show_head.ensures (shows_then filmed.6 (shows_then c.show_last_frame.ensures c.show_tail.ensures)),
+      shows_then c.show_head.ensures (shows_then filmed.7 (shows_then c.show_last_frame.ensures c.show_tail.ensures)),
     )
