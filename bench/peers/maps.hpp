@@ -26,7 +26,7 @@ struct Tree : Peer {
     std::atomic<uint64_t> full{0};
     bool is_large;
     Tree(uint64_t keys, bool is_large) : is_large(is_large) {
-        bwtree_limits limits = {4, 4096, 16384, 1, 0};
+        bwtree_limits limits = {4, 4096, 16384, 1, 0, 0, 0, 0, 0};
         if (is_large) must(bwtree_limits_for_many_keys(4, keys, &limits) == BWTREE_OK, "no limits for so many keys");
         must(bwtree_open(&limits, &tree) == BWTREE_OK, "the tree isn't opened");
     }

@@ -21,7 +21,7 @@ template <class Call> static double crossing(Call call) {
 
 static void crossings() {
     static bwtree closed, tree;
-    bwtree_limits limits = {1, 64, 256, 1, 0};
+    bwtree_limits limits = {1, 64, 256, 1, 0, 0, 0, 0, 0};
     bwtree_bytes bytes;
     must(bwtree_open(&limits, &tree) == BWTREE_OK, "the tree isn't opened");
     printf("a call on a closed tree takes %.1f ns, one that takes a seat and gives it back %.1f ns, a lookup in an empty tree %.0f ns\n",
