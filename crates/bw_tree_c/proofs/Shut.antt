@@ -350,7 +350,8 @@ module _ (shared : Shared) (since : Receipt) (may : MayCall shared since) (last 
         );
       }
 
-  pub stops_so : (refusal : Refusal) → (stopped : HasStoppedClosing shared since may n LooksOn last refusal h) → EndsSo IsPutBack n h.me h'.me → HasStoppedClosing shared since may (n + 1) LooksOn last refusal h'
+  pub stops_so : (refusal : Refusal) → (stopped : HasStoppedClosing shared since may n LooksOn last refusal h) → EndsSo IsPutBack n h.me h'.me
+      → HasStoppedClosing shared since may (n + 1) LooksOn last refusal h'
   stops_so refusal stopped ends = let gives = gave shared since may last n below h h' same stopped.mid ends in record {
     mid = gives.0;
     log = stopped.log;

@@ -71,7 +71,8 @@ abbrev pub WhyNot : List Inside → Refusal → ℕ → List (Event Inside) → 
 WhyNot opened refusal author log = ((refusal ≡ Busy) × IsOutElsewhere opened author log) ⊎ ((refusal ≡ Unfinished) × HasUnfinished opened log)
 
 -- The slots of seats weren't taken out for this cause, and are back.
-pub record HasStoppedClosing (shared : Shared) (since : Receipt) (may : MayCall shared since) (from : ℕ) (such : Deed Inside → Type 0) (last : Inside) (refusal : Refusal) (hand : SeatHand) : Type 0 where
+pub record HasStoppedClosing (shared : Shared) (since : Receipt) (may : MayCall shared since) (from : ℕ) (such : Deed Inside → Type 0) (last : Inside)
+    (refusal : Refusal) (hand : SeatHand) : Type 0 where
   pub mid : IsInside shared since may from 0 such last hand
   pub log : List (Event Inside)
   pub since_then : GoesOn log may.log

@@ -29,7 +29,8 @@ use Rattle.bw_shell.specs.Weave.{IsTranscriptFrom}
 -- The slots among the shapes are exactly those of the memory after the trace that aren't 0, each with what it has, in their order. The pages among the shapes are
 -- exactly those of the side chains of that memory, level by level from the root's level down, each from left to right, and each has its range in words, and is
 -- marked by how it stands to the level above. At each stand exactly the actors whose operation read its slot last, each with the row that its next step reads. The
--- cells are those of the actors: of each the epoch that it has announced, and all that it has in limbo. All records of the pages, and the items of bases and merges, have their lines in words, in that order, each drawn as one that
+-- cells are those of the actors: of each the epoch that it has announced, and all that it has in limbo. All records of the pages, and the items of bases and
+-- merges, have their lines in words, in that order, each drawn as one that
 -- counts where no newer record of its chain names its key, else as one that was taken away. Their boxes lie in a sheet of this width and height, each later one to
 -- the right or below. The texts of each box end in it (`PageBox`).
 pub record IsShown (trace : Trace) (wanted : List (Option (StepOf Record))) (width height : ℕ) (shapes : List Shape) : Type 0 where

@@ -5,7 +5,8 @@ ghost use Rattle.byte_streams.specs.Output.{Prints};
 ghost use Rattle.tree_picture.specs.Colours.{colour_text};
 ghost use Rattle.tree_picture.specs.Document.{attribute_text, element_text, escape, escaped_byte};
 ghost use Rattle.tree_picture.specs.Elements.{attribute, dark_style, dashes, document_attributes, document_text, elements_of, head_elements, line_element, mark_in, name_in, number};
-ghost use Rattle.tree_picture.specs.Elements.{range_in, record_element, weight, rectangle_attributes, rectangle_element, slot_element, stand_elements, stand_in, text_element, view_attribute, words_element};
+ghost use Rattle.tree_picture.specs.Elements.{range_in, record_element, weight, rectangle_attributes, rectangle_element, slot_element, stand_elements};
+ghost use Rattle.tree_picture.specs.Elements.{stand_in, text_element, view_attribute, words_element};
 ghost use Rattle.tree_picture.specs.declared.shape.TheConstants.{STAND_DROP, STAND_ROW};
 
 use byte_streams::Output;

@@ -102,7 +102,8 @@ records_are = refl
 
 -- a term takes the place of an unterm there, which took that of a hold, which took that of an older term
 terms_are : page_records (record { pid = 4; chain = index_chain })
-    ≡ line (codes "term k09 to PID " ++ decimal 3) true ∷ line (codes "unterm k09 to PID " ++ decimal 2) false ∷ line (codes "hold k09 to PID " ++ decimal 2) false ∷ line (codes "term k09 to PID " ++ decimal 2) false
+    ≡ line (codes "term k09 to PID " ++ decimal 3) true ∷ line (codes "unterm k09 to PID " ++ decimal 2) false
+    ∷ line (codes "hold k09 to PID " ++ decimal 2) false ∷ line (codes "term k09 to PID " ++ decimal 2) false
     ∷ line (codes "base, items: " ++ decimal 1) true ∷ line (codes "(lowest) to PID " ++ decimal 1 ++ []) true ∷ []
 terms_are = refl
 

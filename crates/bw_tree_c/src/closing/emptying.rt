@@ -2,7 +2,8 @@
 ghost use Rattle.std.specs.Prelude.{◌≡◌, ◌≤◌, IfErr, IfOk, MatchBool, false, true};
 ghost use Rattle.bw_tree_c.specs.Closing.{LooksOn, RunsNothing};
 ghost use Rattle.bw_tree_c.specs.Handles.{MayCall, opened_in};
-ghost use Rattle.bw_tree_c.specs.Shutting.{AreAllIdle, GoesTo, HasBegunClosing, IsBusyIn, IsClosing, IsEmptied, IsTakenLast, IsIdleIn, IsBackInside, IsLetGo, IsOpenClosing, IsRefusedClosing, IsStoppedFor, MayGather};
+ghost use Rattle.bw_tree_c.specs.Shutting.{AreAllIdle, GoesTo, HasBegunClosing, IsBusyIn, IsClosing, IsEmptied, IsTakenLast, IsIdleIn, IsBackInside, IsLetGo};
+ghost use Rattle.bw_tree_c.specs.Shutting.{IsOpenClosing, IsRefusedClosing, IsStoppedFor, MayGather};
 ghost use Rattle.bw_tree_c.specs.Slots.{HasAllOf, WaitsFrom};
 ghost use Rattle.bw_tree_c.specs.declared.refusal.Refusal.TheVariants.{Busy};
 

@@ -22,7 +22,8 @@ loop-level-preserved c =
     record {
       pids = told.pids ∙ told_next _ _ _ _ (level_pids level) c.loop-level.invariant.pids (flat_next level_pids levels c.loop-level.level-index level there c.level-item.is);
       ranges = told.ranges ∙ told_next _ _ _ _ (level_ranges level) c.loop-level.invariant.ranges (flat_next level_ranges levels c.loop-level.level-index level there c.level-item.is);
-      stands = told.stands ∙ told_next _ _ _ _ (level_stands c.args.stands.now level) c.loop-level.invariant.stands (flat_next (level_stands c.args.stands.now) levels c.loop-level.level-index level there c.level-item.is);
+      stands = told.stands ∙ told_next _ _ _ _ (level_stands c.args.stands.now level) c.loop-level.invariant.stands
+          (flat_next (level_stands c.args.stands.now) levels c.loop-level.level-index level there c.level-item.is);
       slots = told.slots ∙ c.loop-level.invariant.slots;
       cells = told.cells ∙ c.loop-level.invariant.cells;
       records = told.records ∙ told_next _ _ _ _ (level_records level) c.loop-level.invariant.records (flat_next level_records levels c.loop-level.level-index level there c.level-item.is);
