@@ -2,8 +2,8 @@
 
 use crate::steps::{command_words, step_words};
 use crate::words::Words;
-use crate::write::with_number;
-use bw_model::{Link, Reply, Step};
+use crate::write::{with_number, with_token};
+use bw_model::{Link, Pairs, Reply, Step};
 use step_core::{Core, Event};
 
 /// The step that an actor is to take, by name.
@@ -48,7 +48,7 @@ impl StepName {
             }
             Event::Done(reply) => {
                 words.add(b"; done: ");
-                words.add(reply_word(reply));
+                reply_words(&mut words, reply);
             }
             _ => {}
         }
@@ -75,22 +75,31 @@ fn link_words(link: Link) -> &'static [u8] {
     }
 }
 
-/// A reply, in a word.
-fn reply_word(reply: &Reply) -> &'static [u8] {
+/// A reply: its word, and its value or the keys of its pairs.
+fn reply_words(words: &mut Words, reply: &Reply) {
     match reply {
-        Reply::Value(_) => b"value",
-        Reply::None => b"none",
-        Reply::Inserted => b"inserted",
-        Reply::Exists(_) => b"exists",
-        Reply::Set => b"set",
-        Reply::Replaced(_) => b"replaced",
-        Reply::Deleted(_) => b"deleted",
-        Reply::Absent => b"absent",
-        Reply::Swapped => b"swapped",
-        Reply::Differs(_) => b"differs",
-        Reply::Page { .. } => b"page",
-        Reply::BackPage { .. } => b"back",
-        Reply::Tidied => b"tidied",
-        Reply::Full => b"full",
+        Reply::Value(value) => with_token(words, b"value ", value.as_slice()),
+        Reply::None => words.add(b"none"),
+        Reply::Inserted => words.add(b"inserted"),
+        Reply::Exists(value) => with_token(words, b"exists ", value.as_slice()),
+        Reply::Set => words.add(b"set"),
+        Reply::Replaced(value) => with_token(words, b"replaced ", value.as_slice()),
+        Reply::Deleted(value) => with_token(words, b"deleted ", value.as_slice()),
+        Reply::Absent => words.add(b"absent"),
+        Reply::Swapped => words.add(b"swapped"),
+        Reply::Differs(value) => with_token(words, b"differs ", value.as_slice()),
+        Reply::Page { items, .. } => keys_words(words, b"page of ", items),
+        Reply::BackPage { items, .. } => keys_words(words, b"back page of ", items),
+        Reply::Tidied => words.add(b"tidied"),
+        Reply::Full => words.add(b"full"),
+    }
+}
+
+/// So many pairs, and their keys.
+fn keys_words(words: &mut Words, before: &[u8], pairs: &Pairs) {
+    with_number(words, before, pairs.as_slice().len() as u64);
+    words.add(b":");
+    for (key, _) in pairs.as_slice() {
+        with_token(words, b" ", key.as_slice());
     }
 }
