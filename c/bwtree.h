@@ -33,9 +33,10 @@
  *   - The library calls malloc and free, when a tree is opened and closed, and never in another call. No call is made from a signal handler, nor,
  *     in a process with threads, from a child that was forked.
  *
- * Full: a write may be FULL for a moment, while another call holds back what was taken out: make it again (bwtree_waits.h). A tree that is filled beyond its
- * limits may be read-only for good: then deletions, and upserts of keys that have a value, are FULL, too, since each would have to split its page first. Reads
- * and walks go on, and so does bwtree_close_pairs: open a larger tree with these pairs. A program that takes keys from outside keeps count of them.
+ * Full: a write may be FULL for a moment, while another call holds back what was taken out: make it again (bwtree_waits.h). A small tree that is filled
+ * beyond its limits may be read-only for good: then deletions, and upserts of keys that have a value, are FULL, too, since each would have to split its page
+ * first. In a large tree insertions alone are FULL then: delete keys, and insert others. Reads and walks go on, and so does bwtree_close_pairs: open a larger
+ * tree with these pairs. A program that takes keys from outside keeps count of them.
  *
  * Order: the tree is linearizable (Herlihy and Wing), proved over all states of the tree. All calls of all threads form one sequential history of an
  * ordered map. Each call takes effect at one of its own atomic steps, so a call that has returned precedes a call that begins afterwards, whatever

@@ -36,8 +36,8 @@ int bwtree_wait_again(bwtree_wait *wait);
 typedef enum bwtree_full_hints {
     BWTREE_FULL_PASSED = 0,   /* a page is free now, and a record with room for any change */
     BWTREE_FULL_FOR_NOW = 1,  /* no record is free, but pages are, and the limits have records enough for all pages: other seats hold records back */
-    BWTREE_FULL_FOR_GOOD = 2, /* no page is free; or no record, and the limits have too few: the tree itself may have them all. Where keys were just deleted,
-                               * other seats may hold pages back still: so ask after a wait */
+    BWTREE_FULL_FOR_GOOD = 2, /* no page is free; or no record, and the limits have too few: the tree itself may have them all. In a large tree keys can be
+                               * deleted then. Where they just were, other seats may hold pages back still: so ask after a wait */
     BWTREE_FULL_UNKNOWN = 3   /* of three widths alone: pages are free, but perhaps no record of 512 words, for now or for good. Wait; if that is in vain, a
                                * larger tree is needed, or one for longer pairs */
 } bwtree_full_hints;

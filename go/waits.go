@@ -18,8 +18,8 @@ const (
 	FullPassed FullHint = C.BWTREE_FULL_PASSED
 	// FullForNow: no record is free, but pages are, and the limits have records enough for all pages: other seats hold records back.
 	FullForNow FullHint = C.BWTREE_FULL_FOR_NOW
-	// FullForGood: no page is free; or no record, and the limits have too few: the tree itself may have them all. Where keys were just deleted, other seats
-	// may hold pages back still: so ask after a wait.
+	// FullForGood: no page is free; or no record, and the limits have too few: the tree itself may have them all. In a large tree keys can be deleted then.
+	// Where they just were, other seats may hold pages back still: so ask after a wait.
 	FullForGood FullHint = C.BWTREE_FULL_FOR_GOOD
 	// FullUnknown, of three widths alone: pages are free, but perhaps no record of 512 words, for now or for good. Wait; if that is in vain, a larger tree is
 	// needed, or one for longer pairs.

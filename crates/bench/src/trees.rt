@@ -6,11 +6,11 @@ use crate::amounts::{Done, Scale};
 use crate::worker::{What, Worker};
 use bw_model::{BadLimits, Limits};
 use running_tree::{BwSeat, Tree};
-use seat_threads::work_in_threads;
 use seats::opened;
 use std::alloc::{AllocError, Global};
 use std::thread::Threads;
 use std::time::{Clock, Instant};
+use workers::work_in_threads;
 
 /// How many keys a tree with the greatest limits of no large tree is loaded with at most.
 const FEW_KEYS: u32 = 20_000;

@@ -8,8 +8,8 @@ use rand_core::SeedableRng;
 use rand_core::utils::NextWord;
 use rand_pcg::Pcg32;
 use running_tree::{BwSeat, Called, Tree};
-use seat_threads::Work;
 use seats::{called, called_in, reply, resumed};
+use workers::Work;
 
 /// More steps than an operation takes.
 const MOST_STEPS: u32 = 1 << 16;

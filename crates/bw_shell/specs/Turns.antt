@@ -5,7 +5,7 @@ use Rattle.traces.specs.declared.trace.Entry.{Entry}
 use Rattle.traces.specs.declared.trace.Turn.{Turn}
 use Rattle.traces.specs.declared.trace.Turn.TheVariants.{Begin, Step}
 use Rattle.traces.specs.trace.Trace.{command_of, memory_of, turn_of}
-use Rattle.op_machine.specs.theorem.Linearized.{IsLinearized}
+use Rattle.linearization.specs.Linearized.{IsLinearized}
 use Rattle.step_core.specs.Turns.{Core, IsEventOf}
 use Rattle.step_core.specs.declared.event.Event.{Event}
 use Rattle.bw_shell.specs.declared.refusal.Refusal.{Refusal}

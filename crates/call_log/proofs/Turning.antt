@@ -71,6 +71,35 @@ module _ {S : Type 0} where
       stands = it.stands;
     }
 
+    -- a slot as it stands in another log
+    standing : (before log : List (Event S)) (s : State S (Knows S)) (n : ℕ) (it : HasSlot opened before s n)
+        → Stands (more_of n) (stage_of log) (cell_of opened log n) it.word it.there → HasSlot opened log s n
+    standing before log s n it stands = record { word = it.word; there = it.there; word_at = it.word_at; there_at = it.there_at; stands = stands }
+
+    -- a slot beside one whose word was read
+    read : (before log : List (Event S)) (s : State S (Knows S)) (n m : ℕ) (vs : List (Knows S)) (it : HasSlot opened before s m)
+        → Stands (more_of m) (stage_of log) (cell_of opened log m) it.word it.there
+        → HasSlot opened log record { words = set s.words n (get_or s.words n 0); homes = s.homes; views = vs } m
+    read before log s n m vs it stands = record {
+      word = it.word;
+      there = it.there;
+      word_at = ap (λ ws. get_elem? ws m) (set-get_or s.words n 0) ∙ it.word_at;
+      there_at = it.there_at;
+      stands = stands;
+    }
+
+    -- a slot whose word and value were set
+    placed : (before log : List (Event S)) (s : State S (Knows S)) (n word : ℕ) (there : Option S) (vs : List (Knows S)) → HasSlot opened before s n
+        → Stands (more_of n) (stage_of log) (cell_of opened log n) word there
+        → HasSlot opened log record { words = set s.words n word; homes = set s.homes n there; views = vs } n
+    placed before log s n word there vs it stands = record {
+      word = word;
+      there = there;
+      word_at = set_here s.words n word (inside s.words n it.word it.word_at);
+      there_at = set_here s.homes n there (inside s.homes n it.there it.there_at);
+      stands = stands;
+    }
+
     -- The log goes on by one event of a view's first author.
     written : (s s' : State S (Knows S)) (h : R s) (id : ℕ) (v : Knows S) (a : ℕ) (deed : Deed S) → get_elem? s.views id ≡ some v → WritesAs v.authors a
         → MayFollow ends opened h.log a deed → ((n : ℕ) → n < length opened → HasSlot opened (event a deed ∷ h.log) s' n)
@@ -186,22 +215,14 @@ module _ {S : Type 0} where
           home_at,
           written s (stepped s n 1 id me.1 w (takes n x)) h id me.0 a deed at writes.1 may
               (λ m lower. dite (ℕ_discrete m n)
-              (λ q. subst (HasSlot opened (event a deed ∷ h.log) (stepped s n 1 id me.1 w (takes n x))) (sym q) (record {
-                word = 1;
-                there = none;
-                word_at = set_here s.words n 1 (inside s.words n it.word it.word_at);
-                there_at = set_here s.homes n none (inside s.homes n it.there it.there_at);
-                stands = subst (λ c. Stands (more_of n) (stage_of h.log) c 1 none)
-                    (sym (where_same n n (lent a (cell_of opened h.log n)) (cell_of opened h.log n) refl ∙ ap (lent a) there.1)) (inl (refl, refl, there.3));
-              }))
-              (λ ne. let before = untouched h.log s m n 1 (set s.homes n none) (set s.views id w) ne (set_else s.homes n m none ne) (h.slots m lower) in record {
-                word = before.word;
-                there = before.there;
-                word_at = before.word_at;
-                there_at = before.there_at;
-                stands = subst (λ c. Stands (more_of m) (stage_of h.log) c before.word before.there)
-                    (sym (where_other n m (lent a (cell_of opened h.log m)) (cell_of opened h.log m) (λ q. ne (sym q)))) before.stands;
-              }))
+              (λ q. subst (HasSlot opened (event a deed ∷ h.log) (stepped s n 1 id me.1 w (takes n x))) (sym q)
+              (placed h.log (event a deed ∷ h.log) s n 1 none (set s.views id w) it (subst (λ c. Stands (more_of n) (stage_of h.log) c 1 none)
+              (sym (where_same n n (lent a (cell_of opened h.log n)) (cell_of opened h.log n) refl ∙ ap (lent a) there.1)) (inl (refl, refl, there.3)))))
+              (λ ne.
+              let before = untouched h.log s m n 1 (set s.homes n none) (set s.views id w) ne (set_else s.homes n m none ne) (h.slots m lower) in
+              standing h.log (event a deed ∷ h.log) (stepped s n 1 id me.1 w (takes n x)) m before
+              (subst (λ c. Stands (more_of m) (stage_of h.log) c before.word before.there)
+              (sym (where_other n m (lent a (cell_of opened h.log m)) (cell_of opened h.log m) (λ q. ne (sym q)))) before.stands)))
               refl,
           record {
             hit = λ _. (x, has_done s h id me.0 a deed ((n, x) ∷ me.1) at writes.1 may, subst (λ o. cell_of o h.log n ≡ home x) (sym old.opened_is) there.1);
@@ -215,14 +236,7 @@ module _ {S : Type 0} where
           keeps,
           tt,
           looked s (stepped s n found id me.1 w keeps) h id me.0 at
-              (λ m lower. let before = h.slots m lower in record {
-                word = before.word;
-                there = before.there;
-                word_at = ap (λ ws. get_elem? ws m) (set-get_or s.words n 0) ∙ before.word_at;
-                there_at = before.there_at;
-                stands = before.stands;
-              })
-              refl,
+              (λ m lower. let before = h.slots m lower in read h.log h.log s n m (set s.views id w) before before.stands) refl,
           record {
             hit = λ e. absurd (ne e);
             miss = λ _. record {
@@ -241,13 +255,8 @@ module _ {S : Type 0} where
         → Stands (more_of n) (stage_of log) (cell_of opened log n) word (some y) → ((m ≢ n) → HasSlot opened log s m)
         → HasSlot opened log record { words = set s.words n word; homes = set s.homes n (some y); views = vs } m
     given before log s n m word y vs below it stands others = dite (ℕ_discrete m n)
-        (λ q. subst (HasSlot opened log record { words = set s.words n word; homes = set s.homes n (some y); views = vs }) (sym q) (record {
-          word = word;
-          there = some y;
-          word_at = set_here s.words n word (inside s.words n it.word it.word_at);
-          there_at = set_here s.homes n (some y) (inside s.homes n it.there it.there_at);
-          stands = stands;
-        }))
+        (λ q. subst (HasSlot opened log record { words = set s.words n word; homes = set s.homes n (some y); views = vs }) (sym q)
+        (placed before log s n word (some y) vs it stands))
         (λ ne. untouched log s m n word (set s.homes n (some y)) vs ne (set_else s.homes n m (some y) ne) (others ne))
 
     pub ends_so : (slots id : ℕ) (me : Mine S) (n : ℕ) → n < length opened → CanEnd ends n me → Allows R slots id me n (λ _. 0) (λ _ me'. EndsSo ends n me me')
@@ -270,23 +279,14 @@ module _ {S : Type 0} where
               (written s record { words = set s.words n 0; homes = hs; views = set s.views id w } h id me.0 a deed at writes may
               (λ m lower.
               let on : (k : ℕ) → (k ≢ n) → k < length opened → HasSlot opened log s k =
-              λ k ne less. let before = h.slots k less in record {
-                word = before.word;
-                there = before.there;
-                word_at = before.word_at;
-                there_at = before.there_at;
-                stands = subst (λ c. Stands (more_of k) (stage_of h.log) c before.word before.there)
-                    (sym (where_other n k (home can.y) (cell_of opened h.log k) (λ q. ne (sym q)))) before.stands;
-              } in
+              λ k ne less.
+              let before = h.slots k less in
+              standing h.log log s k before (subst (λ c. Stands (more_of k) (stage_of h.log) c before.word before.there)
+              (sym (where_other n k (home can.y) (cell_of opened h.log k) (λ q. ne (sym q)))) before.stands) in
               dite (ℕ_discrete m n)
               (λ q. subst (HasSlot opened log record { words = set s.words n 0; homes = hs; views = set s.views id w }) (sym q)
-              (let it = h.slots n below in record {
-                word = 0;
-                there = some can.y;
-                word_at = set_here s.words n 0 (inside s.words n it.word it.word_at);
-                there_at = set_here s.homes n (some can.y) (inside s.homes n it.there it.there_at);
-                stands = subst (λ c. Stands (more_of n) (stage_of h.log) c 0 (some can.y)) (sym (where_same n n (home can.y) (cell_of opened h.log n) refl)) (refl, refl, λ _. may.2);
-              }))
+              (placed h.log log s n 0 (some can.y) (set s.views id w) (h.slots n below)
+              (subst (λ c. Stands (more_of n) (stage_of h.log) c 0 (some can.y)) (sym (where_same n n (home can.y) (cell_of opened h.log n) refl)) (refl, refl, λ _. may.2))))
               (λ ne. untouched log s m n 0 hs (set s.views id w) ne (set_else s.homes n m (some can.y) ne) (on m ne lower)))
               refl),
           λ x y it carried.
@@ -316,14 +316,10 @@ module _ {S : Type 0} where
           keeps,
           tt,
           written s (stepped s 0 (get_or s.words 0 0) id me.1 w keeps) h id me.0 a Closed at can.writes may
-              (λ m lower. let before = h.slots m lower in record {
-                word = before.word;
-                there = before.there;
-                word_at = ap (λ ws. get_elem? ws m) (set-get_or s.words 0 0) ∙ before.word_at;
-                there_at = before.there_at;
-                stands = later_stage (more_of m) (stage_of h.log) 1 (cell_of opened h.log m) before.word before.there
-                    (λ some'. absurd (omega (arith, some', zero'))) (λ _ _. omega arith) before.stands;
-              })
+              (λ m lower.
+              let before = h.slots m lower in
+              read h.log log s 0 m (set s.views id w) before (later_stage (more_of m) (stage_of h.log) 1 (cell_of opened h.log m) before.word before.there
+              (λ some'. absurd (omega (arith, some', zero'))) (λ _ _. omega arith) before.stands))
               refl,
           has_done s h id me.0 a Closed me.1 at can.writes may,
         )
@@ -364,14 +360,10 @@ module _ {S : Type 0} where
         let hs : List (Option S) = set s.homes n (some can.y) in
         let back : put_back s.homes me.1 ≡ hs = ap (put_back s.homes) can.carried in
         let on : (k : ℕ) → (k ≢ n) → k < length opened → HasSlot opened log s k =
-        λ k ne less. let before = h.slots k less in record {
-          word = before.word;
-          there = before.there;
-          word_at = before.word_at;
-          there_at = before.there_at;
-          stands = later_stage (more_of k) (stage_of h.log) 2 (cell_of opened h.log k) before.word before.there (λ _. (omega arith, λ _. refl))
-              (λ none' _. absurd (omega (arith, none', less, last, ne))) before.stands;
-        } in (
+        λ k ne less.
+        let before = h.slots k less in
+        standing h.log log s k before (later_stage (more_of k) (stage_of h.log) 2 (cell_of opened h.log k) before.word before.there (λ _. (omega arith, λ _. refl))
+        (λ none' _. absurd (omega (arith, none', less, last, ne))) before.stands) in (
           w,
           gives,
           tt,
@@ -391,13 +383,6 @@ module _ {S : Type 0} where
           keeps,
           tt,
           looked s (stepped s n (get_or s.words n 0) id me.1 w keeps) h id me.0 at
-              (λ m lower. let before = h.slots m lower in record {
-                word = before.word;
-                there = before.there;
-                word_at = ap (λ ws. get_elem? ws m) (set-get_or s.words n 0) ∙ before.word_at;
-                there_at = before.there_at;
-                stands = before.stands;
-              })
-              refl,
+              (λ m lower. let before = h.slots m lower in read h.log h.log s n m (set s.views id w) before before.stands) refl,
           record { log = h.log; was = was_log s h id me.0 at; now = refl },
         )

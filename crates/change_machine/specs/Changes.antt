@@ -35,6 +35,11 @@ pub record Change : Type 0 where
   pub state : State
   pub made : Record
 
+-- the plan that a change links: an update's, or the other one
+abbrev pub plan_of : Bool → Plan → Plan → Plan
+plan_of true update due = update
+plan_of false update due = due
+
 -- A number of the kind is needed next: first a PID, then rows.
 abbrev pub IsNeededNext : Limits → Plan → Spares → Kind → Type 0
 IsNeededNext limits plan spares Pid = (needs_pid plan ≡ true) × (spares.pid ≡ None)

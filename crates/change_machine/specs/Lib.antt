@@ -4,3 +4,4 @@ pub mod Changes
 pub mod Moves
 pub mod Bounded
 pub mod Outs
+pub mod Begun

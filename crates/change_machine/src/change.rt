@@ -8,9 +8,11 @@ ghost use Rattle.traces.specs.discipline.Discipline.{May, MayFree};
 ghost use Rattle.traces.specs.discipline.Fitting.{Fits};
 ghost use Rattle.traces.specs.discipline.Knowledge.{Knowledge, learn};
 ghost use Rattle.traces.specs.discipline.Recalled.{Recalled, WasHead};
+ghost use Rattle.change_machine.specs.Begun.{HasBegun};
 ghost use Rattle.change_machine.specs.Bounded.{IsApart, IsPidFrom, Recalls, Spends, few_steps, pid_taken, steps_left};
 ghost use Rattle.change_machine.specs.Changes.{Follows, IsMade, IsMadeAt, IsOfChange, IsSameChange, IsSoundChange, IsSpellablePlan, IsTarget, FitsChange};
 ghost use Rattle.change_machine.specs.Changes.{EndsByDeciding, KeepsSpare, MayChange, Shows, has_decided, at, base_row, linked_number, placed_in, record_row, split_base_row, split_row, wanted_step};
+ghost use Rattle.structure_changes.specs.declared.plan.Plan.TheVariants.{Install};
 ghost use Rattle.structure_changes.specs.Plans.{head_of, slot_of};
 ghost use Rattle.change_machine.specs.Moves.{after_ready, decided_by, first_state, next_move, moved_by};
 ghost use Rattle.change_machine.specs.Outs.{TakesFresh, limbo_after};
@@ -23,9 +25,10 @@ use crate::needs::{has_rows, wanted_from};
 use crate::taking::{Found, Kind, Taking, went};
 use bw_model::{Limits, Step, Told};
 use deltas::{Record, Remove};
+use std::alloc::{AllocError, Allocator, Global};
 use std::marker::Model;
 use std::mem;
-use structure_changes::Plan;
+use structure_changes::{Plan, UpdateRecord};
 
 /// How a change ended.
 #[derive(Clone, Copy, PartialEq, Eq)]
@@ -60,58 +63,88 @@ pub(crate) enum State {
 /// A change that is under way. What it takes and places is among the spares of its actor until it is linked. `made` is the record to be
 /// placed, if the plan doesn't contain it as it is: it is made once, when the new page's PID is known.
 #[derive(Drop)]
-pub struct Change {
+pub struct Change<A: Allocator = Global> {
     limits: Limits,
-    plan: Plan,
+    is_update: bool,
+    update: Plan,
+    due: Box<Plan, A>,
     state: State,
     made: Record,
 }
 
-impl Model for Change {
-    ghost use Rattle.change_machine.specs.Changes.{Change, IsSpellablePlan, IsTarget};
+impl<A: Allocator> Model for Change<A> {
+    ghost use Rattle.change_machine.specs.Changes.{Change, IsSpellablePlan, IsTarget, plan_of};
 
     ghost Value = { Change };
 
-    ghost view = { λ c. record { limits = c.limits; plan = c.plan; state = c.state; made = c.made } };
+    ghost view = { λ c. record { limits = c.limits; plan = plan_of c.is_update c.update c.due.value; state = c.state; made = c.made } };
 
-    ghost invariant = { λ c. IsTarget c.limits c.plan × IsSpellablePlan c.plan };
+    ghost invariant = { λ c. IsTarget c.limits (plan_of c.is_update c.update c.due.value) × IsSpellablePlan (plan_of c.is_update c.update c.due.value) };
 }
 
-impl Change {
-    /// The place of a change, in which none has begun.
-    pub fn new(limits: &Limits) -> Change {
-        let plan = Plan::Install {
-            pid: 1,
-            head: 1,
-            content: Record::Remove(Remove { level: 0, next: 1 }),
-        };
-        Change {
+impl<A: Allocator> Change<A> {
+    /// The place of a change, in which none has begun. Takes the memory for a plan, 3.4 KB, and is refused for want of it
+    /// alone. No later call takes memory.
+    pub fn new(alloc: A, limits: &Limits) -> Result<Change<A>, AllocError> {
+        Ok(Change {
             limits: *limits,
-            plan,
+            is_update: true,
+            update: Plan::Install {
+                pid: 1,
+                head: 1,
+                content: Record::Remove(Remove { level: 0, next: 1 }),
+            },
+            due: Box::new(alloc, Plan::default())?,
             state: State::Link,
             made: Record::Remove(Remove { level: 0, next: 0 }),
-        }
+        })
     }
 
     /// Becomes the change that links what is planned, and leaves another plan in the place of that one, which is not copied. It takes a
     /// number only where no spare one of the kind is left: a PID first, then rows.
-    pub fn begin(&mut self, limits: &Limits, spares: &Spares, plan: &mut Plan)
-        requires target { IsTarget limits.now plan.old }
-        requires spells { IsSpellablePlan plan.old }
+    pub fn begin(&mut self, limits: &Limits, spares: &Spares, plan: &mut Box<Plan, A>)
+        requires target { IsTarget limits.now plan.old.value }
+        requires spells { IsSpellablePlan plan.old.value }
         requires room { HaveRoom limits.now spares.now }
-        ensures shows { (actor : ℕ) (k : Knowledge) → MayChange actor k plan.old → KeepsSpare plan.old spares.now.pid → Rest k.own spares.now → Shows actor self.new spares.now k }
-        ensures sound { IsSoundChange self.new spares.now }
-        ensures made { IsMade self.new spares.now }
-        ensures limits { self.new.limits ≡ limits.now }
-        ensures plan { self.new.plan ≡ plan.old }
-        ensures recalls { (r : Recalled) → WasHead r (slot_of plan.old) (head_of plan.old) → IsApart plan.old spares.now.pid → Recalls self.new spares.now r }
-        ensures few { (after : ℕ) → steps_left after self.new spares.now ≤ few_steps limits.now }
-        ensures first { has_decided self.new.state ≡ false }
+        ensures { HasBegun limits.now plan.old.value spares.now self.new }
     {
         self.limits = *limits;
         self.state = first_state(limits, plan, spares);
-        mem::swap(&mut self.plan, plan);
+        self.is_update = false;
+        mem::swap(&mut self.due, plan);
         self.make(spares);
+    }
+
+    /// Becomes the change that links an update's record over the row `head` of a page. The record lies where the last one did.
+    pub fn begin_update(
+        &mut self,
+        limits: &Limits,
+        spares: &Spares,
+        pid: u32,
+        head: u32,
+        update: &UpdateRecord,
+    )
+        requires target { IsTarget limits.now (Install pid head update.now) }
+        requires spells { IsSpellablePlan (Install pid head update.now) }
+        requires room { HaveRoom limits.now spares.now }
+        ensures { HasBegun limits.now (Install pid head update.now) spares.now self.new }
+    {
+        self.limits = *limits;
+        self.is_update = true;
+        self.update.update(pid, head, update);
+        self.state = first_state(limits, &self.update, spares);
+        self.make(spares);
+    }
+
+    /// What is to be linked.
+    fn plan(&self) -> &Plan
+        ensures { result.now ≡ self.now.plan }
+    {
+        if self.is_update {
+            &self.update
+        } else {
+            &self.due
+        }
     }
 
     /// The step that the change wants next, with the record that is to be placed lent from where it lies.
@@ -130,12 +163,16 @@ impl Change {
             State::Ready => Step::Exchange(spares.pid_or_0(), 0, self.base_row(spares)),
             State::Place => Step::Place(self.record_row(spares), self.placed()),
             State::Link => Step::Exchange(
-                self.plan.slot(),
-                self.plan.head(),
+                self.plan().slot(),
+                self.plan().head(),
                 self.linked_number(spares),
             ),
             State::Undo => Step::Exchange(spares.pid_or_0(), self.base_row(spares), 0),
-            State::Clear => Step::Exchange(self.plan.cleared_page(), self.plan.cleared_row(), 0),
+            State::Clear => Step::Exchange(
+                self.plan().cleared_page(),
+                self.plan().cleared_row(),
+                0,
+            ),
         }
     }
 
@@ -143,7 +180,7 @@ impl Change {
     fn placed(&self) -> &Record
         ensures { result.now ≡ placed_in self.now.plan self.now.made }
     {
-        match &self.plan {
+        match self.plan() {
             Plan::Install { content, .. } => content,
             Plan::Split { .. } | Plan::Root { .. } | Plan::Unlink { .. } => &self.made,
         }
@@ -194,7 +231,7 @@ impl Change {
         ensures same { IsSameChange self.old self.new }
         ensures state { self.new.state ≡ self.old.state }
     {
-        if let Plan::Install { .. } = &self.plan {
+        if let Plan::Install { .. } = self.plan() {
             return;
         }
         if let State::Base | State::Place = self.state {
@@ -209,7 +246,7 @@ impl Change {
         ensures same { IsSameChange self.old self.new }
         ensures state { self.new.state ≡ self.old.state }
     {
-        self.made = made_for(&self.plan, self.state, spares);
+        self.made = made_for(self.plan(), self.state, spares);
     }
 
     /// Goes to the state that follows.
@@ -223,7 +260,7 @@ impl Change {
             State::Taking(taking) => self.go_on_taking(spares, taking, told),
             State::Base => self.go(State::Ready),
             State::Ready => {
-                let state = after_ready(&self.plan);
+                let state = after_ready(self.plan());
                 self.go(state)
             }
             State::Place => self.go(State::Link),
@@ -246,7 +283,7 @@ impl Change {
             Found::Not(taking) => self.go(State::Taking(taking)),
             Found::Taken { kind, number } => {
                 spares.keep(kind, number);
-                let state = first_state(&self.limits, &self.plan, spares);
+                let state = first_state(&self.limits, self.plan(), spares);
                 self.go(state)
             }
             Found::Full(kind) => Some(End::Full(kind)),
@@ -270,13 +307,13 @@ impl Change {
         ensures same { IsSameChange self.old self.new }
     {
         if won {
-            spares.release(&self.plan);
-            if self.plan.clears() {
+            spares.release(self.plan());
+            if self.plan().clears() {
                 return self.go(State::Clear);
             }
             return Some(End::Won);
         }
-        if self.plan.needs_pid() {
+        if self.plan().needs_pid() {
             return self.go(State::Undo);
         }
         Some(End::Lost)
@@ -286,7 +323,7 @@ impl Change {
     fn base_row(&self, spares: &Spares) -> u32
         ensures { result ≡ base_row self.now.limits self.now.plan spares.now }
     {
-        match &self.plan {
+        match self.plan() {
             Plan::Split { .. } => split_base_row(self.limits.is_large, spares),
             Plan::Install { .. } | Plan::Root { .. } | Plan::Unlink { .. } => spares.last_row(),
         }
@@ -296,7 +333,7 @@ impl Change {
     fn record_row(&self, spares: &Spares) -> u32
         ensures { result ≡ record_row self.now.limits self.now.plan spares.now }
     {
-        match &self.plan {
+        match self.plan() {
             Plan::Split { .. } => split_row(self.limits.is_large, spares),
             Plan::Install { .. } | Plan::Root { .. } | Plan::Unlink { .. } => spares.last_row(),
         }
@@ -306,7 +343,7 @@ impl Change {
     fn linked_number(&self, spares: &Spares) -> u32
         ensures { result ≡ linked_number self.now.limits self.now.plan spares.now }
     {
-        match &self.plan {
+        match self.plan() {
             Plan::Install { .. } | Plan::Unlink { .. } => spares.last_row(),
             Plan::Split { .. } => split_row(self.limits.is_large, spares),
             Plan::Root { .. } => spares.pid_or_0(),

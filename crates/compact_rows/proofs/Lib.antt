@@ -1,4 +1,5 @@
 pub mod Items
+pub mod Looking
 pub mod Parts
 pub mod Rows
 pub mod Sizes

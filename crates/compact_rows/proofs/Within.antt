@@ -110,18 +110,18 @@ module _ (content : Record) (h : IsCompact content (compact_words content)) wher
       subst (λ (p : ℕ × ℕ). HoldsText words p.0 p.1) (λ i. (sym level i, sym code i)) items
 
   -- the same by numbers that were looked at
-  module _ (first : ℕ) (one : first ≡ get_or words 0 0) where
-    pub first_room : (second size : ℕ) → second ≡ get_or words 1 0 → size ≡ words_for (second / first_unit % part_limit) → 2 + 2 * (first / count_unit % part_limit) + size ≤ length words
+  module _ (count : ℕ) (counted : count ≡ count_seen words) where
+    pub first_room : (second size : ℕ) → second ≡ get_or words 1 0 → size ≡ words_for (second / first_unit % part_limit) → 2 + 2 * count + size ≤ length words
     first_room second size two is =
-        let same : 2 + 2 * (first / count_unit % part_limit) + size ≡ first_text_at words + words_for (first_length words) =
-        λ i. 2 + 2 * (one i / count_unit % part_limit) + (is ∙ ap (λ n. words_for (n / first_unit % part_limit)) two) i in
+        let same : 2 + 2 * count + size ≡ first_text_at words + words_for (first_length words) =
+        λ i. 2 + 2 * counted i + (is ∙ ap (λ n. words_for (n / first_unit % part_limit)) two) i in
         subst (λ n. n ≤ length words) (sym same) first_within
 
     pub second_room : (second size other : ℕ) → second ≡ get_or words 1 0 → size ≡ words_for (second / first_unit % part_limit) → other ≡ bound_size (second / second_unit)
-        → 2 + 2 * (first / count_unit % part_limit) + size + other ≤ length words
+        → 2 + 2 * count + size + other ≤ length words
     second_room second size other two is bound =
-        let same : 2 + 2 * (first / count_unit % part_limit) + size + other ≡ second_text_at words + bound_size (second_length words) =
-        λ i. 2 + 2 * (one i / count_unit % part_limit) + (is ∙ ap (λ n. words_for (n / first_unit % part_limit)) two) i + (bound ∙ ap (λ n. bound_size (n / second_unit)) two) i in
+        let same : 2 + 2 * count + size + other ≡ second_text_at words + bound_size (second_length words) =
+        λ i. 2 + 2 * counted i + (is ∙ ap (λ n. words_for (n / first_unit % part_limit)) two) i + (bound ∙ ap (λ n. bound_size (n / second_unit)) two) i in
         subst (λ n. n ≤ length words) (sym same) second_within
 
   module _ (count item : ℕ) (counted : count ≡ count_seen words) (there : item < count) where

@@ -84,3 +84,12 @@ seen words at =
     else if at == 12 then second_length words
     else if ltb at 21 then second_seen words (at - 13)
     else items_seen words (at - items_at)
+
+-- word j of the key of the item with this number, and of its content
+abbrev pub key_seen : List ℕ → ℕ → ℕ → ℕ
+key_seen words item j =
+    if j == 0 then slice_index words (2 + item)
+    else text_seen words (code_at (slice_index words (2 + count_seen words + item))) (code_tail (slice_index words (2 + count_seen words + item))) (j - 1)
+
+abbrev pub content_seen : List ℕ → ℕ → ℕ → ℕ
+content_seen words item j = value_seen words (level_seen words) (slice_index words (2 + count_seen words + item)) j

@@ -35,6 +35,13 @@ impl CompactRow {
         }
     }
 
+    /// No words, as before the first one was written.
+    pub(crate) fn clear(&mut self)
+        ensures { self.new ≡ [] }
+    {
+        self.count = 0;
+    }
+
     /// Writes the next word.
     #[inline(always)]
     pub(crate) fn push(&mut self, word: u64)

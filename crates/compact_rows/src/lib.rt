@@ -8,7 +8,7 @@
 //! each word of that row from the compact words, and `look_spread` does so by looks at them, where they lie: so the searches of `row_search` need not
 //! know in which form a record is stored.
 //!
-//! Called by `tree_words` and `table_rule`, whose definitions name `compact_words`, and by `running_tree`, which writes (`compact_of`), looks
+//! Called by `tree_words` and `table_rule`, whose definitions name `compact_words`, and by `running_tree`, which writes (`compact_in`), looks
 //! (`CompactRows`, `look_spread`) and reads whole rows (`seen_in`). It knows no limits, so not which trees are large; no table, and no
 //! chain: the row under a record is a number.
 
@@ -28,5 +28,5 @@ pub use laws::{compact_spelling_is_one, records_have_room, words_are_seen};
 pub use layout::{COMPACT_FORM, MOST_WORDS, SECOND_UNIT};
 pub use read::from_compact;
 pub use seen::seen_in;
-pub use spread::{CompactRows, look_spread};
-pub use write::{compact_of, to_compact};
+pub use spread::{CompactRows, length_spread, look_spread, word_spread};
+pub use write::{compact_in, to_compact};

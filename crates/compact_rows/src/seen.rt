@@ -43,6 +43,7 @@ fn word_at(words: &[u64], at: usize) -> u64
 }
 
 /// How many words so many bytes take.
+#[inline(always)]
 pub(crate) fn words_for(count: u64) -> u64
     requires { count ≤ 4294967295 }
     ensures { result ≡ words_for count }
@@ -51,6 +52,7 @@ pub(crate) fn words_for(count: u64) -> u64
 }
 
 /// How many words a bound takes whose length this is.
+#[inline(always)]
 pub(crate) fn bound_size(count: u64) -> u64
     requires { count ≤ 4294967295 }
     ensures { result ≡ bound_size count }
@@ -174,6 +176,7 @@ fn value_in(words: &[u64], level: u64, code: u64, place: usize) -> u64
 }
 
 /// Where an item's text begins, by its code.
+#[inline(always)]
 pub(crate) fn code_at(code: u64) -> usize
     ensures at { result ≡ code_at code }
     ensures few { result < 65536 }
@@ -182,6 +185,7 @@ pub(crate) fn code_at(code: u64) -> usize
 }
 
 /// How many words the key takes there, behind its first eight bytes, by its code.
+#[inline(always)]
 pub(crate) fn code_tail(code: u64) -> u64
     ensures tail { result ≡ code_tail code }
     ensures few { result < 32 }

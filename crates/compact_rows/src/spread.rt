@@ -3,18 +3,23 @@ ghost use Rattle.std.specs.Prelude.{◌≡◌, ◌≢◌, ◌<◌, ◌≤◌, �
 ghost use Rattle.deltas.specs.declared.record.Record.{Record};
 ghost use Rattle.record_slots.specs.Spelling.{words_of};
 ghost use Rattle.record_slots.specs.declared.layout.TheConstants.{ROW_WORDS};
-ghost use Rattle.compact_rows.specs.Seen.{count_seen, item_seen, items_seen, level_seen, seen, text_seen};
+ghost use Rattle.compact_rows.specs.Seen.{code_at, code_number, code_tail, content_seen, count_seen, first_seen, item_seen, items_seen, key_seen, level_seen};
+ghost use Rattle.compact_rows.specs.Seen.{second_seen, seen, text_seen};
 ghost use Rattle.compact_rows.specs.Spelling.{compact_words};
 ghost use Rattle.compact_rows.specs.Spells.{IsCompact};
 ghost use Rattle.compact_rows.specs.Spread.{HoldsText};
-ghost use Rattle.record_slots.specs.declared.layout.TheConstants.{ITEM_WORDS, PART_LIMIT};
+ghost use Rattle.record_slots.specs.declared.layout.TheConstants.{ITEM_WORDS, PART_LIMIT, TEXT_WORDS};
+ghost use Rattle.row_search.specs.Begins.{Begins};
+ghost use Rattle.row_search.specs.TextsOf.{HasText, length_at};
 
 use crate::laws::words_are_seen;
 use crate::layout::{CONTENT_UNIT, FIRST_UNIT, LENGTH_UNIT, NEXT_UNIT, SECOND_UNIT};
 use crate::seen::{bound_size, code_at, code_tail, words_for};
 use record_slots::{
     FIRST_ITEM, FORM, FORM_UNIT, ITEM_UNIT, ITEM_WORDS, LEVEL_UNIT, PART_LIMIT, ROW_WORDS,
+    TEXT_WORDS,
 };
+use row_search::Text;
 
 /// Compact rows in which records were read, and stay: each word that a record has there can be looked at where it lies.
 pub trait CompactRows {
@@ -122,6 +127,7 @@ fn keys_look<R: CompactRows>(
 }
 
 /// Word `place` of a text of `size` words, which begins at word `at`; 0 behind its end.
+#[inline(always)]
 fn text_look<R: CompactRows>(
     rows: &R,
     pass: &mut R::Pass,
@@ -238,5 +244,168 @@ fn rest_look<R: CompactRows>(
         start + code_tail(code) as usize,
         words_for(code / CONTENT_UNIT),
         place - 10,
+    )
+}
+
+/// The length of a text of the record that was read in this compact row, and stays; by a word with which the row begins.
+#[inline(always)]
+pub fn length_spread<R: CompactRows>(
+    rows: &R,
+    pass: &mut R::Pass,
+    row: R::Row,
+    first: u64,
+    text: Text,
+) -> u64
+    requires has { (content : Record) × R.has rows.now pass.old row content × HasText text content }
+    requires first { (content : Record) → R.has rows.now pass.old row content → Begins first content }
+    ensures same { pass.new ≡ pass.old }
+    ensures word { (content : Record) → R.has rows.now pass.old row content → result ≡ slice_index (words_of content) (length_at text) }
+{
+    rows.keeps_spelling(pass);
+    words_are_seen();
+    let count = (first / ITEM_UNIT % PART_LIMIT) as usize;
+    match text {
+        Text::First => rows.look(pass, row, 1) / FIRST_UNIT % PART_LIMIT,
+        Text::Second => rows.look(pass, row, 1) / SECOND_UNIT,
+        Text::Key(item) => rows.look(pass, row, 2 + count + item) / LENGTH_UNIT % LENGTH_UNIT,
+        Text::Content(item) => rows.look(pass, row, 2 + count + item) / CONTENT_UNIT,
+    }
+}
+
+/// A word of a text of the record that was read in this compact row, and stays; by a word with which the row begins. The first word of an item's
+/// key stands beside those of the others: it takes one look, and any other two.
+#[inline(always)]
+pub fn word_spread<R: CompactRows>(
+    rows: &R,
+    pass: &mut R::Pass,
+    row: R::Row,
+    first: u64,
+    text: Text,
+    at: usize,
+) -> u64
+    requires has { (content : Record) × R.has rows.now pass.old row content × HasText text content }
+    requires first { (content : Record) → R.has rows.now pass.old row content → Begins first content }
+    requires within { at < TEXT_WORDS }
+    ensures same { pass.new ≡ pass.old }
+    ensures word { (content : Record) → R.has rows.now pass.old row content → result ≡ slice_index (words_of content) (length_at text + 1 + at) }
+{
+    rows.keeps_spelling(pass);
+    words_are_seen();
+    let count = (first / ITEM_UNIT % PART_LIMIT) as usize;
+    match text {
+        Text::First => first_look(rows, pass, row, count, at),
+        Text::Second => second_look(rows, pass, row, count, at),
+        Text::Key(item) => key_look(rows, pass, row, count, item, at),
+        Text::Content(item) => {
+            let level = first / LEVEL_UNIT % PART_LIMIT;
+            content_look(rows, pass, row, count, level, item, at)
+        }
+    }
+}
+
+/// Word `place` of the first key.
+#[inline(always)]
+fn first_look<R: CompactRows>(
+    rows: &R,
+    pass: &mut R::Pass,
+    row: R::Row,
+    count: usize,
+    place: usize,
+) -> u64
+    requires has { (content : Record) × R.has rows.now pass.old row content }
+    requires spelt { (content : Record) → R.has rows.now pass.old row content → IsCompact content (compact_words content) }
+    requires counts { (content : Record) → R.has rows.now pass.old row content → count ≡ count_seen (compact_words content) }
+    requires few { count < PART_LIMIT }
+    requires low { place < ROW_WORDS }
+    ensures same { pass.new ≡ pass.old }
+    ensures word { (content : Record) → R.has rows.now pass.old row content → result ≡ first_seen (compact_words content) place }
+{
+    let second = rows.look(pass, row, 1);
+    let size = words_for(second / FIRST_UNIT % PART_LIMIT);
+    text_look(rows, pass, row, 2 + 2 * count, size, place)
+}
+
+/// Word `place` of the second key.
+#[inline(always)]
+fn second_look<R: CompactRows>(
+    rows: &R,
+    pass: &mut R::Pass,
+    row: R::Row,
+    count: usize,
+    place: usize,
+) -> u64
+    requires has { (content : Record) × R.has rows.now pass.old row content }
+    requires spelt { (content : Record) → R.has rows.now pass.old row content → IsCompact content (compact_words content) }
+    requires counts { (content : Record) → R.has rows.now pass.old row content → count ≡ count_seen (compact_words content) }
+    requires few { count < PART_LIMIT }
+    requires low { place < ROW_WORDS }
+    ensures same { pass.new ≡ pass.old }
+    ensures word { (content : Record) → R.has rows.now pass.old row content → result ≡ second_seen (compact_words content) place }
+{
+    let second = rows.look(pass, row, 1);
+    let before = words_for(second / FIRST_UNIT % PART_LIMIT) as usize;
+    let size = bound_size(second / SECOND_UNIT);
+    text_look(rows, pass, row, 2 + 2 * count + before, size, place)
+}
+
+/// Word `place` of an item's key: its head, or a word of its text.
+#[inline(always)]
+fn key_look<R: CompactRows>(
+    rows: &R,
+    pass: &mut R::Pass,
+    row: R::Row,
+    count: usize,
+    item: usize,
+    place: usize,
+) -> u64
+    requires has { (content : Record) × R.has rows.now pass.old row content }
+    requires spelt { (content : Record) → R.has rows.now pass.old row content → IsCompact content (compact_words content) }
+    requires counts { (content : Record) → R.has rows.now pass.old row content → count ≡ count_seen (compact_words content) }
+    requires few { count < PART_LIMIT }
+    requires there { item < count }
+    requires low { place < TEXT_WORDS }
+    ensures same { pass.new ≡ pass.old }
+    ensures word { (content : Record) → R.has rows.now pass.old row content → result ≡ key_seen (compact_words content) item place }
+{
+    if place == 0 {
+        return rows.look(pass, row, 2 + item);
+    }
+    let code = rows.look(pass, row, 2 + count + item);
+    text_look(rows, pass, row, code_at(code), code_tail(code), place - 1)
+}
+
+/// Word `place` of an item's content: of a value; a child has none.
+#[inline(always)]
+fn content_look<R: CompactRows>(
+    rows: &R,
+    pass: &mut R::Pass,
+    row: R::Row,
+    count: usize,
+    level: u64,
+    item: usize,
+    place: usize,
+) -> u64
+    requires has { (content : Record) × R.has rows.now pass.old row content }
+    requires spelt { (content : Record) → R.has rows.now pass.old row content → IsCompact content (compact_words content) }
+    requires counts { (content : Record) → R.has rows.now pass.old row content → count ≡ count_seen (compact_words content) }
+    requires levels { (content : Record) → R.has rows.now pass.old row content → level ≡ level_seen (compact_words content) }
+    requires few { count < PART_LIMIT }
+    requires there { item < count }
+    requires low { place < TEXT_WORDS }
+    ensures same { pass.new ≡ pass.old }
+    ensures word { (content : Record) → R.has rows.now pass.old row content → result ≡ content_seen (compact_words content) item place }
+{
+    if level > 0 {
+        return 0;
+    }
+    let code = rows.look(pass, row, 2 + count + item);
+    let start = code_at(code) + code_tail(code) as usize;
+    text_look(
+        rows,
+        pass,
+        row,
+        start,
+        words_for(code / CONTENT_UNIT),
+        place,
     )
 }

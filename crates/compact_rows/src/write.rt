@@ -30,14 +30,15 @@ pub fn to_compact(content: &Record) -> CompactRow
     row
 }
 
-/// The compact spelling of a record that a row can spell, and which so has room.
-pub fn compact_of(content: &Record) -> CompactRow
+/// Writes the compact spelling of a record that a row can spell, and which so has room, over what was written in the row before.
+pub fn compact_in(row: &mut CompactRow, content: &Record)
     requires { IsSpellable content.now }
-    ensures { IsCompact content.now result }
+    ensures { IsCompact content.now row.new }
 {
     texts_are_short(content);
     records_have_room();
-    to_compact(content)
+    row.clear();
+    write_compact(row, content);
 }
 
 /// Writes the compact words of the record into a row in which nothing was written yet.

@@ -43,7 +43,12 @@ impl<A: Allocator> Model for Entries<A> {
 
     ghost Value = { Entries };
 
-    ghost view = { λ e. record { items = entries_of e.commands.items e.replies.items e.happened.items; room = room_of (length e.happened.items) (vec_capacity e.happened - length e.happened.items) (vec_capacity e.commands - length e.commands.items) (vec_capacity e.replies - length e.replies.items) } };
+    ghost view = { λ e. record {
+      items = entries_of e.commands.items e.replies.items e.happened.items;
+      room = room_of (length e.happened.items)
+          (vec_capacity e.happened - length e.happened.items) (vec_capacity e.commands - length e.commands.items)
+          (vec_capacity e.replies - length e.replies.items);
+    } };
 
     ghost invariant = { λ e. All (HasCommandOrReply (length e.commands.items) (length e.replies.items)) e.happened.items };
 }

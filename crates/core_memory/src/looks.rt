@@ -24,11 +24,21 @@ impl<A: Allocator> Rows for CoreRows<A> {
 
     type Pass = CoreTable<A>;
 
+    type Place = u32;
+
     ghost content = { λ table row. or_some ((memory_in table).rows row) };
 
     ghost has = { λ rows table row content. StandsIn (memory_in table) row content };
 
-    fn look(&self, pass: &mut CoreTable<A>, row: u32, at: usize) -> u64 {
-        pass.word(row, at)
+    ghost lies = { λ rows table row content. StandsIn (memory_in table) row content };
+
+    fn place(&self, pass: &CoreTable<A>, row: u32, first: u64) -> u32 {
+        let _ = pass;
+        let _ = first;
+        row
+    }
+
+    fn look(&self, pass: &mut CoreTable<A>, place: u32, at: usize) -> u64 {
+        pass.word(place, at)
     }
 }

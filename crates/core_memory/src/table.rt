@@ -45,9 +45,25 @@ impl<A: Allocator> Model for CoreTable<A> {
 
     ghost Value = { CoreTable };
 
-    ghost view = { λ t. record { limits = t.limits; slots = t.slots.items; rows = t.rows.items; pid_bits = t.pid_bits.items; row_bits = t.row_bits.items; epoch = t.epoch; announced = t.announced.items } };
+    ghost view = { λ t. record {
+      limits = t.limits;
+      slots = t.slots.items;
+      rows = t.rows.items;
+      pid_bits = t.pid_bits.items;
+      row_bits = t.row_bits.items;
+      epoch = t.epoch;
+      announced = t.announced.items;
+    } };
 
-    ghost invariant = { λ t. HasPlaces (record { limits = t.limits; slots = t.slots.items; rows = t.rows.items; pid_bits = t.pid_bits.items; row_bits = t.row_bits.items; epoch = t.epoch; announced = t.announced.items }) };
+    ghost invariant = { λ t. HasPlaces (record {
+      limits = t.limits;
+      slots = t.slots.items;
+      rows = t.rows.items;
+      pid_bits = t.pid_bits.items;
+      row_bits = t.row_bits.items;
+      epoch = t.epoch;
+      announced = t.announced.items;
+    }) };
 }
 
 impl<A: Allocator + Copy> CoreTable<A> {

@@ -297,13 +297,13 @@ fn most_seen(alloc: Global, size: Size, kind: u32) -> Option<Seen> {
 
 /// The most steps and rounds of a command of each kind, in a small tree and in a large one.
 const MOST: [[(u32, u32); 2]; 7] = [
-    [(29, 1), (15, 1)],
+    [(29, 1), (16, 1)],
     [(35, 1), (16, 1)],
     [(418, 6), (119, 6)],
     [(341, 6), (112, 6)],
     [(1605, 34), (578, 42)],
     [(85, 2), (50, 2)],
-    [(2901, 50), (826, 61)],
+    [(2901, 50), (824, 61)],
 ];
 
 /// Where actors have stood: behind each exchange of a removal on each of the three lowest levels.

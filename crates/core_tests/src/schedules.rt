@@ -317,8 +317,10 @@ fn few_pids(rt: HostRuntime) {
 fn few_rows(rt: HostRuntime) {
     let wanted = [Some((1, true, true)), Some((1, false, false))];
     let four = in_both(rt.alloc(), (Mix::Four, 100), (11, 6, 20_000), (64, 64));
+    assert!(rt; four == wanted, "{four:?}");
+    let wanted = [Some((1, true, true)), Some((2, true, true))];
     let seven = in_both(rt.alloc(), (Mix::Seven, 300), (14, 6, 20_000), (64, 64));
-    assert!(rt; [four, seven] == [wanted; 2], "{four:?} {seven:?}");
+    assert!(rt; seven == wanted, "{seven:?}");
     let size = Size::Large(64, 64);
     let many = watch(rt.alloc(), (Mix::FewDeletes, 1024), (11, 6, 40_000), size);
     let many = told(many);

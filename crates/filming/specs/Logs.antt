@@ -8,7 +8,7 @@ use Rattle.bw_model.specs.declared.command.Command.{Command}
 use Rattle.bw_model.specs.declared.command.Reply.{Reply}
 use Rattle.bw_model.specs.declared.command.Reply.TheVariants as reply
 use Rattle.bw_model.specs.declared.step.Link.TheVariants as link
-use Rattle.op_machine.specs.theorem.Points.{updates_by}
+use Rattle.linearization.specs.Points.{updates_by}
 use Rattle.step_core.specs.Turns.{Core}
 use Rattle.step_core.specs.declared.event.Event.{Event}
 use Rattle.step_core.specs.declared.event.Event.TheVariants.{Done, Stepped}

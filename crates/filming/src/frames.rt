@@ -9,7 +9,7 @@ ghost use Rattle.step_core.specs.declared.event.Event.{Event as EventSeen};
 ghost use Rattle.traces.specs.declared.trace.Turn.{Turn as TurnSeen};
 ghost use Rattle.tree_picture.specs.Elements.{document_text};
 ghost use Rattle.bw_model.specs.Log.{Update as UpdateSeen};
-ghost use Rattle.op_machine.specs.theorem.Points.{updates_by};
+ghost use Rattle.linearization.specs.Points.{updates_by};
 ghost use Rattle.traces.specs.trace.Trace.{command_of};
 ghost use Rattle.filming.specs.Films.{AreFilmed, IsFilmed};
 ghost use Rattle.filming.specs.Logs.{is_update, place_text};

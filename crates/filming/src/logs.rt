@@ -2,7 +2,7 @@
 ghost use Rattle.std.specs.Prelude.{◌≡◌, ◌++◌, ◌≤◌, codes, decimal, length, option_copied, option_to_list};
 ghost use Rattle.std.specs.List.{flat_map};
 ghost use Rattle.byte_streams.specs.Output.{Prints};
-ghost use Rattle.op_machine.specs.theorem.Points.{updates_by};
+ghost use Rattle.linearization.specs.Points.{updates_by};
 ghost use Rattle.filming.specs.Logs.{found_text, is_update, is_value, log_text, place_at, place_below, place_text, update_line, value_text, value_told};
 
 use crate::maps::show_token;

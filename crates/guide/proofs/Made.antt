@@ -4,7 +4,7 @@ use Rattle.std.specs.Prelude.{slice_get}
 use Rattle.std.proofs.lemmas.Option.{same_Some}
 use Rattle.running_tree.specs.Seats.{Seat}
 use Rattle.seats.specs.Gathered.{SeesOn}
-use Rattle.seat_threads.specs.Works.{AreDone, AreEachDone, with_each_behind}
+use Rattle.workers.specs.Works.{AreDone, AreEachDone, with_each_behind}
 
 -- An element stands at the same place before others, and the last one stands behind all.
 before_others : {X : Type 0} (xs ys : List X) (n : ℕ) (x : X) → slice_get xs n ≡ Some x → slice_get (xs ++ ys) n ≡ Some x

@@ -130,6 +130,6 @@ fn above<R: Abort>(rt: &R, row: u32) -> u32
     ensures { IsRow result }
 {
     let above = row.saturating_add(1);
-    assert!(rt; above < 67108864);
+    assert!(rt; above < 67108864, "{row}");
     above
 }

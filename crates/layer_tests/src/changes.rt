@@ -13,6 +13,7 @@ use base_page::{Items, Page};
 use bw_model::{Key, Limits, Step, Told};
 use change_machine::{Change, End, Kind, Spares};
 use deltas::{Record, Remove, Unterm};
+use std::alloc::Global;
 use std::fmt::Write;
 use structure_changes::{Plan, SplitPlan};
 
@@ -139,8 +140,14 @@ fn show(log: &mut Log, step: &Step<&Record>) {
     }
 }
 
-/// The steps of a change, and how it ended.
-fn drive(limits: &Limits, spares: &mut Spares, mut plan: Plan, world: World) -> (Log, Option<End>)
+/// The steps of a change, and how it ended; none where there is no memory.
+fn drive(
+    alloc: Global,
+    limits: &Limits,
+    spares: &mut Spares,
+    plan: Plan,
+    world: World,
+) -> Option<(Log, Option<End>)>
     requires target { IsTarget limits.now plan }
     requires spells { IsSpellablePlan plan }
     requires room { HaveRoom limits.now spares.old }
@@ -148,7 +155,8 @@ fn drive(limits: &Limits, spares: &mut Spares, mut plan: Plan, world: World) -> 
 {
     let mut world = world;
     let mut log = ArrayString::new();
-    let mut change = Change::new(limits);
+    let mut change = Change::new(alloc, limits).ok()?;
+    let mut plan = Box::new(alloc, plan).ok()?;
     change.begin(limits, spares, &mut plan);
     let mut end = None;
     for _ in 0..16 {
@@ -160,7 +168,7 @@ fn drive(limits: &Limits, spares: &mut Spares, mut plan: Plan, world: World) -> 
             break;
         }
     }
-    (log, end)
+    Some((log, end))
 }
 
 /// The smallest limits.
@@ -218,7 +226,14 @@ fn plan_of(limits: &Limits, plan: Planned, head: u32) -> Plan
 }
 
 /// Whether the change goes as the case says, over this row, where these numbers may be free.
-pub(crate) fn goes(limits: &Limits, spares: &mut Spares, head: u32, free: Free, case: &Case) -> bool
+pub(crate) fn goes(
+    alloc: Global,
+    limits: &Limits,
+    spares: &mut Spares,
+    head: u32,
+    free: Free,
+    case: &Case,
+) -> bool
     requires some { 0 < head }
     requires there { head < limits.now.rows }
     requires room { HaveRoom limits.now spares.old }
@@ -231,17 +246,19 @@ pub(crate) fn goes(limits: &Limits, spares: &mut Spares, head: u32, free: Free, 
         rows,
         won,
     };
-    let (log, end) = drive(limits, spares, plan_of(limits, plan, head), world);
+    let Some((log, end)) = drive(alloc, limits, spares, plan_of(limits, plan, head), world) else {
+        return false;
+    };
     let goes = (log.as_str().trim_start() == steps) & (end == Some(said));
     goes & (spares.pid() == pid) & (spares.rows() == left)
 }
 
 /// Whether an actor's changes go as they say, one after another.
-fn all_go(cases: &[Case]) -> bool {
+fn all_go(alloc: Global, cases: &[Case]) -> bool {
     let limits = smallest();
     let mut spares = Spares::new();
     for case in cases {
-        if !goes(&limits, &mut spares, 7, Free::First, case) {
+        if !goes(alloc, &limits, &mut spares, 7, Free::First, case) {
             return false;
         }
     }
@@ -336,17 +353,9 @@ const CHANGES: &[&[Case]] = &[
     ],
 ];
 
-/// Whether changes keep each of these rules.
-fn are_kept() -> bool {
-    for cases in CHANGES {
-        if !all_go(cases) {
-            return false;
-        }
-    }
-    true
-}
-
 #[test]
 fn goes_step_by_step(rt: HostRuntime) {
-    assert!(rt; are_kept());
+    for (place, cases) in CHANGES.iter().enumerate() {
+        assert!(rt; all_go(rt.alloc(), cases), "rule {place}");
+    }
 }

@@ -1,7 +1,10 @@
 //! Compact rows by hand: one of each kind beside the row of the same record, words that spell nothing, and each bit of a row turned over.
+ghost use Rattle.compact_rows.specs.Spells.{IsCompact};
+ghost use Rattle.deltas.specs.Spellable.{IsSpellable};
 
 use crate::rows::{self, Words, row};
-use compact_rows::{MOST_WORDS, compact_of, from_compact, seen_in};
+use compact_rows::{CompactRow, MOST_WORDS, compact_in, from_compact, seen_in};
+use deltas::Record;
 use record_slots::{BadRow, ROW_WORDS, read_words, to_words};
 
 /// The words of a compact row.
@@ -156,10 +159,20 @@ const EACH: [(Compact, Words); 13] = [
     (LEAF, LEAF_ROW),
 ];
 
+/// The compact words of a record.
+pub(crate) fn written(content: &Record) -> CompactRow
+    requires { IsSpellable content.now }
+    ensures { IsCompact content.now result }
+{
+    let mut row = CompactRow::new();
+    compact_in(&mut row, content);
+    row
+}
+
 /// Whether the record of the row is written as these words.
 fn is_written(words: &[u64], spelled: Words) -> bool {
     match read_words(&row(spelled)) {
-        Ok(record) => compact_of(&record).words() == words,
+        Ok(record) => written(&record).words() == words,
         Err(_) => false,
     }
 }
@@ -263,7 +276,10 @@ const SPOILT: [(Compact, usize, u64); 29] = [
 #[test]
 fn refuses_compact_words_that_spell_nothing(rt: HostRuntime) {
     for (place, (words, at, word)) in SPOILT.iter().enumerate() {
-        assert!(rt; is_spoilt_by(words, *at, *word), "{place}");
+        assert!(rt;
+            is_spoilt_by(words, *at, *word),
+            "row {place}: {word} at {at}"
+        );
     }
 }
 
@@ -284,14 +300,14 @@ fn a_compact_row_has_no_word_too_few_and_none_too_many(rt: HostRuntime) {
     for (place, (words, _)) in EACH.iter().enumerate() {
         assert!(rt; is_whole(words), "{place}");
     }
-    let refused = is_refused(&[0; MOST_WORDS]) & is_refused(&[u64::MAX; MOST_WORDS + 1]);
-    assert!(rt; refused);
+    assert!(rt; is_refused(&[0; MOST_WORDS]), "zeros");
+    assert!(rt; is_refused(&[u64::MAX; MOST_WORDS + 1]), "ones");
 }
 
 /// Whether the words spell a record, of which they are the only spelling; none where they spell a record that has other words.
 fn is_own(words: &[u64]) -> Option<bool> {
     match from_compact(words) {
-        Ok(record) => (compact_of(&record).words() == words).then_some(true),
+        Ok(record) => (written(&record).words() == words).then_some(true),
         Err(_) => Some(false),
     }
 }
@@ -336,8 +352,8 @@ const TURNED: [(Compact, u32); 10] = [
 
 #[test]
 fn each_bit_of_a_compact_row_counts(rt: HostRuntime) {
-    for (words, wanted) in TURNED {
+    for (words, expected) in TURNED {
         let spelled = spelled_by_one_bit(words);
-        assert!(rt; spelled == Some(wanted), "{spelled:?} for {wanted}");
+        assert!(rt; spelled == Some(expected), "{spelled:?} for {expected}");
     }
 }

@@ -3,10 +3,10 @@
 ghost use Rattle.std.specs.Prelude.{◌+◌, ◌≤◌, ◌<◌};
 ghost use Rattle.deltas.specs.Spellable.{IsSpellable};
 
-use crate::compact_by_hand::is_seen;
+use crate::compact_by_hand::{is_seen, written};
 use crate::random_rows::{draw, other_word};
 use crate::rows::{EACH_KIND, Words, with};
-use compact_rows::{compact_of, from_compact};
+use compact_rows::from_compact;
 use deltas::Record;
 use rand_core::SeedableRng;
 use rand_pcg::Pcg32;
@@ -16,7 +16,7 @@ use record_slots::{ROW_WORDS, read_words, to_words};
 fn comes_back(content: &Record, row: &[u64; ROW_WORDS]) -> Option<usize>
     requires { IsSpellable content.now }
 {
-    let written = compact_of(content);
+    let written = written(content);
     let words = written.words();
     let same = match from_compact(words) {
         Ok(read) => to_words(&read) == *row && is_seen(words, row),
@@ -188,7 +188,8 @@ fn come_back(words: &mut Pcg32, kind: u32) -> u32 {
 fn drawn_records_come_back(rt: HostRuntime) {
     let mut words = Pcg32::seed_from_u64(3);
     for kind in 0..8u32 {
-        assert!(rt; come_back(&mut words, kind) == 1_000, "{kind}");
+        let count = come_back(&mut words, kind);
+        assert!(rt; count == 1_000, "kind {kind}: {count}");
     }
 }
 
@@ -212,7 +213,9 @@ fn longest(words: &mut Pcg32) -> Row {
 #[test]
 fn the_longest_record_has_room(rt: HostRuntime) {
     let row = longest(&mut Pcg32::seed_from_u64(5));
-    assert!(rt; told(&row) == Some(2 + 24 + 24 + 8 + 8 + 24 * 15));
+    let found = told(&row);
+    let expected = 2 + 24 + 24 + 8 + 8 + 24 * 15;
+    assert!(rt; found == Some(expected), "{found:?} for {expected}");
 }
 
 /// Whether the row spells nothing, or its record comes back from its compact words.
@@ -238,7 +241,7 @@ fn are_told(words: &mut Pcg32, good: Words) -> bool {
 #[test]
 fn records_with_one_other_word_come_back(rt: HostRuntime) {
     let mut words = Pcg32::seed_from_u64(12);
-    for good in EACH_KIND {
-        assert!(rt; are_told(&mut words, good));
+    for (kind, good) in EACH_KIND.iter().enumerate() {
+        assert!(rt; are_told(&mut words, good), "kind {kind}");
     }
 }

@@ -50,16 +50,6 @@ const TAKEN: &[(Words, Words)] = &[
     (HOLD, rows::HOLD),
 ];
 
-/// Whether each of them is taken to today's.
-fn are_taken() -> bool {
-    for (words, wide) in TAKEN {
-        if !is_taken_to(&first(words), &rows::row(wide)) {
-            return false;
-        }
-    }
-    true
-}
-
 /// Whether the words are refused.
 fn is_refused(words: &[u64; FIRST_ROW_WORDS]) -> bool {
     matches!(widen(words), Err(BadRow))
@@ -109,16 +99,6 @@ const SPOILT: &[(usize, u64)] = &[
     (255, 1),
 ];
 
-/// Whether each of these is refused.
-fn are_refused() -> bool {
-    for (place, word) in SPOILT {
-        if !is_refused(&with(PUT, *place, *word)) {
-            return false;
-        }
-    }
-    true
-}
-
 /// A full leaf: 24 items, whose keys and values have 32 bytes, and whose keys differ in the last one.
 fn full() -> [u64; FIRST_ROW_WORDS] {
     let mut row = first(&[(0, 0x180001), (8, 255)]);
@@ -153,11 +133,18 @@ fn full_today() -> [u64; ROW_WORDS] {
 
 #[test]
 fn takes_rows_to_todays(rt: HostRuntime) {
-    assert!(rt; are_taken() & is_taken_to(&full(), &full_today()));
+    for (case, (words, wide)) in TAKEN.iter().enumerate() {
+        assert!(rt; is_taken_to(&first(words), &rows::row(wide)), "row {case}");
+    }
+    assert!(rt; is_taken_to(&full(), &full_today()), "a full leaf");
 }
 
 #[test]
 fn refuses_what_spells_nothing_and_tells_each_bit(rt: HostRuntime) {
-    let told = are_told(&first(OPENING)) & are_told(&first(PUT));
-    assert!(rt; are_refused() & told);
+    for (place, word) in SPOILT {
+        assert!(rt; is_refused(&with(PUT, *place, *word)), "{word} at {place}");
+    }
+    for (case, words) in [OPENING, PUT].iter().enumerate() {
+        assert!(rt; are_told(&first(words)), "row {case}");
+    }
 }

@@ -3,16 +3,23 @@
 use crate::changes::{Case, Free, Planned, goes};
 use bw_model::{Limits, Widths};
 use change_machine::{End, Kind, Spares};
+use std::alloc::Global;
 
 /// Whether a change of a large tree goes as the case says, over this row, where these numbers may be free.
-fn goes_in_large((pids, rows): (u64, u64), head: u32, free: Free, case: &Case) -> bool {
+fn goes_in_large(
+    alloc: Global,
+    (pids, rows): (u64, u64),
+    head: u32,
+    free: Free,
+    case: &Case,
+) -> bool {
     let Ok(limits) = Limits::large(1, pids, rows, 1) else {
         return false;
     };
     if head == 0 || u64::from(head) >= limits.rows {
         return false;
     }
-    goes(&limits, &mut Spares::new(), head, free, case)
+    goes(alloc, &limits, &mut Spares::new(), head, free, case)
 }
 
 /// PIDs and rows of a large tree, the newest row of page 1, which numbers may be free, and the change.
@@ -72,12 +79,15 @@ const IN_LARGE: [((u64, u64), u32, Free, Case); 4] = [
 #[test]
 fn takes_scattered_numbers_in_a_large_tree(rt: HostRuntime) {
     for (size, head, free, case) in &IN_LARGE {
-        assert!(rt; goes_in_large(*size, *head, *free, case), "{head}");
+        assert!(rt;
+            goes_in_large(rt.alloc(), *size, *head, *free, case),
+            "{head}"
+        );
     }
 }
 
 /// Whether a change goes as the case says in a large tree with a word of rows of each width, over row 7, where these numbers may be free.
-fn goes_by_width(free: Free, case: &Case) -> bool {
+fn goes_by_width(alloc: Global, free: Free, case: &Case) -> bool {
     let widths = Widths {
         narrow_rows: 64,
         wide_from: 128,
@@ -90,7 +100,7 @@ fn goes_by_width(free: Free, case: &Case) -> bool {
     if limits.rows <= 7 {
         return false;
     }
-    goes(&limits, &mut Spares::new(), 7, free, case)
+    goes(alloc, &limits, &mut Spares::new(), 7, free, case)
 }
 
 /// Which numbers may be free, and the change. The products of 1 and of 7 with 2,654,435,761 are odd, so the second word of PIDs is read first.
@@ -149,7 +159,7 @@ const BY_WIDTH: [(Free, Case); 5] = [
 
 #[test]
 fn takes_rows_that_are_wide_enough(rt: HostRuntime) {
-    for (free, case) in &BY_WIDTH {
-        assert!(rt; goes_by_width(*free, case));
+    for (place, (free, case)) in BY_WIDTH.iter().enumerate() {
+        assert!(rt; goes_by_width(rt.alloc(), *free, case), "rule {place}");
     }
 }

@@ -44,11 +44,23 @@ fn lasts(heap: Heap<'_>, limbo: Limbo<Heap<'_>>) -> bool {
 
 /// How many growths a new limbo list wants, where each that is refused is told as want of memory; and whether it goes round twice while
 /// the next one would be refused, and wants none.
-fn growths(heap: Heap<'_>, limits: &Limits) -> Option<(u64, bool)> {
+#[derive(Clone, Copy, Debug, PartialEq, Eq)]
+struct Growing {
+    wanted: u64,
+    lasts: bool,
+}
+
+/// Those of a tree of these limits; none where a list of 99 is refused for another reason, or still.
+fn growths(heap: Heap<'_>, limits: &Limits) -> Option<Growing> {
     for growth in 0..100u64 {
         heap.set(growth);
         match Limbo::<Heap<'_>>::new(heap, limits) {
-            Ok(limbo) => return Some((growth, lasts(heap, limbo))),
+            Ok(limbo) => {
+                return Some(Growing {
+                    wanted: growth,
+                    lasts: lasts(heap, limbo),
+                });
+            }
             Err(OpenError::Memory) => {}
             Err(OpenError::BadEpoch) => return None,
         }
@@ -64,5 +76,9 @@ fn limbo_takes_memory_once(rt: HostRuntime) {
         Ok(limits) => growths(&heap, &limits),
         Err(_) => None,
     };
-    assert!(rt; counted == Some((2, true)));
+    let expected = Growing {
+        wanted: 2,
+        lasts: true,
+    };
+    assert!(rt; counted == Some(expected), "{counted:?}");
 }

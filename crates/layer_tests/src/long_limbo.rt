@@ -84,9 +84,15 @@ fn sweep(limits: &Limits, limbo: &mut Limbo, announced: u64, freed: &mut Freed) 
     None
 }
 
-/// How many sweeps it takes to free so many rows, and how many of them the first of these frees. None where one is freed twice or too
-/// early.
-fn sweeps(limits: &Limits, limbo: &mut Limbo, rows: u32) -> Option<(u32, u32)>
+/// How many sweeps free all rows, and how many of them the first of these frees.
+#[derive(Clone, Copy, Debug, PartialEq, Eq)]
+struct SweptRows {
+    sweeps: u32,
+    first: u32,
+}
+
+/// The sweeps that free so many rows. None where one is freed twice or too early.
+fn sweeps(limits: &Limits, limbo: &mut Limbo, rows: u32) -> Option<SweptRows>
     requires actor { 0 < limits.now.actors }
     requires lists { IsLimboOf limits.now limbo.old }
 {
@@ -102,7 +108,10 @@ fn sweeps(limits: &Limits, limbo: &mut Limbo, rows: u32) -> Option<(u32, u32)>
     };
     for count in 1..200 {
         if limbo.is_empty() {
-            return (filled && freed.rows == rows).then_some((count, first));
+            return (filled && freed.rows == rows).then_some(SweptRows {
+                sweeps: count,
+                first,
+            });
         }
         if sweep(limits, limbo, 2, &mut freed).is_none() {
             return None;
@@ -112,7 +121,7 @@ fn sweeps(limits: &Limits, limbo: &mut Limbo, rows: u32) -> Option<(u32, u32)>
 }
 
 /// What `sweeps` finds in a tree of two actors.
-fn swept(alloc: Global, limits: &Limits, rows: u32) -> Option<(u32, u32)> {
+fn swept(alloc: Global, limits: &Limits, rows: u32) -> Option<SweptRows> {
     if limits.actors != 2 {
         return None;
     }
@@ -128,6 +137,16 @@ fn large_trees_free_64_a_sweep(rt: HostRuntime) {
     let large = Limits::large(2, 64, 10048, 1).unwrap();
     let small = Limits::new(2, 64, 10048, 1).unwrap();
     let alloc = rt.alloc();
-    assert!(rt; swept(alloc, &large, 10000) == Some((157, 64)));
-    assert!(rt; swept(alloc, &small, 1000) == Some((1, 1000)));
+    let found = swept(alloc, &large, 10_000);
+    let expected = SweptRows {
+        sweeps: 157,
+        first: 64,
+    };
+    assert!(rt; found == Some(expected), "large: {found:?}");
+    let found = swept(alloc, &small, 1_000);
+    let expected = SweptRows {
+        sweeps: 1,
+        first: 1_000,
+    };
+    assert!(rt; found == Some(expected), "small: {found:?}");
 }

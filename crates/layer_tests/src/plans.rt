@@ -120,16 +120,6 @@ pub(crate) fn split_at<R: Abort + AllocGlobal>(
     }
 }
 
-/// Whether each of them is.
-fn are_split<R: Abort + AllocGlobal>(rt: &R) -> bool {
-    for (items, deltas, split) in SPLIT {
-        if split_at(rt, &leaf_under(rt, 2, key(b"k"), *items, *deltas), 8) != *split {
-            return false;
-        }
-    }
-    true
-}
-
 /// An index page that has page 1 at the empty key.
 fn index() -> Page
     ensures { result ≡ index }
@@ -209,6 +199,14 @@ fn removes_small_ones<R: Abort + AllocGlobal>(rt: &R) -> bool {
 
 #[test]
 fn splits_posts_holds_and_removes(rt: HostRuntime) {
-    let given = are_split(&rt) & posts_once(&rt);
-    assert!(rt; given & holds_one(&rt) & removes_small_ones(&rt));
+    for (items, deltas, expected) in SPLIT {
+        let found = split_at(&rt, &leaf_under(&rt, 2, key(b"k"), *items, *deltas), 8);
+        assert!(rt;
+            found == *expected,
+            "{items} items, {deltas} deltas: {found:?}"
+        );
+    }
+    assert!(rt; posts_once(&rt), "a term is posted once");
+    assert!(rt; holds_one(&rt), "one term is held");
+    assert!(rt; removes_small_ones(&rt), "small leaves are removed");
 }

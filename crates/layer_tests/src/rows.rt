@@ -202,21 +202,19 @@ pub(crate) fn with(words: Words, place: usize, word: u64) -> [u64; ROW_WORDS] {
     row
 }
 
-/// Whether each of these is refused.
-fn are_refused() -> bool {
-    for (words, place, word) in SPOILT {
-        if !is_refused(&with(words, *place, *word)) {
-            return false;
-        }
-    }
-    true
-}
-
 #[test]
 fn writes_the_rows_of_records_and_refuses_rows_that_spell_nothing(rt: HostRuntime) {
-    let written = writes_each();
-    let same = is_refused(&[0; ROW_WORDS]) & is_refused(&[u64::MAX; ROW_WORDS]);
-    assert!(rt; written & same & is_refused(&row(EQUAL_KEYS)) & are_refused());
+    assert!(rt; writes_each(), "records by hand");
+    for word in [0, u64::MAX] {
+        assert!(rt; is_refused(&[word; ROW_WORDS]), "each word {word}");
+    }
+    assert!(rt; is_refused(&row(EQUAL_KEYS)), "equal keys");
+    for (case, (words, place, word)) in SPOILT.iter().enumerate() {
+        assert!(rt;
+            is_refused(&with(words, *place, *word)),
+            "row {case}: {word} at {place}"
+        );
+    }
 }
 
 /// Rows with a number of a large tree, and whether it is one: they spell a record there, and nothing in any other tree.
@@ -245,10 +243,14 @@ fn is_read(words: &[u64; ROW_WORDS]) -> bool {
 fn large_numbers_are_those_of_large_trees(rt: HostRuntime) {
     for (words, place, number, taken) in LARGE_NUMBERS {
         let row = with(words, place, number);
-        assert!(rt; is_refused(&row) && is_read(&row) == taken, "{number}");
+        let (refused, read) = (is_refused(&row), is_read(&row));
+        assert!(rt;
+            refused && read == taken,
+            "{number} at {place}: refused {refused}, read {read}"
+        );
     }
-    for words in EACH_KIND {
-        assert!(rt; is_read(&row(words)));
+    for (kind, words) in EACH_KIND.iter().enumerate() {
+        assert!(rt; is_read(&row(words)), "kind {kind}");
     }
 }
 
@@ -277,18 +279,15 @@ const TURNED: &[(Words, u32)] = &[
     (UNTERM, 3 + 13 + 11 + 4 + 24),
 ];
 
-/// Whether each of these rows is its record's, and so many that differ in one bit spell a record.
-fn are_counted() -> bool {
-    for (words, spelled) in TURNED {
-        let row = row(words);
-        if !is_spelled(&row) || spelled_by_one_bit(&row) != Some(*spelled) {
-            return false;
-        }
-    }
-    true
-}
-
 #[test]
 fn each_bit_of_a_row_counts(rt: HostRuntime) {
-    assert!(rt; are_counted());
+    for (kind, (words, expected)) in TURNED.iter().enumerate() {
+        let row = row(words);
+        assert!(rt; is_spelled(&row), "kind {kind}");
+        let spelled = spelled_by_one_bit(&row);
+        assert!(rt;
+            spelled == Some(*expected),
+            "kind {kind}: {spelled:?} for {expected}"
+        );
+    }
 }

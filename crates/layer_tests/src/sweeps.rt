@@ -254,16 +254,6 @@ const SWEEPS: &[(u64, u8, &[Case])] = &[
     ),
 ];
 
-/// Whether sweeps keep each of these rules.
-fn are_kept(alloc: Global) -> bool {
-    for (actors, actor, cases) in SWEEPS {
-        if !swept(alloc, *actors, *actor, cases) {
-            return false;
-        }
-    }
-    true
-}
-
 /// Two rows and a PID are taken out of the tree.
 fn take_out_some(limits: &Limits, limbo: &mut Limbo)
     requires { limbo.old ≡ empty_limbo limits.now }
@@ -296,5 +286,11 @@ const TAKEN_OUT: &[Case] = &[(
 #[test]
 fn goes_step_by_step_and_frees_what_was_taken_out(rt: HostRuntime) {
     let alloc = rt.alloc();
-    assert!(rt; are_kept(alloc) & swept_out(alloc, TAKEN_OUT));
+    for (place, (actors, actor, cases)) in SWEEPS.iter().enumerate() {
+        assert!(rt;
+            swept(alloc, *actors, *actor, cases),
+            "rule {place}: actor {actor} of {actors}"
+        );
+    }
+    assert!(rt; swept_out(alloc, TAKEN_OUT), "what was taken out");
 }

@@ -1,9 +1,8 @@
 -- The rows of a chain, as they are read one after another.
-use Rattle.std.proofs.Common.{◌≡◌, ◌<◌, ◌+◌, ℕ, zero, suc, List, [], ◌∷◌, ◌++◌, length, get_or, Option, None, Some, MatchOption, refl, sym, ap, ◌∙◌, arith, append_assoc}
+use Rattle.listing.proofs.Words.{◌≡◌, ◌<◌, ◌+◌, ℕ, zero, suc, List, [], ◌∷◌, ◌++◌, length, get_or, Option, None, Some, MatchOption, refl, sym, ap, ◌∙◌, arith}
+use Rattle.listing.proofs.Words.{append_assoc, length-append, Record}
 use Rattle.std.specs.Prelude.{unwrap_or}
-use Rattle.std.proofs.lemmas.List.{length-append}
 use Rattle.std.proofs.lemmas.Option.{same_Some}
-use Rattle.deltas.specs.declared.record.Record.{Record}
 use Rattle.deltas.specs.declared.record.Record.TheVariants.{Remove}
 use Rattle.deltas.specs.Records.{next_row}
 use Rattle.traces.specs.chain.Chains.{IsChainFrom, chain_rows}

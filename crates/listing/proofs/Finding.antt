@@ -1,24 +1,15 @@
 -- Going to the right until a leaf has the key.
-use Rattle.std.proofs.Common.{◌≡◌, ◌<◌, ◌≤◌, ◌+◌, ℕ, List, [], ◌∷◌, ◌++◌, length, Some, MatchOption, refl, sym, subst, ap, ◌∙◌, arith, append_assoc}
-use Rattle.std.specs.List.{AllByRecursion, Contains}
-use Rattle.std.proofs.lemmas.List.{length-append}
+use Rattle.listing.proofs.Words.{◌≡◌, ◌<◌, ◌≤◌, ◌+◌, ℕ, List, [], ◌∷◌, ◌++◌, length, Some, MatchOption, refl, sym, subst, ap, ◌∙◌, arith, append_assoc}
+use Rattle.listing.proofs.Words.{AllByRecursion, Contains, length-append, Page, Record, Memory, Limits, low_in, Makes, IsSideChainFrom, IsWholeFrom, LivePage}
+use Rattle.listing.proofs.Words.{IsUnder, IsUpTo, Key, HasLeafPages, IsLeafPage, covers_to, StandsAt}
 use Rattle.std.proofs.lemmas.List.Elements.{Contains-append_right}
 use Rattle.base_page.proofs.ItemLaws.{back_all}
-use Rattle.base_page.specs.Pages.{Page}
 use Rattle.base_page.specs.Rules.{IsRuled}
 use Rattle.base_page.specs.Shown.{pairs_shown}
 use Rattle.base_page.specs.declared.page.shows.Direction.TheVariants.{Forward}
-use Rattle.deltas.specs.declared.record.Record.{Record}
-use Rattle.deltas.specs.Memory.{Memory}
 use Rattle.row_chain.proofs.PairLaws.{pairs_in}
-use Rattle.tree_limits.specs.declared.limits.Limits.{Limits}
-use Rattle.traces.specs.chain.Chains.{low_in}
-use Rattle.traces.specs.chain.Fitted.{Makes}
-use Rattle.traces.specs.chain.SideChain.{IsSideChainFrom, IsWholeFrom, LivePage}
-use Rattle.tree_law.specs.Keys.{IsUnder, IsUpTo, Key}
-use Rattle.tree_law.specs.Leaves.{HasLeafPages, IsLeafPage}
-use Rattle.tree_law.proofs.shape.KeyOrder.{covers_to, empty_lowest}
-use Rattle.listing.specs.Listed.{IsAmong, IsFoundAt, IsPageFrom, IsBeyondEnd, StandsAt}
+use Rattle.tree_law.proofs.shape.KeyOrder.{empty_lowest}
+use Rattle.listing.specs.Listed.{IsAmong, IsFoundAt, IsPageFrom, IsBeyondEnd}
 use Rattle.listing.proofs.Ranges.{whole_at}
 
 -- The leaf with this PID isn't behind the key, and so many leaves at least are to its left.

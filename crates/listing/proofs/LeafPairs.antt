@@ -1,7 +1,8 @@
 -- The pairs of a leaf: in the order of their keys, in the leaf's range, and what its chain decides.
-use Rattle.std.proofs.Common.{◌≡◌, ℕ, List, [], ◌∷◌, map, Bool, true, false, Option, Some, None, refl, sym, subst, ap, ◌∙◌, arith}
+use Rattle.listing.proofs.Words.{◌≡◌, ℕ, List, [], ◌∷◌, true, false, Option, Some, None, refl, sym, subst, ap, ◌∙◌, arith, AllByRecursion, Contains, key_cmp}
+use Rattle.listing.proofs.Words.{Value, all-weaker, Record, content_in, high_in, low_in, Covers, IsUnder, pairs_of}
+use Rattle.std.proofs.Common.{map, Bool}
 use Rattle.std.specs.Prelude.{if◌then◌else◌, ◌↔◌}
-use Rattle.std.specs.List.{AllByRecursion, Contains}
 use Rattle.std.specs.List.Sorted.{IsStrictlySortedBy}
 use Rattle.std.specs.Map.{lookup}
 use Rattle.std.specs.Ordering.{eq_by_cmp, is_eq}
@@ -10,17 +11,13 @@ use Rattle.std.proofs.lemmas.List.Elements.{recursion_from_All}
 use Rattle.std.proofs.lemmas.Map.Keys.{IsDistinct-from_sorted}
 use Rattle.std.proofs.lemmas.Map.Lookups.{exact_bytes}
 use Rattle.std.proofs.lemmas.Map.Views.{Contains-from_lookup, lookup-from_Contains, tells_apart}
-use Rattle.bw_model.specs.Bytes.{key_cmp}
 use Rattle.base_page.specs.declared.item.Content.{Content}
-use Rattle.base_page.specs.declared.item.Content.TheVariants.{Child, Value}
+use Rattle.base_page.specs.declared.item.Content.TheVariants.{Child}
 use Rattle.base_page.specs.declared.item.Item.{Item}
 use Rattle.base_page.specs.Pages.{IsOfLevel, content_at, value_in}
-use Rattle.base_page.proofs.ItemLaws.{all-weaker}
-use Rattle.deltas.specs.declared.record.Record.{Record}
-use Rattle.traces.specs.chain.Chains.{content_in, high_in, level_in, low_in}
-use Rattle.tree_law.specs.Keys.{Covers, IsUnder}
+use Rattle.traces.specs.chain.Chains.{level_in}
 use Rattle.tree_law.proofs.shape.KeyOrder.{covers_from}
-use Rattle.listing.specs.Listed.{HasPage, pairs_of, with_pair}
+use Rattle.listing.specs.Listed.{HasPage, with_pair}
 
 abbrev AreValues : List Item → Type 0
 AreValues items = AllByRecursion (λ item. IsOfLevel 0 item.content) items

@@ -7,3 +7,4 @@ pub mod PairLaws
 pub mod Ranges
 pub mod Finding
 pub mod Showing
+mod Words

@@ -1,25 +1,21 @@
 -- The pairs of the leaves are those of the log.
-use Rattle.std.proofs.Common.{◌≡◌, inl, inr, ℕ, zero, suc, List, [], ◌∷◌, ◌++◌, length, map, Option, Some, None, refl, sym, subst, ap, ◌∙◌, arith}
-use Rattle.std.specs.Prelude.{IsTrue, MatchOption}
-use Rattle.std.specs.List.{AllByRecursion, Contains}
+use Rattle.listing.proofs.Words.{◌≡◌, inl, inr, ℕ, zero, suc, List, [], ◌∷◌, ◌++◌, length, Option, Some, None, refl, sym, subst, ap, ◌∙◌, arith, IsTrue}
+use Rattle.listing.proofs.Words.{AllByRecursion, Contains, is_in_range, key_cmp, Limits, Value, all-weaker, Memory, content_in, high_in, low_in}
+use Rattle.listing.proofs.Words.{IsSideChainFrom, IsWholeFrom, LivePage, Covers, IsUnder, IsUpTo, Key, HasLeafPages, IsLeafPage, covers_to, upto_trans}
+use Rattle.std.proofs.Common.{map}
+use Rattle.std.specs.Prelude.{MatchOption}
 use Rattle.std.specs.List.Sorted.{IsStrictlySortedBy}
 use Rattle.std.specs.declared.cmp.Ordering.TheVariants.{Less}
 use Rattle.std.proofs.lemmas.List.{append-nil}
 use Rattle.std.proofs.lemmas.List.Elements.{All-contains, All-from_recursion, Contains-append_cases, Contains-append_left, Contains-append_right}
-use Rattle.bw_model.specs.Bytes.{is_in_range, key_cmp}
-use Rattle.tree_limits.specs.declared.limits.Limits.{Limits}
-use Rattle.base_page.specs.declared.item.Content.TheVariants.{Value}
-use Rattle.base_page.proofs.ItemLaws.{all-append, all-weaker}
+use Rattle.base_page.proofs.ItemLaws.{all-append}
 use Rattle.base_page.proofs.KeyLaws.{below_from, below_reach}
-use Rattle.deltas.specs.Memory.{Memory}
 use Rattle.traces.specs.declared.trace.Entry.{Entry}
-use Rattle.traces.specs.chain.Chains.{content_in, covers, high_in, level_in, low_in}
-use Rattle.traces.specs.chain.SideChain.{IsSideChainFrom, IsWholeFrom, LivePage}
+use Rattle.traces.specs.chain.Chains.{covers, level_in}
 use Rattle.traces.specs.trace.Trace.{memory_of}
-use Rattle.tree_law.specs.Keys.{Covers, IsBelow, IsUnder, IsUpTo, Key}
-use Rattle.tree_law.specs.Leaves.{HasLeafPages, IsLeafPage}
+use Rattle.tree_law.specs.Keys.{IsBelow}
 use Rattle.tree_law.specs.TraceLaws.{LeavesHaveMap}
-use Rattle.tree_law.proofs.shape.KeyOrder.{below_not, covers_to, empty_lowest, upto_trans}
+use Rattle.tree_law.proofs.shape.KeyOrder.{below_not, empty_lowest}
 use Rattle.listing.specs.Listed.{HavePages, IsListing}
 use Rattle.listing.proofs.LeafPairs.{ascending, exact, inside, spans}
 use Rattle.listing.proofs.Walking.{Pairs}

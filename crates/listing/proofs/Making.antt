@@ -1,9 +1,6 @@
 -- A record more makes the page that it applies to.
-use Rattle.std.proofs.Common.{◌≡◌, ◌<◌, ℕ, zero, suc, List, [], ◌∷◌, length, get_or, drop, subst, arith}
-use Rattle.base_page.specs.Pages.{Page}
-use Rattle.deltas.specs.declared.record.Record.{Record}
+use Rattle.listing.proofs.Words.{◌≡◌, ◌<◌, ℕ, zero, suc, List, [], ◌∷◌, length, get_or, drop, subst, arith, Page, Record, Makes}
 use Rattle.deltas.specs.Applies.{Applies}
-use Rattle.traces.specs.chain.Fitted.{Makes}
 use Rattle.traces.proofs.FittedLaws.{Makes-next}
 
 pub next_makes : (chain : List Record) (place : ℕ) → place < length chain → (delta : Record) → delta ≡ get_or chain place delta

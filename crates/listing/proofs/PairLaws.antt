@@ -1,6 +1,8 @@
 -- A sorted map that has what a log says has the log's pairs.
-use Rattle.std.proofs.Common.{◌≡◌, ◌<◌, ◌+◌, ℕ, suc, length, take, get_or, arith, List, Bool, true, false, None, Some, Option, [], ◌∷◌, ◌++◌, refl, ap, sym, ◌∙◌, Less, Equal, Greater}
-use Rattle.std.specs.Prelude.{IsTrue, if◌then◌else◌}
+use Rattle.listing.proofs.Words.{◌≡◌, ◌<◌, ◌+◌, ℕ, suc, length, take, get_or, arith, List, true, false, None, Some, Option, [], ◌∷◌, ◌++◌, refl, ap, sym, ◌∙◌}
+use Rattle.listing.proofs.Words.{IsTrue, key_cmp, is_in_range}
+use Rattle.std.proofs.Common.{Bool, Less, Equal, Greater}
+use Rattle.std.specs.Prelude.{if◌then◌else◌}
 use Rattle.std.specs.BTreeMap.{BTreeMap, IsOrdered, get}
 use Rattle.std.specs.Ordering.{is_eq, ordering_reverse}
 use Rattle.std.specs.declared.cmp.Ordering.{Ordering}
@@ -8,7 +10,6 @@ use Rattle.std.proofs.Math.Seq.{take-suc}
 use Rattle.std.proofs.lemmas.Cmp.{nat_list_cmp_total}
 use Rattle.std.proofs.lemmas.Map.Lookups.{exact_bytes}
 use Rattle.std.proofs.lemmas.Map.Views.{btree_map_get_iff}
-use Rattle.bw_model.specs.Bytes.{key_cmp, is_in_range}
 use Rattle.bw_model.specs.Log.{Update, updated_key, updated_value, logged_value}
 use Rattle.bw_model.proofs.LogLaws.{logged_value-push}
 use Rattle.bw_model.specs.Pairs.{IsPairsOf}

@@ -1,14 +1,12 @@
 -- The ranges of leaves that follow one another: no two of them have a key.
-use Rattle.std.proofs.Common.{◌≡◌, ◌⊎◌, inl, inr, zero, suc, List, [], ◌∷◌, ◌++◌, Option, Some, None, MatchOption, refl, sym, subst, ◌∙◌, arith}
-use Rattle.std.specs.List.{AllByRecursion, Contains}
+use Rattle.listing.proofs.Words.{◌≡◌, inl, inr, zero, suc, List, [], ◌∷◌, ◌++◌, Option, Some, None, MatchOption, refl, sym, subst, ◌∙◌, arith, AllByRecursion}
+use Rattle.listing.proofs.Words.{Contains, Record, high_in, low_in, Makes, IsWholeFrom, LivePage, Covers, IsUnder, IsUpTo, Key, upto_trans}
+use Rattle.std.proofs.Common.{◌⊎◌}
 use Rattle.std.proofs.lemmas.List.Elements.{Contains-append_cases}
-use Rattle.deltas.specs.declared.record.Record.{Record}
-use Rattle.traces.specs.chain.Chains.{high_in, low_in}
-use Rattle.traces.specs.chain.Fitted.{IsFitted, Makes}
-use Rattle.traces.specs.chain.SideChain.{IsWholeFrom, LivePage}
+use Rattle.traces.specs.chain.Fitted.{IsFitted}
 use Rattle.traces.proofs.FittedLaws.{Makes-base}
-use Rattle.tree_law.specs.Keys.{Covers, IsBelow, IsUnder, IsUpTo, Key}
-use Rattle.tree_law.proofs.shape.KeyOrder.{below_not, not_below, upto_refl, upto_trans}
+use Rattle.tree_law.specs.Keys.{IsBelow}
+use Rattle.tree_law.proofs.shape.KeyOrder.{below_not, not_below, upto_refl}
 
 -- a page's low key is below its end
 abbrev pub Spans : LivePage → Type 0

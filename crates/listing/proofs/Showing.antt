@@ -1,24 +1,16 @@
 -- What a leaf has from a key on, the log has.
-use Rattle.std.proofs.Common.{◌≡◌, List, [], Option, Some, refl, subst, ap}
-use Rattle.std.specs.Prelude.{IsTrue}
-use Rattle.std.specs.List.{AllByRecursion, Contains}
-use Rattle.base_page.proofs.ItemLaws.{all-weaker}
+use Rattle.listing.proofs.Words.{◌≡◌, List, [], Option, Some, refl, subst, ap, IsTrue, AllByRecursion, Contains, all-weaker, Value, is_in_range, Memory}
+use Rattle.listing.proofs.Words.{Limits, content_in, high_in, low_in, LivePage, Key, HasLeafPages, IsLeafPage, covers_to, upto_trans}
 use Rattle.base_page.specs.declared.item.Content.{Content}
-use Rattle.base_page.specs.declared.item.Content.TheVariants.{Value}
-use Rattle.bw_model.specs.Bytes.{is_below, is_in_range, is_under}
-use Rattle.deltas.specs.Memory.{Memory}
-use Rattle.tree_limits.specs.declared.limits.Limits.{Limits}
+use Rattle.bw_model.specs.Bytes.{is_below, is_under}
 use Rattle.traces.specs.declared.trace.Entry.{Entry}
-use Rattle.traces.specs.chain.Chains.{content_in, covers, high_in, low_in}
-use Rattle.traces.specs.chain.SideChain.{LivePage}
+use Rattle.traces.specs.chain.Chains.{covers}
 use Rattle.traces.specs.discipline.Discipline.{chain_value, value_of}
 use Rattle.traces.specs.trace.Trace.{memory_of}
-use Rattle.op_machine.specs.theorem.Answered.{IsCursorPage}
-use Rattle.op_machine.specs.theorem.Points.{log_of}
-use Rattle.tree_law.specs.Keys.{Key}
-use Rattle.tree_law.specs.Leaves.{HasLeafPages, IsLeafPage}
+use Rattle.linearization.specs.Answered.{IsCursorPage}
+use Rattle.linearization.specs.Points.{log_of}
 use Rattle.tree_law.specs.TraceLaws.{LeavesHaveMap}
-use Rattle.tree_law.proofs.shape.KeyOrder.{both, covers_from, covers_to, upto_trans}
+use Rattle.tree_law.proofs.shape.KeyOrder.{both, covers_from}
 use Rattle.listing.specs.Listed.{IsListedPage, IsPageFrom}
 use Rattle.listing.proofs.Listings.{IsOneSide}
 use Rattle.listing.proofs.Ranges.{Spans, fitted_spans, one_has}

@@ -1,18 +1,12 @@
 -- Going over the leaves from left to right, and what is listed of each.
-use Rattle.std.proofs.Common.{◌≡◌, ◌<◌, ◌+◌, ℕ, List, [], ◌∷◌, ◌++◌, length, Option, Some, None, MatchOption, refl, sym, subst, ap, ◌∙◌, arith, append_assoc}
-use Rattle.std.specs.List.{AllByRecursion}
-use Rattle.std.proofs.lemmas.List.{append-nil, length-append}
+use Rattle.listing.proofs.Words.{◌≡◌, ◌<◌, ◌+◌, ℕ, List, [], ◌∷◌, ◌++◌, length, Option, Some, None, MatchOption, refl, sym, subst, ap, ◌∙◌, arith}
+use Rattle.listing.proofs.Words.{append_assoc, AllByRecursion, length-append, Page, Limits, Record, Memory, Makes, IsSideChainFrom, LivePage, HasLeafPages}
+use Rattle.listing.proofs.Words.{IsLeafPage, StandsAt, pairs_of}
+use Rattle.std.proofs.lemmas.List.{append-nil}
 use Rattle.base_page.proofs.ItemLaws.{back_all}
-use Rattle.base_page.specs.Pages.{Page}
 use Rattle.base_page.specs.Rules.{IsRuled}
-use Rattle.tree_limits.specs.declared.limits.Limits.{Limits}
-use Rattle.deltas.specs.declared.record.Record.{Record}
-use Rattle.deltas.specs.Memory.{Memory}
 use Rattle.traces.specs.chain.Chains.{right_in}
-use Rattle.traces.specs.chain.Fitted.{Makes}
-use Rattle.traces.specs.chain.SideChain.{IsSideChainFrom, LivePage}
-use Rattle.tree_law.specs.Leaves.{HasLeafPages, IsLeafPage}
-use Rattle.listing.specs.Listed.{HasPage, HavePages, StandsAt, pairs_of}
+use Rattle.listing.specs.Listed.{HasPage, HavePages}
 
 abbrev pub Pairs : Type 0
 Pairs = List (List ℕ × List ℕ)

@@ -16,9 +16,9 @@ use Rattle.traces.specs.chain.Fitted.{IsPageChain, Makes}
 use Rattle.traces.specs.chain.SideChain.{IsSideChainFrom, LivePage}
 use Rattle.traces.specs.discipline.Discipline.{chain_value}
 use Rattle.traces.specs.trace.Trace.{memory_of, turn_of}
-use Rattle.op_machine.specs.theorem.Answered.{IsCursorPage}
-use Rattle.op_machine.specs.theorem.Linearized.{IsLinearized}
-use Rattle.op_machine.specs.theorem.Points.{log_of}
+use Rattle.linearization.specs.Answered.{IsCursorPage}
+use Rattle.linearization.specs.Linearized.{IsLinearized}
+use Rattle.linearization.specs.Points.{log_of}
 use Rattle.tree_law.specs.Keys.{Covers, IsUpTo}
 use Rattle.tree_law.specs.Leaves.{HasLeafPages}
 

@@ -1,26 +1,14 @@
 -- What holds along a run of one actor's calls: between two of them, and within one.
-use Rattle.std.proofs.Common.{◌≡◌, ◌<◌, ◌≤◌, ◌⊎◌, ℕ, suc, List, [], ◌∷◌, ◌++◌, length, take, Bool, true, false, Option, Some, None, IsSome, inl, inr, refl, sym}
-use Rattle.std.proofs.Common.{ap, subst, ◌∙◌, arith, append_assoc, append-nil, eq-eqb}
-use Rattle.std.specs.Prelude.{if◌then◌else◌, slice_get}
+use Rattle.map_laws.proofs.Words.{◌≡◌, ◌<◌, ◌≤◌, ◌⊎◌, ℕ, suc, List, [], ◌∷◌, ◌++◌, length, take, Bool, true, false, Option, Some, None, inl, inr, refl, sym}
+use Rattle.map_laws.proofs.Words.{ap, subst, ◌∙◌, arith, append_assoc, eq-eqb, if◌then◌else◌, slice_get, Limits, Command, Reply, Answer, StepOf, either}
+use Rattle.map_laws.proofs.Words.{Record, Entry, Begin, Step, is_entry_of, own_entries, IsRun, command_of, commands_after, slice_get_below, slice_get_kept}
+use Rattle.map_laws.proofs.Words.{slice_get-push, IsOperation, answered_last, call_after, calls_along, calls_of, answered_snoc, operation_at}
+use Rattle.std.proofs.Common.{IsSome, append-nil}
 use Rattle.std.proofs.lemmas.Bool.{eqb-true}
-use Rattle.tree_limits.specs.declared.limits.Limits.{Limits}
-use Rattle.bw_model.specs.declared.command.Command.{Command}
-use Rattle.bw_model.specs.declared.command.Reply.{Reply}
-use Rattle.bw_model.specs.declared.step.Answer.{Answer}
-use Rattle.bw_model.specs.declared.step.Step.{Step as StepOf}
-use Rattle.base_page.proofs.KeyLaws.{either}
-use Rattle.deltas.specs.declared.record.Record.{Record}
-use Rattle.traces.specs.declared.trace.Entry.{Entry}
-use Rattle.traces.specs.declared.trace.Entry.TheVariants.{Begin, Step}
-use Rattle.traces.specs.discipline.Disciplined.{is_entry_of, own_entries}
-use Rattle.traces.specs.trace.Run.{IsNext, IsRun}
-use Rattle.traces.specs.trace.Trace.{command_of, commands_after}
-use Rattle.traces.proofs.Pushes.{pushed_length, slice_get_below, slice_get_kept, slice_get-append_left, slice_get-push, slice_get-push_cases, take-push_whole}
+use Rattle.traces.specs.trace.Run.{IsNext}
+use Rattle.traces.proofs.Pushes.{pushed_length, slice_get-append_left, slice_get-push_cases, take-push_whole}
 use Rattle.traces.proofs.TraceLaws.{command_of-push}
-use Rattle.op_machine.specs.theorem.Operations.{IsOperation, IsOwnEntry}
-use Rattle.running_tree.specs.Calls.{answered_last, call_after, calls_along, calls_of}
-use Rattle.running_tree.proofs.Going.{answered_snoc}
-use Rattle.map_laws.specs.InOrder.{operation_at}
+use Rattle.linearization.specs.Operations.{IsOwnEntry}
 use Rattle.map_laws.proofs.Asking.{Calls}
 use Rattle.map_laws.proofs.Spans.{IsOpenAt}
 

@@ -1,28 +1,15 @@
 -- A seat's call that is done: the operation that it was.
-use Rattle.std.proofs.Common.{◌≡◌, ◌≤◌, ◌+◌, ◌⊎◌, ℕ, List, [], ◌∷◌, ◌++◌, length, Bool, true, false, Option, Some, None, inl, inr, refl, sym, ap, subst, ◌∙◌, arith, eq-eqb}
-use Rattle.std.specs.Prelude.{if◌then◌else◌, slice_get}
+use Rattle.map_laws.proofs.Words.{◌≡◌, ◌≤◌, ◌+◌, ◌⊎◌, ℕ, List, [], ◌∷◌, ◌++◌, length, Bool, true, false, Option, Some, None, inl, inr, refl, sym, ap, subst}
+use Rattle.map_laws.proofs.Words.{◌∙◌, arith, eq-eqb, if◌then◌else◌, slice_get, dite, dec_le, Command, Reply, Limits, Leave, either, Entry, Begin, Step}
+use Rattle.map_laws.proofs.Words.{is_entry_of, own_entries, IsRun, command_of, commands_after, slice_get_below, slice_get_kept, slice_get-push, Finishes}
+use Rattle.map_laws.proofs.Words.{IsOperation, Operation, answered_last, call_after, calls_along, calls_of, answered_snoc}
 use Rattle.std.specs.List.{fold}
-use mathlib.Core.Logic.{dite}
-use Rattle.std.proofs.Math.Decide.{dec_le}
-use Rattle.bw_model.specs.declared.command.Command.{Command}
-use Rattle.bw_model.specs.declared.command.Reply.{Reply}
-use Rattle.tree_limits.specs.declared.limits.Limits.{Limits}
-use Rattle.bw_model.specs.declared.step.Answer.TheVariants as answer
-use Rattle.bw_model.specs.declared.step.Step.TheVariants.{Leave}
-use Rattle.base_page.proofs.KeyLaws.{either}
-use Rattle.traces.specs.declared.trace.Entry.{Entry}
-use Rattle.traces.specs.declared.trace.Entry.TheVariants.{Begin, Step}
-use Rattle.traces.specs.discipline.Disciplined.{is_entry_of, own_entries}
-use Rattle.traces.specs.trace.Run.{IsRun}
-use Rattle.traces.specs.trace.Trace.{command_of, commands_after}
-use Rattle.traces.proofs.Pushes.{slice_get_below, slice_get_kept, slice_get-push, slice_get-push_cases}
+use Rattle.traces.proofs.Pushes.{slice_get-push_cases}
 use Rattle.traces.proofs.RunLaws.{IsRun-last}
-use Rattle.op_machine.specs.theorem.Operations.{Finishes, IsOperation, Operation}
-use Rattle.running_tree.specs.Calls.{answered_last, call_after, calls_along, calls_of}
-use Rattle.running_tree.proofs.Going.{answered_snoc}
+use Rattle.traces.proofs.OwnEntries.{own_push}
+use Rattle.bw_model.specs.declared.step.Answer.TheVariants as answer
 use Rattle.map_laws.proofs.Ending.{some_of}
 use Rattle.map_laws.proofs.Spans.{IsOpenAt, begun_since, in_hand}
-use Rattle.traces.proofs.OwnEntries.{own_push}
 
 abbrev pub Calls : Type 0
 Calls = List (Command × Option Reply)

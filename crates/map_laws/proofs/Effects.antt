@@ -1,20 +1,18 @@
 -- What the update of a command makes of the log's value at a key.
-use Rattle.std.proofs.Common.{◌≡◌, ℕ, List, [], ◌∷◌, ◌++◌, Bool, true, false, Option, Some, None, refl, sym, ap, ◌∙◌}
-use Rattle.std.specs.Prelude.{if◌then◌else◌}
+use Rattle.map_laws.proofs.Words.{◌≡◌, ℕ, List, [], ◌∷◌, ◌++◌, Bool, true, false, Option, Some, None, refl, sym, ap, ◌∙◌, if◌then◌else◌, fold-append, either}
+use Rattle.map_laws.proofs.Words.{logged_value, is_writer, Command, Get, Upsert, is_about, value_made}
 use Rattle.std.specs.Option.{option_to_list}
 use Rattle.std.specs.Ordering.{is_eq}
 use Rattle.std.specs.Str.{bytes_eq}
 use Rattle.std.proofs.lemmas.List.{append-nil}
-use Rattle.std.proofs.lemmas.List.Sums.{fold-append}
-use Rattle.base_page.proofs.KeyLaws.{either, same}
+use Rattle.base_page.proofs.KeyLaws.{same}
 use Rattle.bw_model.specs.Bytes.{key_cmp}
-use Rattle.bw_model.specs.Log.{Update, logged_value, set, unset, updated_key, updated_value}
+use Rattle.bw_model.specs.Log.{Update, set, unset, updated_key, updated_value}
 use Rattle.bw_model.specs.Numbers.{added, is_number}
-use Rattle.bw_model.specs.Replies.{command_key, is_writer, update_of}
-use Rattle.bw_model.specs.declared.command.Command.{Command}
-use Rattle.bw_model.specs.declared.command.Command.TheVariants.{Get, Insert, Upsert, Delete, DeleteIf, Swap, Add, Page, Back, Tidy}
-use Rattle.op_machine.specs.theorem.Points.{updates_by}
-use Rattle.map_laws.specs.OwnKeys.{is_about, value_by, value_made}
+use Rattle.bw_model.specs.Replies.{command_key, update_of}
+use Rattle.bw_model.specs.declared.command.Command.TheVariants.{Insert, Delete, DeleteIf, Swap, Add, Page, Back, Tidy}
+use Rattle.linearization.specs.Points.{updates_by}
+use Rattle.map_laws.specs.OwnKeys.{value_by}
 
 abbrev Value : Type 0
 Value = Option (List ℕ)

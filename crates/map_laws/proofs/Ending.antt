@@ -1,21 +1,12 @@
 -- An operation that is done takes no step after its last one.
-use Rattle.std.proofs.Common.{◌≡◌, ◌≤◌, ◌<◌, ◌+◌, ℕ, zero, suc, List, [], ◌∷◌, ◌++◌, length, take, drop, Bool, Option, Some, None, IsSome, refl, sym, ap, ◌∙◌, arith, eq-eqb}
-use Rattle.std.specs.Prelude.{if◌then◌else◌, slice_get}
+use Rattle.map_laws.proofs.Words.{◌≡◌, ◌≤◌, ◌<◌, ◌+◌, ℕ, zero, suc, List, [], ◌∷◌, ◌++◌, length, take, Bool, Option, Some, None, refl, sym, ap, ◌∙◌, arith}
+use Rattle.map_laws.proofs.Words.{eq-eqb, if◌then◌else◌, slice_get, dite, dec_le, Command, Reply, Limits, Entry, Begin, Step, IsRun, command_of}
+use Rattle.map_laws.proofs.Words.{commands_after, slice_get_below, Finishes, IsOwnStep, Operation}
+use Rattle.std.proofs.Common.{drop, IsSome}
 use Rattle.std.proofs.lemmas.List.{length-take-le, take-append-drop}
-use mathlib.Core.Logic.{dite}
-use Rattle.std.proofs.Math.Decide.{dec_le}
-use Rattle.bw_model.specs.declared.command.Command.{Command}
-use Rattle.bw_model.specs.declared.command.Reply.{Reply}
-use Rattle.tree_limits.specs.declared.limits.Limits.{Limits}
-use Rattle.traces.specs.declared.trace.Entry.{Entry}
-use Rattle.traces.specs.declared.trace.Entry.TheVariants.{Begin, Step}
-use Rattle.traces.specs.trace.Run.{IsRun}
-use Rattle.traces.specs.trace.Trace.{command_of, commands_after}
-use Rattle.traces.proofs.Pushes.{slice_get_below}
 use lib.Seq.{take-take}
 use Rattle.traces.proofs.TraceLaws.{command_of-push}
-use Rattle.op_machine.specs.theorem.Operations.{Finishes, IsOwnStep, Operation}
-use Rattle.op_machine.proofs.LogLaws.{take-one}
+use Rattle.linearization.proofs.LogLaws.{take-one}
 use Rattle.map_laws.proofs.Spans.{begun_since}
 
 -- a finished operation takes no step after its last one

@@ -1,30 +1,19 @@
 -- The reply of a finished operation fits its command.
-use Rattle.std.proofs.Common.{◌≡◌, ℕ, List, [], ◌∷◌, ◌++◌, length, map, Bool, true, false, Option, Some, None, IsTrue, inl, inr, refl, sym, ap, subst, ◌∙◌}
-use Rattle.std.specs.Prelude.{if◌then◌else◌, slice_get}
+use Rattle.map_laws.proofs.Words.{◌≡◌, ℕ, List, [], ◌∷◌, ◌++◌, length, map, Bool, true, false, Option, Some, None, IsTrue, inl, inr, refl, sym, ap, subst}
+use Rattle.map_laws.proofs.Words.{◌∙◌, if◌then◌else◌, slice_get, logged_value, is_writer, reply_of, Command, Get, Upsert, Reply, Limits, Entry, Turn, turn_of}
+use Rattle.map_laws.proofs.Words.{slice_get-push, RepliesAtPoint, IsLinearized, Finishes, IsOperation, Operation, log_at, answered_last, calls_in, calls_of}
+use Rattle.map_laws.proofs.Words.{IsOneHistory, Seat, answered_snoc, fits}
 use Rattle.std.specs.Str.{bytes_eq}
-use Rattle.bw_model.specs.Log.{logged_value}
 use Rattle.bw_model.specs.Numbers.{is_number}
-use Rattle.bw_model.specs.Replies.{command_key, is_writer, reply_of}
-use Rattle.bw_model.specs.declared.command.Command.{Command}
-use Rattle.bw_model.specs.declared.command.Command.TheVariants.{Get, Insert, Upsert, Delete, DeleteIf, Swap, Add, Page, Back, Tidy}
-use Rattle.bw_model.specs.declared.command.Reply.{Reply}
-use Rattle.bw_model.specs.declared.command.Reply.TheVariants as reply
-use Rattle.tree_limits.specs.declared.limits.Limits.{Limits}
-use Rattle.traces.specs.declared.trace.Entry.{Entry}
-use Rattle.traces.specs.declared.trace.Turn.{Turn}
-use Rattle.traces.specs.trace.Trace.{turn_of}
-use Rattle.traces.proofs.Pushes.{slice_get-push}
-use Rattle.op_machine.specs.theorem.Answered.{IsTrueReply, RepliesAtPoint}
-use Rattle.op_machine.specs.theorem.Linearized.{IsLinearized}
-use Rattle.op_machine.specs.theorem.Operations.{Finishes, IsOperation, Operation}
-use Rattle.op_machine.specs.theorem.Points.{log_at}
-use Rattle.running_tree.specs.Calls.{IsCalled, IsResumed, answered_last, calls_in, calls_of}
-use Rattle.running_tree.specs.Runs.{IsOneHistory}
-use Rattle.running_tree.specs.Seats.{Seat, unfinished_command}
+use Rattle.bw_model.specs.Replies.{command_key}
+use Rattle.bw_model.specs.declared.command.Command.TheVariants.{Insert, Delete, DeleteIf, Swap, Add, Page, Back, Tidy}
+use Rattle.linearization.specs.Answered.{IsTrueReply}
+use Rattle.running_tree.specs.Calls.{IsCalled, IsResumed}
+use Rattle.running_tree.specs.Seats.{unfinished_command}
 use Rattle.running_tree.specs.declared.called.Called.{Called}
+use Rattle.map_laws.specs.Fits.{CameFitting}
+use Rattle.bw_model.specs.declared.command.Reply.TheVariants as reply
 use Rattle.running_tree.specs.declared.called.Called.TheVariants as called
-use Rattle.running_tree.proofs.Going.{answered_snoc}
-use Rattle.map_laws.specs.Fits.{CameFitting, fits}
 use Rattle.map_laws.proofs.Asking.{Calls, last_unanswered}
 use Rattle.map_laws.proofs.InOrder.{are_in_order, each_ended}
 

@@ -1,15 +1,7 @@
 -- The calls of an actor are its operations, in order.
-use Rattle.std.proofs.Common.{◌≡◌, ◌≤◌, ℕ, zero, suc, List, [], ◌∷◌, ◌++◌, length, Option, Some, None, inl, inr, refl, sym, subst, arith}
-use Rattle.std.specs.Prelude.{slice_get}
-use Rattle.tree_limits.specs.declared.limits.Limits.{Limits}
-use Rattle.bw_model.specs.declared.command.Command.{Command}
-use Rattle.bw_model.specs.declared.command.Reply.{Reply}
-use Rattle.traces.specs.declared.trace.Entry.{Entry}
-use Rattle.traces.specs.trace.Run.{IsRun}
-use Rattle.traces.specs.trace.Trace.{command_of}
-use Rattle.op_machine.specs.theorem.Operations.{Finishes, IsOperation}
-use Rattle.running_tree.specs.Calls.{calls_of}
-use Rattle.map_laws.specs.InOrder.{AreInOrder, IsEnded, operation_at}
+use Rattle.map_laws.proofs.Words.{◌≡◌, ◌≤◌, ℕ, zero, suc, List, [], ◌∷◌, ◌++◌, length, Option, Some, None, inl, inr, refl, sym, subst, arith, slice_get}
+use Rattle.map_laws.proofs.Words.{Limits, Command, Reply, Entry, IsRun, command_of, Finishes, IsOperation, calls_of, operation_at}
+use Rattle.map_laws.specs.InOrder.{AreInOrder, IsEnded}
 use Rattle.map_laws.proofs.Along.{Keeps, Now, keeps_on}
 use Rattle.map_laws.proofs.Asking.{Calls}
 

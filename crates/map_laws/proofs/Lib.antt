@@ -12,3 +12,4 @@ pub mod Told
 pub mod SpentSteps
 pub mod Whole
 pub mod RealTime
+mod Words

@@ -1,17 +1,7 @@
 -- A tree with one actor: each key is its own.
-use Rattle.std.proofs.Common.{◌≡◌, ◌<◌, ℕ, List, [], ◌∷◌, Some, None, refl, arith}
-use mathlib.Core.Logic.{dite}
-use native.Mathlib.Decide.{ℕ_discrete}
-use Rattle.tree_limits.specs.declared.limits.Limits.{Limits}
-use Rattle.traces.specs.declared.trace.Entry.{Entry}
-use Rattle.traces.specs.declared.trace.Entry.TheVariants.{Begin}
-use Rattle.traces.specs.declared.trace.Turn.{Turn}
-use Rattle.traces.specs.trace.Run.{IsRun}
-use Rattle.op_machine.specs.theorem.Linearized.{IsLinearized}
-use Rattle.op_machine.specs.theorem.Operations.{IsOperation, Operation}
-use Rattle.running_tree.specs.Calls.{calls_of}
-use Rattle.map_laws.specs.InOrder.{AreInOrder, operation_at}
-use Rattle.map_laws.specs.OwnKeys.{AreOwnReplies}
+use Rattle.map_laws.proofs.Words.{◌≡◌, ◌<◌, ℕ, List, [], ◌∷◌, Some, None, refl, arith, dite, ℕ_discrete, Limits, Entry, Begin, Turn, IsRun, IsLinearized}
+use Rattle.map_laws.proofs.Words.{IsOperation, Operation, calls_of, operation_at, AreOwnReplies}
+use Rattle.map_laws.specs.InOrder.{AreInOrder}
 use Rattle.map_laws.proofs.Asking.{Calls}
 use Rattle.map_laws.proofs.InOrder.{are_in_order}
 use Rattle.map_laws.proofs.OwnKeys.{own_replies}

@@ -1,37 +1,23 @@
 -- The replies to an actor's calls about a key that nobody else changes are those of a map with this one key.
-use Rattle.std.proofs.Common.{◌≡◌, ◌<◌, ◌≤◌, ◌⊎◌, ℕ, zero, suc, List, [], ◌∷◌, ◌++◌, length, take, Bool, true, false, Option, Some, None, IsTrue, inl, inr, refl, sym, ap, subst, ◌∙◌, arith, eq-eqb}
-use Rattle.std.specs.Prelude.{◌&&◌, if◌then◌else◌, slice_get, ◌==◌}
+use Rattle.map_laws.proofs.Words.{◌≡◌, ◌<◌, ◌≤◌, ◌⊎◌, ℕ, zero, suc, List, [], ◌∷◌, ◌++◌, length, take, Bool, true, false, Option, Some, None, IsTrue, inl}
+use Rattle.map_laws.proofs.Words.{inr, refl, sym, ap, subst, ◌∙◌, arith, eq-eqb, if◌then◌else◌, slice_get, ◌==◌, dite, ℕ_discrete, either, Limits}
+use Rattle.map_laws.proofs.Words.{logged_value, is_writer, reply_of, Command, Reply, Answer, StepOf, Record, Entry, Begin, Step, Turn, is_entry_of, IsRun}
+use Rattle.map_laws.proofs.Words.{command_of, slice_get_below, RepliesAtPoint, IsLinearized, Finishes, IsOperation, IsOwnStep, Operation, has_point, log_at}
+use Rattle.map_laws.proofs.Words.{calls_of, operation_at, AreOwnReplies, is_about, tells, value_made, value_then}
+use Rattle.std.specs.Prelude.{◌&&◌}
 use Rattle.std.proofs.lemmas.Bool.{eqb-false}
 use Rattle.std.proofs.lemmas.List.{append-nil, length-take-le}
-use mathlib.Core.Logic.{dite}
-use native.Mathlib.Decide.{ℕ_discrete}
-use Rattle.base_page.proofs.KeyLaws.{and_both, and_left, and_right, either}
-use Rattle.tree_limits.specs.declared.limits.Limits.{Limits}
-use Rattle.bw_model.specs.Log.{Update, logged_value}
-use Rattle.bw_model.specs.Replies.{is_writer, reply_of}
-use Rattle.bw_model.specs.declared.command.Command.{Command}
-use Rattle.bw_model.specs.declared.command.Reply.{Reply}
-use Rattle.bw_model.specs.declared.command.Reply.TheVariants as reply
-use Rattle.bw_model.specs.declared.step.Answer.{Answer}
-use Rattle.bw_model.specs.declared.step.Step.{Step as StepOf}
-use Rattle.deltas.specs.declared.record.Record.{Record}
+use Rattle.base_page.proofs.KeyLaws.{and_both, and_left, and_right}
+use Rattle.bw_model.specs.Log.{Update}
 use Rattle.deltas.specs.Memory.{Memory}
-use Rattle.traces.specs.declared.trace.Entry.{Entry}
-use Rattle.traces.specs.declared.trace.Entry.TheVariants.{Begin, Step}
-use Rattle.traces.specs.declared.trace.Turn.{Turn}
-use Rattle.traces.specs.discipline.Disciplined.{is_entry_of}
-use Rattle.traces.specs.trace.Run.{IsRun}
-use Rattle.traces.specs.trace.Trace.{command_of, memory_at}
-use Rattle.traces.proofs.Pushes.{slice_get_below}
+use Rattle.traces.specs.trace.Trace.{memory_at}
 use Rattle.traces.proofs.Cuts.{get_take}
-use Rattle.op_machine.specs.theorem.Answered.{IsAnswered, IsTrueReply, RepliesAt, RepliesAtPoint}
-use Rattle.op_machine.specs.theorem.Linearized.{IsLinearized}
-use Rattle.op_machine.specs.theorem.Operations.{Finishes, IsOperation, IsOwnEntry, IsOwnStep, Operation}
-use Rattle.op_machine.specs.theorem.Points.{HasPoints, IsPoint, has_point, log_at, updates_by}
-use Rattle.op_machine.proofs.LogLaws.{log_at-step}
-use Rattle.running_tree.specs.Calls.{calls_of}
-use Rattle.map_laws.specs.InOrder.{operation_at}
-use Rattle.map_laws.specs.OwnKeys.{AreOwnReplies, ChangesAlone, ChangesAloneSince, is_about, may_change, tells, value_made, value_then, value_through}
+use Rattle.linearization.specs.Answered.{IsAnswered, IsTrueReply, RepliesAt}
+use Rattle.linearization.specs.Operations.{IsOwnEntry}
+use Rattle.linearization.specs.Points.{HasPoints, IsPoint, updates_by}
+use Rattle.linearization.proofs.LogLaws.{log_at-step}
+use Rattle.map_laws.specs.OwnKeys.{ChangesAlone, ChangesAloneSince, may_change, value_through}
+use Rattle.bw_model.specs.declared.command.Reply.TheVariants as reply
 use Rattle.map_laws.proofs.Along.{Keeps, Now, keeps_on}
 use Rattle.map_laws.proofs.Asking.{Calls}
 use Rattle.map_laws.proofs.Effects.{about_key, effect, reader_keeps}

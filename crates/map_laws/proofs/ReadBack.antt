@@ -1,22 +1,13 @@
 -- What an actor reads of a key of its own.
-use Rattle.std.proofs.Common.{◌≡◌, ℕ, List, [], ◌∷◌, ◌++◌, length, map, Bool, true, Some, None, IsTrue, refl, sym, ap, subst, ◌∙◌, append_assoc}
-use Rattle.std.specs.Prelude.{◌≢◌, if◌then◌else◌, slice_get}
+use Rattle.map_laws.proofs.Words.{◌≡◌, ℕ, List, [], ◌∷◌, ◌++◌, length, map, Bool, true, Some, None, IsTrue, refl, sym, ap, subst, ◌∙◌, append_assoc}
+use Rattle.map_laws.proofs.Words.{if◌then◌else◌, slice_get, reply_of, Command, Get, Upsert, Reply, has_point, turn_of, slice_get-push, slice_get_kept, IsDone}
+use Rattle.map_laws.proofs.Words.{calls_in, IsOneHistory, Seat, fits, AreOwnReplies, is_about, tells, value_then}
+use Rattle.std.specs.Prelude.{◌≢◌}
 use Rattle.std.specs.Ordering.{is_eq}
 use Rattle.base_page.proofs.KeyLaws.{and_both, itself}
 use Rattle.bw_model.specs.Bytes.{key_cmp}
-use Rattle.bw_model.specs.Replies.{reply_of}
-use Rattle.bw_model.specs.declared.command.Command.{Command}
-use Rattle.bw_model.specs.declared.command.Command.TheVariants.{Get, Upsert}
-use Rattle.bw_model.specs.declared.command.Reply.{Reply}
+use Rattle.map_laws.specs.OwnKeys.{value_through}
 use Rattle.bw_model.specs.declared.command.Reply.TheVariants as reply
-use Rattle.op_machine.specs.theorem.Points.{has_point}
-use Rattle.traces.specs.trace.Trace.{turn_of}
-use Rattle.traces.proofs.Pushes.{slice_get-push, slice_get_kept}
-use Rattle.running_tree.specs.Calls.{IsDone, calls_in}
-use Rattle.running_tree.specs.Runs.{IsOneHistory}
-use Rattle.running_tree.specs.Seats.{Seat}
-use Rattle.map_laws.specs.Fits.{fits}
-use Rattle.map_laws.specs.OwnKeys.{AreOwnReplies, is_about, tells, value_then, value_through}
 use Rattle.map_laws.proofs.Asking.{Calls}
 use Rattle.map_laws.proofs.Fitting.{call_fits}
 use Rattle.map_laws.proofs.OwnKeys.{Value, through_one}

@@ -1,34 +1,19 @@
 -- What two calls reply, where the second one begins after the first one has returned.
-use Rattle.std.proofs.Common.{◌≡◌, ◌≢◌, ◌<◌, ◌≤◌, ◌+◌, ◌-◌, ◌⊎◌, ℕ, zero, suc, List, [], ◌∷◌, length, map, Bool, true, false, Option, Some, None, IsTrue, inl, inr, refl, sym, ap, subst, ◌∙◌, arith}
-use Rattle.std.specs.Prelude.{if◌then◌else◌, slice_get, ◌&&◌}
-use mathlib.Core.Logic.{dite}
-use Rattle.std.proofs.Math.Decide.{dec_le}
-use Rattle.base_page.proofs.KeyLaws.{and_left, and_right, either}
-use Rattle.tree_limits.specs.declared.limits.Limits.{Limits}
-use Rattle.bw_model.specs.Replies.{reply_of}
-use Rattle.bw_model.specs.declared.command.Command.{Command}
-use Rattle.bw_model.specs.declared.command.Command.TheVariants.{Get, Upsert}
-use Rattle.bw_model.specs.declared.command.Reply.{Reply}
-use Rattle.bw_model.specs.declared.command.Reply.TheVariants as reply
-use Rattle.bw_model.specs.declared.step.Answer.{Answer}
-use Rattle.bw_model.specs.declared.step.Step.{Step as StepOf}
-use Rattle.deltas.specs.declared.record.Record.{Record}
-use Rattle.traces.specs.declared.trace.Entry.{Entry}
-use Rattle.traces.specs.declared.trace.Entry.TheVariants.{Begin, Step}
-use Rattle.traces.specs.trace.Run.{IsRun}
-use Rattle.traces.proofs.Pushes.{slice_get_below}
-use Rattle.traces.specs.trace.Trace.{memory_at, turn_of}
-use Rattle.op_machine.specs.theorem.Answered.{IsAnswered, RepliesAtPoint}
-use Rattle.op_machine.specs.theorem.Operations.{Finishes, IsOperation, IsOwnStep, Operation}
-use Rattle.op_machine.specs.theorem.Points.{HasPoints, IsPoint, has_point, log_at}
-use Rattle.running_tree.specs.Calls.{IsDone}
+use Rattle.map_laws.proofs.Words.{◌≡◌, ◌<◌, ◌≤◌, ◌+◌, ◌⊎◌, ℕ, zero, suc, List, [], ◌∷◌, length, map, Bool, true, false, Option, Some, None, IsTrue, inl, inr}
+use Rattle.map_laws.proofs.Words.{refl, sym, ap, subst, ◌∙◌, arith, if◌then◌else◌, slice_get, dite, dec_le, either, Limits, reply_of, Command, Get, Upsert}
+use Rattle.map_laws.proofs.Words.{Reply, Answer, StepOf, Record, Entry, Begin, Step, IsRun, slice_get_below, turn_of, RepliesAtPoint, Finishes, IsOperation}
+use Rattle.map_laws.proofs.Words.{IsOwnStep, Operation, has_point, log_at, IsDone, IsOneHistory, IsSame, Seat, fits, operation_at, is_about, tells}
+use Rattle.map_laws.proofs.Words.{value_made, value_then}
+use Rattle.std.proofs.Common.{◌≢◌, ◌-◌}
+use Rattle.std.specs.Prelude.{◌&&◌}
+use Rattle.base_page.proofs.KeyLaws.{and_left, and_right}
+use Rattle.traces.specs.trace.Trace.{memory_at}
+use Rattle.linearization.specs.Answered.{IsAnswered}
+use Rattle.linearization.specs.Points.{HasPoints, IsPoint}
 use Rattle.running_tree.specs.RealTime.{ComesBefore}
-use Rattle.running_tree.specs.Runs.{IsOneHistory}
-use Rattle.running_tree.specs.Seats.{IsSame, Seat}
-use Rattle.map_laws.specs.Fits.{fits}
-use Rattle.map_laws.specs.InOrder.{operation_at}
-use Rattle.map_laws.specs.OwnKeys.{is_about, may_change, tells, value_made, value_then}
+use Rattle.map_laws.specs.OwnKeys.{may_change}
 use Rattle.map_laws.specs.RealTime.{AreApart, ChangedByTwo, ReplyInOrder, call_operation}
+use Rattle.bw_model.specs.declared.command.Reply.TheVariants as reply
 use Rattle.map_laws.proofs.Ending.{own_before}
 use Rattle.map_laws.proofs.Fitting.{reply_fits}
 use Rattle.map_laws.proofs.OwnKeys.{Value, and_false, and_true, at_begin, at_key, kept_by, mark_at, marked_step, owner, replied, stands_at, unmarked, value_at}

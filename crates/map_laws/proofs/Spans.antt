@@ -1,14 +1,8 @@
 -- The operation that an actor has in hand: where it was begun.
-use Rattle.std.proofs.Common.{◌≡◌, ◌<◌, ◌+◌, ◌⊎◌, ℕ, zero, suc, List, [], ◌∷◌, ◌++◌, length, Option, Some, None, inl, inr, refl, sym, ap, subst, ◌∙◌, arith}
-use Rattle.std.specs.Prelude.{if◌then◌else◌, slice_get, ◌==◌}
+use Rattle.map_laws.proofs.Words.{◌≡◌, ◌<◌, ◌+◌, ◌⊎◌, ℕ, zero, suc, List, [], ◌∷◌, ◌++◌, length, Option, Some, None, inl, inr, refl, sym, ap, subst, ◌∙◌}
+use Rattle.map_laws.proofs.Words.{arith, if◌then◌else◌, slice_get, ◌==◌, fold-append, Command, either, Entry, Begin, Step, command_of, commands_after}
 use Rattle.std.specs.List.{fold}
 use Rattle.std.proofs.lemmas.Bool.{eqb-false, eqb-true}
-use Rattle.std.proofs.lemmas.List.Sums.{fold-append}
-use Rattle.bw_model.specs.declared.command.Command.{Command}
-use Rattle.base_page.proofs.KeyLaws.{either}
-use Rattle.traces.specs.declared.trace.Entry.{Entry}
-use Rattle.traces.specs.declared.trace.Entry.TheVariants.{Begin, Step}
-use Rattle.traces.specs.trace.Trace.{command_of, commands_after}
 
 -- It was begun at this place, and the actor begins nothing after that.
 pub record IsOpenAt (run : List Entry) (actor : ℕ) (command : Command) (start : ℕ) : Type 0 where

@@ -1,37 +1,28 @@
 -- A call that is spent has taken its budget in own steps of one operation; a lookup's are few for each change of the tree.
-use Rattle.std.proofs.Common.{◌≡◌, ◌<◌, ◌≤◌, ◌+◌, ◌-◌, ◌*◌, ◌⊎◌, ℕ, suc, List, [], ◌∷◌, ◌++◌, length, take, drop, Bool, true, false, cond, Option, Some, None, refl, sym}
-use Rattle.std.proofs.Common.{ap, subst, ◌∙◌, inl, inr, arith, append-nil, eq-eqb}
-use Rattle.std.specs.Prelude.{if◌then◌else◌, slice_get, slice_range, ◌==◌}
+use Rattle.map_laws.proofs.Words.{◌≡◌, ◌<◌, ◌≤◌, ◌+◌, ◌⊎◌, ℕ, suc, List, [], ◌∷◌, ◌++◌, length, take, Bool, true, false, Option, Some, None, refl, sym, ap}
+use Rattle.map_laws.proofs.Words.{subst, ◌∙◌, inl, inr, arith, eq-eqb, if◌then◌else◌, slice_get, ◌==◌, fold-append, Command, Reply, Answer, StepOf, Record}
+use Rattle.map_laws.proofs.Words.{Entry, Begin, Step, is_entry_of, own_entries, IsRun, command_of, IsOperation, IsOwnStep, calls_along, calls_of, IsSame}
+use Rattle.map_laws.proofs.Words.{Seat, operation_at}
+use Rattle.std.proofs.Common.{◌-◌, ◌*◌, drop, cond, append-nil}
+use Rattle.std.specs.Prelude.{slice_range}
 use Rattle.std.specs.List.{count_by}
 use Rattle.std.proofs.Math.Nat.{mul-le-mul_left}
 use Rattle.std.proofs.lemmas.Bool.Decides.{eqb_tells}
 use Rattle.std.proofs.lemmas.List.{take_all}
 use Rattle.std.proofs.lemmas.List.Elements.{All-weaker}
-use Rattle.std.proofs.lemmas.List.Sums.{fold-append}
 use Rattle.std.proofs.lemmas.Option.{same_Some}
-use Rattle.bw_model.specs.declared.command.Command.{Command}
-use Rattle.bw_model.specs.declared.command.Reply.{Reply}
-use Rattle.bw_model.specs.declared.step.Answer.{Answer}
-use Rattle.bw_model.specs.declared.step.Step.{Step as StepOf}
-use Rattle.deltas.specs.declared.record.Record.{Record}
-use Rattle.traces.specs.declared.trace.Entry.{Entry}
-use Rattle.traces.specs.declared.trace.Entry.TheVariants.{Begin, Step}
-use Rattle.traces.specs.discipline.Disciplined.{is_entry_of, own_entries}
-use Rattle.traces.specs.trace.Run.{IsRun}
-use Rattle.traces.specs.trace.Trace.{Happens, command_of}
+use Rattle.traces.specs.trace.Trace.{Happens}
 use Rattle.traces.proofs.Cuts.{get_drop}
 use Rattle.traces.proofs.OwnEntries.{own_append, own_push}
 use Rattle.traces.proofs.Pushes.{pushed_length, take-push_whole}
-use Rattle.op_machine.proofs.LogLaws.{take-one}
-use Rattle.op_machine.specs.theorem.Direct.{is_step_of}
-use Rattle.op_machine.specs.theorem.Operations.{IsOperation, IsOwnStep}
-use Rattle.op_machine.specs.theorem.Progress.{AreAmong, ChangesTree, steps_from}
-use Rattle.op_machine.specs.theorem.ReadersEnd.{one_memory}
-use Rattle.running_tree.specs.Calls.{IsSpent, calls_along, calls_of}
-use Rattle.running_tree.specs.Seats.{IsSame, Seat, unfinished_command}
+use Rattle.linearization.proofs.LogLaws.{take-one}
+use Rattle.linearization.specs.Direct.{is_step_of}
+use Rattle.linearization.specs.Progress.{AreAmong, ChangesTree, steps_from}
+use Rattle.linearization.specs.ReadersEnd.{one_memory}
+use Rattle.running_tree.specs.Calls.{IsSpent}
+use Rattle.running_tree.specs.Seats.{unfinished_command}
 use Rattle.running_tree.specs.declared.called.Called.TheVariants.{Done, Spent}
 use Rattle.map_laws.specs.Budgets.{LookupsAreDone}
-use Rattle.map_laws.specs.InOrder.{operation_at}
 use Rattle.map_laws.proofs.Along.{Keeps, Now, along}
 use Rattle.map_laws.proofs.Asking.{Calls}
 

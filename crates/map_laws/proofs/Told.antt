@@ -1,14 +1,7 @@
 -- Each operation of a run is one of its actor's calls.
-use Rattle.std.proofs.Common.{◌≡◌, ℕ, zero, suc, List, [], ◌∷◌, length, Bool, true, Option, Some, None, refl, sym, ap, subst, ◌∙◌, eq-eqb}
-use Rattle.std.specs.Prelude.{if◌then◌else◌, slice_get}
-use Rattle.bw_model.specs.declared.command.Command.{Command}
-use Rattle.bw_model.specs.declared.command.Reply.{Reply}
-use Rattle.base_page.proofs.KeyLaws.{either}
-use Rattle.traces.specs.declared.trace.Entry.{Entry}
-use Rattle.traces.specs.declared.trace.Entry.TheVariants.{Begin, Step}
-use Rattle.traces.specs.discipline.Disciplined.{is_entry_of, own_entries}
-use Rattle.traces.proofs.Pushes.{slice_get_kept, slice_get-push}
-use Rattle.running_tree.specs.Calls.{answered_last, call_after, calls_along}
+use Rattle.map_laws.proofs.Words.{◌≡◌, ℕ, zero, suc, List, [], ◌∷◌, length, Bool, true, Option, Some, None, refl, sym, ap, subst, ◌∙◌, eq-eqb, if◌then◌else◌}
+use Rattle.map_laws.proofs.Words.{slice_get, Command, Reply, either, Entry, Begin, Step, is_entry_of, own_entries, slice_get_kept, slice_get-push}
+use Rattle.map_laws.proofs.Words.{answered_last, call_after, calls_along}
 use Rattle.map_laws.specs.InOrder.{IsCall}
 use Rattle.map_laws.proofs.Asking.{Calls}
 

@@ -1,24 +1,14 @@
 -- A call that is done is one whole operation of the run that it has left.
-use Rattle.std.proofs.Common.{◌≡◌, ◌<◌, ◌≤◌, ◌+◌, ℕ, zero, suc, List, [], ◌∷◌, ◌++◌, length, Bool, true, false, Option, Some, None, refl, sym, ap, subst, ◌∙◌}
-use Rattle.std.proofs.Common.{arith, eq-eqb, length-append, append_assoc}
-use Rattle.std.specs.Prelude.{if◌then◌else◌, slice_get}
-use mathlib.Core.Logic.{dite}
-use native.Mathlib.Decide.{ℕ_discrete}
-use Rattle.tree_limits.specs.declared.limits.Limits.{Limits}
-use Rattle.bw_model.specs.declared.command.Command.{Command}
-use Rattle.bw_model.specs.declared.command.Reply.{Reply}
+use Rattle.map_laws.proofs.Words.{◌≡◌, ◌<◌, ◌≤◌, ◌+◌, ℕ, zero, suc, List, [], ◌∷◌, ◌++◌, length, Bool, true, false, Option, Some, None, refl, sym, ap, subst}
+use Rattle.map_laws.proofs.Words.{◌∙◌, arith, eq-eqb, append_assoc, if◌then◌else◌, slice_get, dite, ℕ_discrete, Limits, Command, Reply, Leave, Entry, Begin}
+use Rattle.map_laws.proofs.Words.{Step, is_entry_of, own_entries, IsRun, slice_get-push, slice_get_below, slice_get_kept, Finishes, IsOperation, IsOwnStep}
+use Rattle.map_laws.proofs.Words.{Operation, IsDone, answered_last, calls_along, calls_in, IsSame, Seat}
+use Rattle.std.proofs.Common.{length-append}
 use Rattle.bw_model.specs.declared.step.Answer.TheVariants.{Done}
-use Rattle.bw_model.specs.declared.step.Step.TheVariants.{Leave}
-use Rattle.traces.specs.declared.trace.Entry.{Entry}
-use Rattle.traces.specs.declared.trace.Entry.TheVariants.{Begin, Step}
-use Rattle.traces.specs.discipline.Disciplined.{is_entry_of, own_entries}
-use Rattle.traces.specs.trace.Run.{IsRun}
 use Rattle.traces.proofs.OwnEntries.{own_append, own_extends}
-use Rattle.traces.proofs.Pushes.{slice_get-append_left, slice_get-push, slice_get_below, slice_get_kept}
-use Rattle.op_machine.specs.theorem.Operations.{Finishes, IsOperation, IsOwnStep, Operation}
-use Rattle.running_tree.specs.Calls.{BeginsIn, IsDone, answered_last, calls_along, calls_in}
+use Rattle.traces.proofs.Pushes.{slice_get-append_left}
+use Rattle.running_tree.specs.Calls.{BeginsIn}
 use Rattle.running_tree.specs.RealTime.{ComesBefore}
-use Rattle.running_tree.specs.Seats.{IsSame, Seat}
 use Rattle.map_laws.specs.RealTime.{AreApart, call_operation}
 use Rattle.map_laws.proofs.Along.{get_middle}
 use Rattle.map_laws.proofs.Asking.{Calls}

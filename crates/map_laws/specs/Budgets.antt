@@ -3,8 +3,8 @@ use Rattle.std.specs.Prelude.{◌≡◌, ◌<◌, ◌≤◌, ◌+◌, ◌*◌, �
 use Rattle.bw_model.specs.Replies.{is_writer}
 use Rattle.bw_model.specs.declared.command.Command.{Command}
 use Rattle.bw_model.specs.declared.command.Reply.{Reply}
-use Rattle.op_machine.specs.theorem.Progress.{AreAmong, ChangesTree}
-use Rattle.op_machine.specs.theorem.ReadersEnd.{one_memory}
+use Rattle.linearization.specs.Progress.{AreAmong, ChangesTree}
+use Rattle.linearization.specs.ReadersEnd.{one_memory}
 use Rattle.running_tree.specs.Calls.{IsCalled}
 use Rattle.running_tree.specs.Runs.{IsOneHistory}
 use Rattle.running_tree.specs.Seats.{IsSame, Seat, unfinished_command}

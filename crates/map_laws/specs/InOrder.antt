@@ -4,7 +4,7 @@ use Rattle.bw_model.specs.declared.command.Command.{Command}
 use Rattle.bw_model.specs.declared.command.Reply.{Reply}
 use Rattle.traces.specs.declared.trace.Entry.{Entry}
 use Rattle.running_tree.specs.Calls.{calls_of}
-use Rattle.op_machine.specs.theorem.Operations.{Finishes, IsOperation, Operation}
+use Rattle.linearization.specs.Operations.{Finishes, IsOperation, Operation}
 
 -- the actor's operation that begins at this place of the run
 abbrev pub operation_at : ℕ → ℕ → Command → Operation

@@ -8,8 +8,8 @@ use Rattle.bw_model.specs.declared.command.Command.{Command}
 use Rattle.bw_model.specs.declared.command.Command.TheVariants.{Get, Insert, Upsert, Delete, DeleteIf, Swap, Add, Page, Back, Tidy}
 use Rattle.bw_model.specs.declared.command.Reply.{Reply}
 use Rattle.traces.specs.declared.trace.Entry.{Entry}
-use Rattle.op_machine.specs.theorem.Operations.{IsOperation, IsOwnStep, Operation}
-use Rattle.op_machine.specs.theorem.Points.{has_point}
+use Rattle.linearization.specs.Operations.{IsOperation, IsOwnStep, Operation}
+use Rattle.linearization.specs.Points.{has_point}
 
 -- whether the command is about the key's value; a cursor page of either direction and a tidying are not
 abbrev pub is_about : List ℕ → Command → Bool

@@ -3,7 +3,7 @@ use Rattle.std.specs.Prelude.{◌≡◌, ◌<◌, ◌≤◌, ◌⊎◌, ℕ, Lis
 use Rattle.bw_model.specs.declared.command.Command.{Command}
 use Rattle.bw_model.specs.declared.command.Reply.{Reply}
 use Rattle.traces.specs.declared.trace.Entry.{Entry}
-use Rattle.op_machine.specs.theorem.Operations.{Finishes, IsOperation, IsOwnStep, Operation}
+use Rattle.linearization.specs.Operations.{Finishes, IsOperation, IsOwnStep, Operation}
 use Rattle.running_tree.specs.Calls.{BeginsIn}
 use Rattle.running_tree.specs.Seats.{Seat}
 use Rattle.map_laws.specs.InOrder.{operation_at}

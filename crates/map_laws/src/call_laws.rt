@@ -11,8 +11,8 @@ ghost use Rattle.traces.specs.declared.trace.Entry.{Entry};
 ghost use Rattle.traces.specs.declared.trace.Turn.{Turn};
 ghost use Rattle.traces.specs.trace.Run.{IsRun};
 ghost use Rattle.traces.specs.trace.Trace.{command_of};
-ghost use Rattle.op_machine.specs.theorem.Linearized.{IsLinearized};
-ghost use Rattle.op_machine.specs.theorem.Operations.{Finishes, IsOperation, Operation};
+ghost use Rattle.linearization.specs.Linearized.{IsLinearized};
+ghost use Rattle.linearization.specs.Operations.{Finishes, IsOperation, Operation};
 ghost use Rattle.map_laws.specs.Fits.{CameFitting, fits};
 ghost use Rattle.map_laws.specs.InOrder.{AreInOrder, IsCall, IsEnded};
 

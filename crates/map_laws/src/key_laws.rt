@@ -13,8 +13,8 @@ ghost use Rattle.running_tree.specs.Seats.{Seat};
 ghost use Rattle.traces.specs.declared.trace.Entry.{Entry};
 ghost use Rattle.traces.specs.declared.trace.Turn.{Turn};
 ghost use Rattle.traces.specs.trace.Trace.{command_of};
-ghost use Rattle.op_machine.specs.theorem.Linearized.{IsLinearized};
-ghost use Rattle.op_machine.specs.theorem.Points.{log_at};
+ghost use Rattle.linearization.specs.Linearized.{IsLinearized};
+ghost use Rattle.linearization.specs.Points.{log_at};
 ghost use Rattle.map_laws.specs.Fits.{fits};
 ghost use Rattle.map_laws.specs.OwnKeys.{AreOwnReplies, ChangesAlone, ChangesAloneSince, is_about, value_through};
 

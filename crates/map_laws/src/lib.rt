@@ -5,8 +5,8 @@
 //! No function here does anything: its contract is a theorem about all runs, and a body that calls it may use that. A run is what a seat of
 //! `running_tree` has seen, and its calls are `calls_of` (running_tree, specs/Calls).
 //!
-//! Called by `seats`, `seat_threads` and `bw_tree_c`, and by programs that embed a tree; `walks` cites its lemmas. It knows the theorem about a
-//! run (`op_machine`, specs/theorem), and nothing of how a tree meets it.
+//! Called by `seats`, `workers` and `bw_tree_c`, and by programs that embed a tree; `walks` cites its lemmas. It knows the theorem about a
+//! run (`linearization`), and nothing of how a tree meets it.
 #![tactic(auto)]
 
 mod budgets;

@@ -11,7 +11,7 @@ use Rattle.op_machine.specs.machine.Outcomes.{HasLeft, is_leaving}
 use Rattle.op_machine.specs.machine.Shows.{FitsLast, ShowsState, learn_last, recall_last, wanted_at}
 use Rattle.op_machine.specs.machine.Tasks.{IsSameTask, Task}
 use Rattle.op_machine.specs.machine.Wants.{Step, Done}
-use Rattle.op_machine.specs.machine.States.{State, Begun, Epoch, Enter, Read, Write, Change, Leave}
+use Rattle.op_machine.specs.machine.States.{State, Begun, Leave}
 use Rattle.op_machine.specs.machine.UnderWay.{AsksIf, UnderWay, asking, running_at}
 use Rattle.epochs.specs.Limbo.{Limbo}
 use Rattle.op_machine.specs.machine.Lacks.{TellsLack}

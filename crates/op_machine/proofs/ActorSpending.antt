@@ -4,7 +4,7 @@ use Rattle.op_machine.proofs.Words.{Limits, Answer, StepOf, Record, IsStepSpent,
 use Rattle.op_machine.proofs.Words.{sweep_left, UnderWay}
 use Rattle.bw_model.specs.declared.step.Step.TheVariants as step
 use Rattle.op_machine.specs.machine.Shows.{recall_last, wanted_at}
-use Rattle.op_machine.specs.machine.States.{State, Begun, Epoch, Enter, Read, Write, Change, Leave}
+use Rattle.op_machine.specs.machine.States.{State, Begun, Epoch, Enter}
 use Rattle.sweep.specs.Sweeps.{Sweep, step_of, wanted_at as wanted_at_sweep}
 use Rattle.sweep.specs.declared.sweep.State as sweeping
 use Rattle.sweep.specs.declared.sweep.State.TheVariants as at_sweep

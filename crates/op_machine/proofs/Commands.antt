@@ -6,7 +6,7 @@ use Rattle.op_machine.proofs.Words.{is_removed, level_in, Knowledge, KeepsSpareP
 use Rattle.bw_model.specs.Log.{Update, set, unset}
 use Rattle.bw_model.specs.Numbers.{number_bytes, is_number, added, sum_bytes}
 use Rattle.base_page.specs.declared.item.Content.{Content}
-use Rattle.base_page.specs.Pages.{Page, value_in}
+use Rattle.base_page.specs.Pages.{Page, content_at, value_in}
 use Rattle.deltas.specs.Fits.{FitsDelete, FitsPut}
 use Rattle.deltas.specs.Spellable.{IsRow, IsSpellable}
 use Rattle.deltas.specs.declared.record.Delete.{Delete as DeleteOf}
@@ -133,17 +133,18 @@ over_links (Back key) old x h before = cc
 over_links (Tidy key) old x h before = cc
 over_links c old x h before = refl
 
--- it fits a leaf with few deltas and items
-module _ (chain : List Record) (page : Page) (makes : Makes chain page) (alive : is_removed chain ≡ false) (leaf : level_in chain ≡ 0) (few : length page.items < 16) (short : length chain ≤ 8)
+-- it fits a leaf with few deltas, and with few items, if it adds one
+module _ (chain : List Record) (page : Page) (makes : Makes chain page) (alive : is_removed chain ≡ false) (leaf : level_in chain ≡ 0) (short : length chain ≤ 8)
     (puts : (put : Put) → IsRow put.next → FitsPut page put → FitsOver chain (kind.Put put))
     (deletes : (delete : DeleteOf) → IsRow delete.next → FitsDelete page delete → FitsOver chain (kind.Delete delete)) where
   covered : (key : List ℕ) → IsTrue (covers chain key) → IsTrue (is_in_range page.low page.high key)
   covered key within = rw (makes.low, makes.high) within
 
-  put_fits : (x : ℕ) (key value : List ℕ) → IsRow x → IsTrue (covers chain key) → FitsOn chain (kind.Put (record { next = x; key = key; value = value }))
-  put_fits x key value row within = (
+  put_fits : (x : ℕ) (key value : List ℕ) → IsRow x → IsTrue (covers chain key) → (content_at page.items key ≡ None → length page.items < 16)
+      → FitsOn chain (kind.Put (record { next = x; key = key; value = value }))
+  put_fits x key value row within room = (
     puts (record { next = x; key = key; value = value }) row
-        (record { alive = makes.removed ∙ alive; leaf = makes.level ∙ leaf; covered = covered key within; room = λ e. omega (arith, few) }),
+        (record { alive = makes.removed ∙ alive; leaf = makes.level ∙ leaf; covered = covered key within; room = λ e. let few = room e in omega (arith, few) }),
     omega
         (arith, short),
   )
@@ -152,14 +153,15 @@ module _ (chain : List Record) (page : Page) (makes : Makes chain page) (alive :
   delete_fits x key row within =
       (deletes (record { next = x; key = key }) row (record { alive = makes.removed ∙ alive; leaf = makes.level ∙ leaf; covered = covered key within }), omega (arith, short))
 
-  pub over_fits : (c : Command) (old : Option (List ℕ)) (x : ℕ) → Changes c old → IsRow x → IsTrue (covers chain (command_key c)) → FitsOn chain (update_over c old x)
-  over_fits (Get key) old x h row within = cc
-  over_fits (PageFrom key) old x h row within = cc
-  over_fits (Back key) old x h row within = cc
-  over_fits (Tidy key) old x h row within = cc
-  over_fits (Insert key value) old x h row within = put_fits x key value row within
-  over_fits (Upsert key value) old x h row within = put_fits x key value row within
-  over_fits (Swap key expected value) old x h row within = put_fits x key value row within
-  over_fits (Add key number) old x h row within = put_fits x key (sum_bytes old number) row within
-  over_fits (Delete key) old x h row within = delete_fits x key row within
-  over_fits (DeleteIf key expected) old x h row within = delete_fits x key row within
+  pub over_fits : (c : Command) (old : Option (List ℕ)) (x : ℕ) → Changes c old → IsRow x → IsTrue (covers chain (command_key c))
+      → (content_at page.items (command_key c) ≡ None → length page.items < 16) → FitsOn chain (update_over c old x)
+  over_fits (Get key) old x h row within room = cc
+  over_fits (PageFrom key) old x h row within room = cc
+  over_fits (Back key) old x h row within room = cc
+  over_fits (Tidy key) old x h row within room = cc
+  over_fits (Insert key value) old x h row within room = put_fits x key value row within room
+  over_fits (Upsert key value) old x h row within room = put_fits x key value row within room
+  over_fits (Swap key expected value) old x h row within room = put_fits x key value row within room
+  over_fits (Add key number) old x h row within room = put_fits x key (sum_bytes old number) row within room
+  over_fits (Delete key) old x h row within room = delete_fits x key row within
+  over_fits (DeleteIf key expected) old x h row within room = delete_fits x key row within

@@ -18,7 +18,7 @@ use Rattle.op_machine.specs.machine.Outcomes.{Faces, Outcome, is_changing, is_le
 use Rattle.op_machine.specs.machine.Places.{HaveLimits, OpPlaces, ReadsOn, WritesOn, state_at, state_of}
 use Rattle.op_machine.specs.machine.Shows.{FitsLast, ShowsState, learn_last, wanted_at}
 use Rattle.op_machine.specs.declared.places.StateKind.{StateKind}
-use Rattle.op_machine.specs.declared.places.StateKind.TheVariants.{Begun, Epoch, Enter, Read, Write, Change, Leave}
+use Rattle.op_machine.specs.declared.places.StateKind.TheVariants.{Read, Write, Change, Leave}
 use Rattle.bw_model.specs.declared.step.Told.{Told}
 use Rattle.bw_model.specs.declared.step.Told.TheVariants.{Start, Number, Whether, Done}
 use Rattle.op_machine.specs.machine.States.{State}

@@ -16,7 +16,7 @@ use Rattle.op_machine.specs.machine.Ops.{EndsAtLeave, HoldsLimbo, IsToldOp, Op, 
 use Rattle.op_machine.specs.machine.Shows.{wanted_at}
 use Rattle.op_machine.specs.machine.Works.{LeavesWith}
 use Rattle.op_machine.specs.machine.Wants.{Want, Step, Done}
-use Rattle.op_machine.specs.machine.States.{State, Begun, Epoch, Enter, Read, Write, Change, Leave}
+use Rattle.op_machine.specs.machine.States.{State, Read, Write, Change, Leave}
 use Rattle.sweep.specs.Sweeps as sweep
 use Rattle.sweep.specs.declared.sweep.State.TheVariants as sweep_state
 

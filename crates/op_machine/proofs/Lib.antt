@@ -1,11 +1,11 @@
 pub mod ActorGoing
 pub mod ActorSpending
+pub mod BegunPlans
 pub mod ChangeSteps
 pub mod Changing
 pub mod Commands
 pub mod Dues
 pub mod Executing
-pub mod FaithLaws
 pub mod Going
 pub mod GoingLeft
 mod Halves
@@ -14,11 +14,7 @@ pub mod InPlaceChanges
 pub mod InPlaces
 pub mod Keeping
 pub mod Leaving
-pub mod Listed
-pub mod LogLaws
-pub mod MapLaws
 pub mod Nexts
-pub mod PhaseLaws
 pub mod Plans
 pub mod ReadPages
 pub mod Readers
@@ -33,7 +29,7 @@ pub mod Takes
 pub mod TakingOut
 pub mod Tending
 pub mod Tidying
+mod TurningLeft
 pub mod Unlinking
 pub mod Words
 pub mod Worth
-pub mod runs

@@ -6,7 +6,7 @@ use Rattle.bw_model.specs.declared.step.Answer.TheVariants.{Start}
 use Rattle.epochs.specs.Limbo.{Limbo}
 use Rattle.op_machine.specs.machine.Shows.{FitsLast, learn_last, recall_last, wanted_at}
 use Rattle.op_machine.specs.machine.Sweeping.{IsSameWork, ObeysSweep, swept_by, with_limbo}
-use Rattle.op_machine.specs.machine.States.{State, Begun, Epoch, Enter, Read, Write, Change, Leave}
+use Rattle.op_machine.specs.machine.States.{State, Begun}
 
 -- nothing of the sweep is left then
 pub nothing_left : (limits : Limits) (state : State) → has_begun state ≡ true → sweep_left limits None state ≡ 0

@@ -57,10 +57,10 @@ module _ (task : Task) (spares : Spares) (k : Knowledge) (r : Recalled) where
           covered = rw (h.round_of.key h.sought) at ends.covered;
           short = ends.short;
           early = rw (h.round_of.due h.sought) at ends.early;
-          few = ends.few;
+          few = λ on. ends.few (h.round_of.splits h.sought ∙ on);
         };
         above = rw limits at ends.above;
-        termed = ends.termed;
+        termed = λ on. ends.termed (h.round_of.splits h.sought ∙ on);
       }
 
 -- what is known at the leaf of an errand is known for the next round, and at that of the command's key
@@ -113,4 +113,4 @@ one_more left most few = omega arith
 
 -- a round to the left of a removed page is one of the operation
 pub left_is_of : (task : Task) (writer : PlacedWrite) → writer.round.limits ≡ task.limits → IsRoundOf task (left_round_of writer)
-left_is_of task writer have = record { limits = have; some = omega arith; key = λ is. cc; due = λ is. cc; tends = λ is. cc }
+left_is_of task writer have = record { limits = have; some = omega arith; key = λ is. cc; due = λ is. cc; tends = λ is. cc; splits = λ is. cc }

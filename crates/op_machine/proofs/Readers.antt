@@ -5,7 +5,7 @@ use Rattle.bw_model.specs.declared.step.Step.TheVariants as step
 use Rattle.round_model.specs.Descents as way
 use Rattle.round_model.specs.Visits as page
 use Rattle.epochs.specs.Limbo.{Limbo}
-use Rattle.op_machine.specs.theorem.Readers.{IsOfUse, IsReading}
+use Rattle.linearization.specs.Readers.{IsOfUse, IsReading}
 use Rattle.op_machine.specs.machine.Shows.{ShowsState, wanted_at}
 use Rattle.op_machine.specs.machine.States.{State, Begun, Epoch, Enter, Read, Write, Change, Leave}
 

@@ -3,7 +3,7 @@ use Rattle.std.proofs.Common.{◌≡◌, ◌<◌, ◌==◌, ◌⊎◌, inl, inr,
 use Rattle.op_machine.proofs.Words.{IfSome, eqb-true, Limits, Answer, Record, replaced_at, Fits, Recalled, Seeks, Task}
 use Rattle.bw_model.specs.declared.step.Step.{Step}
 use Rattle.bw_model.specs.declared.step.Step.TheVariants.{Slot, Row}
-use Rattle.bw_model.specs.declared.step.Answer.TheVariants.{Start, Number, Content, Whether, Done}
+use Rattle.bw_model.specs.declared.step.Answer.TheVariants.{Number, Content}
 use Rattle.traces.specs.discipline.Knowledge.{Empty, Knowledge, learn}
 use Rattle.round_model.specs.Descents.{wanted_at, WayState, Root, Page}
 use Rattle.round_model.specs.ReadRounds as read

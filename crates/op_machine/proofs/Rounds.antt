@@ -125,6 +125,7 @@ module _ (task : Task) (spares : Spares) (k : Knowledge) (r : Recalled) (round n
       key = λ is. same.key ∙ h.round_of.key (still_goes_left round new told responds is);
       due = λ is. same.due ∙ h.round_of.due (still_goes_left round new told responds is);
       tends = λ is. same.tends ∙ h.round_of.tends (still_goes_left round new told responds is);
+      splits = λ is. same.splits ∙ h.round_of.splits (still_goes_left round new told responds is);
     };
     shows = follows;
   }

@@ -9,7 +9,7 @@ use Rattle.change_machine.specs.declared.taking.Kind.TheVariants as kind
 use Rattle.change_machine.specs.declared.taking.Taking.{Taking}
 use Rattle.change_machine.specs.declared.taking.Taking.TheVariants as taking
 use Rattle.op_machine.specs.machine.Shows.{FitsLast, wanted_at}
-use Rattle.op_machine.specs.machine.States.{State, Begun, Epoch, Enter, Read, Write, Change, Leave}
+use Rattle.op_machine.specs.machine.States.{State, Begun, Change}
 use Rattle.sweep.specs.Sweeps as sweep
 use Rattle.sweep.specs.declared.sweep.State.TheVariants as sweep_state
 

@@ -8,7 +8,6 @@ use Rattle.base_page.specs.Shown.{pairs_shown}
 use Rattle.base_page.specs.declared.page.shows.Direction.{Direction}
 use Rattle.base_page.specs.declared.page.shows.Direction.TheVariants.{Forward, Backward}
 use Rattle.deltas.specs.declared.record.Record.{Record}
-use Rattle.traces.specs.chain.Chains.{low_in}
 use Rattle.traces.specs.chain.Fitted.{Makes}
 use Rattle.row_chain.proofs.PairLaws.{pairs_in, pairs_upto}
 use Rattle.op_machine.specs.machine.ShortReplies.{ShowsChain, page_shown}

@@ -11,7 +11,7 @@ use Rattle.deltas.specs.declared.record.Record.TheVariants.{Base}
 use Rattle.traces.proofs.FittedLaws.{Makes-base}
 use Rattle.structure_changes.specs.Sizes.{HasFewItems}
 use Rattle.structure_changes.proofs.Unheld.{leaf_unheld}
-use Rattle.op_machine.specs.machine.Errands.{due_of}
+use Rattle.op_machine.specs.machine.Errands.{due_of, splits_of}
 use Rattle.op_machine.proofs.HoldingBack.{kept_back}
 
 -- a test that replies either way
@@ -54,7 +54,8 @@ may_call task spares k r parent leaf old below idle last none =
     let early = at.early in
     let base = alone leaf.chain at.page.in_hand.sound.is_chain.fitted (omega (arith, early, due)) in
     let level : level_in (Base base.0 ∷ []) ≡ 0 = subst (λ (chain : List Record). level_in chain ≡ 0) base.1 at.level in
-    let few : HasFewItems (Base base.0 ∷ []) = subst HasFewItems base.1 at.few in
+    let splits : splits_of task.limits task.errands task.command ≡ true = rw (last, tidy.1) refl in
+    let few : HasFewItems (Base base.0 ∷ []) = subst HasFewItems base.1 (at.few splits) in
     let makes = Makes-base base.0 base.2.ruled.is_page.ordered.ascending base.2.alive in
     let covered : IsTrue (covers leaf.chain tidy.0) = rw (last, tidy.1) at at.covered in
     record {
@@ -73,7 +74,7 @@ may_call task spares k r parent leaf old below idle last none =
         covers = covered;
         few = of_made (Base base.0 ∷ []) base.0 (λ items. length items < 16) makes few;
         back = λ other small.
-            kept_back task.limits k r task.command parent leaf (rw tidy.1 refl) below.above below.termed idle at.page.alive at.short
+            kept_back task.limits k r task.command parent leaf (rw tidy.1 refl) below.above (below.termed splits) idle at.page.alive at.short
             (record {
               other = other;
               few = rw base.1 (from_made (Base base.0 ∷ []) base.0 (λ items. length items ≤ 4) makes small);

@@ -95,18 +95,18 @@ pub use Rattle.op_machine.specs.machine.Tasks.{Task, Seeks}
 pub use Rattle.op_machine.specs.machine.UnderWay.{UnderWay}
 pub use Rattle.op_machine.specs.machine.Upkeep.{IsIdleFor, tidies}
 pub use Rattle.op_machine.specs.machine.Works.{FollowsOutcome, IsToldOnThere, IsToldWith, TurnsInto, asked_of}
-pub use Rattle.op_machine.specs.theorem.Answered.{IsAnswered}
-pub use Rattle.op_machine.specs.theorem.Changes.{HasFewChanges}
-pub use Rattle.op_machine.specs.theorem.Direct.{IsDirect}
-pub use Rattle.op_machine.specs.theorem.Examples.{small, opening_leaf, new_leaf}
-pub use Rattle.op_machine.specs.theorem.Faithful.{KnowsRow, IsFaithful}
-pub use Rattle.op_machine.specs.theorem.Halves.{AreHalves, IsHalved}
-pub use Rattle.op_machine.specs.theorem.Linearized.{IsLinearized}
-pub use Rattle.op_machine.specs.theorem.Operations.{Operation, EndAtLeaves, Finishes, IsOperation, IsOwnStep, RepliesAtLeave}
-pub use Rattle.op_machine.specs.theorem.Phases.{Phase, MovesPhase, IsInPhase, KeepsPhases, owned, takes, splits, becomes_root, terms, under_root, holds, removes, merges, unterms, reuses}
-pub use Rattle.op_machine.specs.theorem.Phases.{MovesAt, free, indexed}
-pub use Rattle.op_machine.specs.theorem.Points.{log_at, HasPoints, IsPoint, has_point}
-pub use Rattle.op_machine.specs.theorem.Progress.{ChangesTree}
-pub use Rattle.op_machine.specs.theorem.Quiet.{HasMapOf, IsQuiet}
-pub use Rattle.op_machine.specs.theorem.Reuse.{IsFreedByRule}
-pub use Rattle.op_machine.specs.theorem.Updates.{UpdatesAtLinks}
+pub use Rattle.linearization.specs.Answered.{IsAnswered}
+pub use Rattle.linearization.specs.Changes.{HasFewChanges}
+pub use Rattle.linearization.specs.Direct.{IsDirect}
+pub use Rattle.linearization.specs.Examples.{small, opening_leaf, new_leaf}
+pub use Rattle.linearization.specs.Faithful.{KnowsRow, IsFaithful}
+pub use Rattle.linearization.specs.Halves.{AreHalves, IsHalved}
+pub use Rattle.linearization.specs.Linearized.{IsLinearized}
+pub use Rattle.linearization.specs.Operations.{Operation, EndAtLeaves, Finishes, IsOperation, IsOwnStep, RepliesAtLeave}
+pub use Rattle.linearization.specs.Phases.{Phase, MovesPhase, IsInPhase, KeepsPhases, owned, takes, splits, becomes_root, terms, under_root, holds, removes, merges, unterms, reuses}
+pub use Rattle.linearization.specs.Phases.{MovesAt, free, indexed}
+pub use Rattle.linearization.specs.Points.{log_at, HasPoints, IsPoint, has_point}
+pub use Rattle.linearization.specs.Progress.{ChangesTree}
+pub use Rattle.linearization.specs.Quiet.{HasMapOf, IsQuiet}
+pub use Rattle.linearization.specs.Reuse.{IsFreedByRule}
+pub use Rattle.linearization.specs.Updates.{UpdatesAtLinks}

@@ -1,6 +1,6 @@
 -- A cause is worth what it has to pay for, and ten are worth all that an operation has left.
 use Rattle.std.proofs.Common.{◌≡◌, ◌<◌, ◌≤◌, ◌+◌, ◌-◌, ◌*◌, ℕ, List, [], length, Option, None, Some, Bool, true, false, refl, subst, arith}
-use Rattle.op_machine.proofs.Words.{mul-le-mul_left, if◌then◌else◌, ◌^◌, Limits, Record, is_removed, Knowledge, ReadGoal, WriteGoal, Reuse, Rows, Pids, Spares, ChangeState, Plan, Bits, Take}
+use Rattle.op_machine.proofs.Words.{mul-le-mul_left, if◌then◌else◌, ◌^◌, Limits, Record, is_removed, Knowledge, ReadGoal, WriteGoal, Reuse, Rows, Pids, Spares, ChangeState, Plan, Bits}
 use Rattle.op_machine.proofs.Words.{Sweep, SweepState, few_changes, left_round, one_round, with_errands, Hand, Op, Shows, ShowsState, steps_left, sweep_left, Task}
 use Rattle.traces.specs.discipline.Recalled.{Recalled, Walk, cause_worth}
 use Rattle.round_model.specs.Descents.{WayState, Root, Page, left_from}
@@ -16,7 +16,6 @@ use Rattle.change_machine.specs.Moves.{has_rows, lacks_lower}
 use Rattle.structure_changes.specs.Plans.{needs_pid}
 use Rattle.change_machine.specs.Taking.{most_reads, number_left}
 use Rattle.change_machine.specs.declared.change.State.TheVariants as changing
-use Rattle.structure_changes.specs.declared.plan.Plan.TheVariants.{Install, Split, Root as NewRoot, Unlink}
 use Rattle.change_machine.specs.declared.taking.Taking.{Taking}
 use Rattle.sweep.specs.Bounded.{most_steps, reuses_left}
 use Rattle.sweep.specs.Bounded as sweep

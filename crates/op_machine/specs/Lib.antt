@@ -1,2 +1,1 @@
-pub mod theorem
 pub mod machine

@@ -10,6 +10,7 @@ pub mod Outcomes
 pub mod GoesLeft
 pub mod RoundSteps
 pub mod Ops
+pub mod Begun
 pub mod Bounded
 pub mod Upkeep
 pub mod Hands

@@ -1,9 +1,9 @@
-//! Operations as step machines, what an actor (thread) keeps between them, and laws of their runs. A step machine requests one atomic step at a time: `wanted`
-//! returns it, the caller takes it, and `go_on` or `take_record` passes the answer.
+//! Operations as step machines, and what an actor (thread) keeps between them. A step machine requests one atomic step at a time: `wanted` returns it, the
+//! caller takes it, and `go_on` or `take_record` passes the answer.
 //!
 //! Look first at `Actor`: `begin`, `wanted`, then `go_on` or `take_record`, and `leave` at the end. Behind it `Operation` has its places (`Places`): a reader's
 //! round, a writer's round, a change, the reply. `Task` is the command, with the errands of splits, and decides what follows the end of a round or a change.
-//! specs/machine defines all of it; specs/theorem defines what a linearized run is.
+//! specs/machine defines all of it; `linearization` defines what a linearized run is.
 //!
 //! # How an operation runs
 //!
@@ -50,7 +50,6 @@ mod actor;
 mod errands;
 mod examples;
 mod hand;
-mod log_laws;
 mod operation;
 mod places;
 mod read_ends;
@@ -61,14 +60,6 @@ mod write_ends;
 
 pub use actor::{Actor, idle_actors_rest};
 pub use errands::MAX_ERRANDS;
-pub use examples::{
-    claimed_insert_is_refused, empty_slot_begins_anew, foreign_slots_are_refused,
-    hurried_reuse_is_refused, insert_and_lookup_is_linearized, lookup_is_linearized,
-    many_takes_are_refused, nine_changes_are_refused, page_lives, removed_leaf_turns_left,
-    row_is_freed, unnamed_read_is_refused, useless_links_are_refused,
-};
+pub use examples::{empty_slot_begins_anew, removed_leaf_turns_left};
 pub use hand::Hand;
-pub use log_laws::{
-    knowledge_stays, late_mark_keeps_log, log_grows, one_leaf_has_the_map, phases_grow,
-};
 pub use operation::Operation;

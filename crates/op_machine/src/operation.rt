@@ -9,7 +9,7 @@ ghost use Rattle.traces.specs.discipline.Discipline.{May, MayFree};
 ghost use Rattle.traces.specs.discipline.Knowledge.{Knowledge, after_begin, learn};
 ghost use Rattle.traces.specs.discipline.Recalled.{Recalled, blank, cause_worth};
 ghost use Rattle.traces.specs.discipline.Useful.{IsUseful};
-ghost use Rattle.op_machine.specs.theorem.Halves.{IsHalved};
+ghost use Rattle.linearization.specs.Halves.{IsHalved};
 ghost use Rattle.traces.specs.trace.Within.{IsWithin};
 ghost use Rattle.deltas.specs.declared.record.Record.{Record as RecordOf};
 ghost use Rattle.change_machine.specs.Changes.{EndsByDeciding};
@@ -202,6 +202,7 @@ impl<R: Rows, A: Allocator> Operation<R, A> {
     }
 
     /// Takes the answer once the sweep is over, and comes to where the operation asks for its next step.
+    #[inline(always)]
     fn work_on(&mut self, hand: &mut Hand<A>, told: Told)
         requires told { IsToldWith self.old hand.old (answer_of told) }
         requires stays { is_leaving self.old.state ≡ false }

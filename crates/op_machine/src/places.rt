@@ -21,11 +21,13 @@ ghost use Rattle.round_model.specs.ReadGoals as goal;
 ghost use Rattle.change_machine.specs.Changes.{IsSpellablePlan, IsTarget};
 ghost use Rattle.change_machine.specs.Spares.{HaveRoom};
 ghost use Rattle.change_machine.specs.Changes.{EndsByDeciding};
-ghost use Rattle.op_machine.specs.machine.RoundSteps.{BeginsPlan};
-ghost use Rattle.op_machine.specs.machine.Bounded.{few_changes, left_at};
+ghost use Rattle.op_machine.specs.machine.Begun.{HasBegunPlan};
+ghost use Rattle.op_machine.specs.declared.then.Then.TheVariants as and_then;
+ghost use Rattle.structure_changes.specs.declared.after.After.TheVariants as after;
+ghost use Rattle.structure_changes.specs.Plans.{over};
 ghost use Rattle.op_machine.specs.machine.Outcomes.{IsToldAt, UnlinksAfter, change_out, has_begun, is_changing, lacks_at};
 ghost use Rattle.op_machine.specs.machine.Places.{HaveLimits, ReadsOn, WritesOn, ended_with, leaf_read, left_round_of, state_of};
-ghost use Rattle.op_machine.specs.machine.Shows.{FitsLast, MayBegin, MayStep, ShowsState, learn_last, wanted_at};
+ghost use Rattle.op_machine.specs.machine.Shows.{FitsLast, MayStep, ShowsState, learn_last, wanted_at};
 ghost use Rattle.op_machine.specs.machine.ShortReplies.{ShowsChain};
 ghost use Rattle.op_machine.specs.machine.Tasks.{Task as TaskSeen};
 ghost use Rattle.op_machine.specs.machine.Works.{TurnsInto};
@@ -47,7 +49,7 @@ use rounds::{Asked, ReadEndKind, ReadRound, WriteEndKind, WriteRound};
 use row_search::{RowAt, Rows};
 use std::alloc::{AllocError, Allocator, Global};
 use std::marker::Model;
-use structure_changes::{After, PageInHand, Plan};
+use structure_changes::{After, PageInHand, Plan, UpdateRecord};
 
 /// Which state an operation is in. Its round, its change or its reply lies in a place of its own; each other state is named by the
 /// step that it has asked for.
@@ -68,7 +70,8 @@ pub(crate) struct Places<R: Rows, A: Allocator = Global> {
     stand: StateKind,
     reader: ReadRound<R, A>,
     writer: WriteRound<R, A>,
-    change: Change,
+    change: Change<A>,
+    due: Box<Plan, A>,
     then: Then,
     reply: ReplyPlace,
     lacks: Option<Kind>,
@@ -81,6 +84,7 @@ impl<R: Rows, A: Allocator> Drop for Places<R, A> {
             reader: _,
             writer: _,
             change: _,
+            due: _,
             then: _,
             reply: _,
             lacks: _,
@@ -97,8 +101,8 @@ impl<R: Rows, A: Allocator> Model for Places<R, A> {
 }
 
 impl<R: Rows, A: Allocator + Copy> Places<R, A> {
-    /// Places in which nothing was done yet. Takes the memory for the records of both rounds, 1,664 bytes, and is refused for want of
-    /// it alone. No later call takes memory.
+    /// Places in which nothing was done yet. Takes the memory for the records of both rounds and for three plans, 12 KB, and is refused
+    /// for want of it alone. No later call takes memory.
     pub(crate) fn new(alloc: A, limits: &Limits) -> Result<Places<R, A>, AllocError>
         ensures reader { IfOk result (λ places. places.reader.round.limits ≡ limits.now) }
         ensures writer { IfOk result (λ places. places.writer.round.limits ≡ limits.now) }
@@ -107,7 +111,8 @@ impl<R: Rows, A: Allocator + Copy> Places<R, A> {
             stand: StateKind::Begun,
             reader: ReadRound::<R, A>::new(alloc, limits)?,
             writer: WriteRound::<R, A>::new(alloc, limits)?,
-            change: Change::new(limits),
+            change: Change::<A>::new(alloc, limits)?,
+            due: Box::new(alloc, Plan::default())?,
             then: Then::After(After::Round),
             reply: ReplyPlace::new(),
             lacks: None,
@@ -191,7 +196,7 @@ impl<R: Rows, A: Allocator> Places<R, A> {
     }
 
     /// A writer's round to the leaf of the key begins.
-    pub(crate) fn write(&mut self, key: &Key, due: usize, tends: bool)
+    pub(crate) fn write(&mut self, key: &Key, due: usize, tends: bool, splits: bool)
         requires due { 0 < due }
         ensures { self.new ≡ record self.old {
           stand = StateKind.Write;
@@ -201,6 +206,7 @@ impl<R: Rows, A: Allocator> Places<R, A> {
               key = key.now;
               due = due;
               tends = tends;
+              splits = splits;
               floor = 0;
               goal = course.Seek;
               parent = None;
@@ -210,7 +216,7 @@ impl<R: Rows, A: Allocator> Places<R, A> {
           };
         } }
     {
-        self.writer.restart(key, due, tends);
+        self.writer.restart(key, due, tends, splits);
         self.stand = StateKind::Write;
     }
 
@@ -277,31 +283,58 @@ impl<R: Rows, A: Allocator> Places<R, A> {
         self.stand = StateKind::Leave;
     }
 
-    /// Gives the change that is due, where the writer's round has ended with one, for the plan in another place, and tells what comes
-    /// once it has won.
-    pub(crate) fn take_due(&mut self, plan: &mut Plan) -> After
-        ensures plan { plan.new ≡ self.old.writer.plan }
-        ensures after { result ≡ self.old.writer.after }
-        ensures only { self.new ≡ record self.old { writer = record self.old.writer { plan = self.new.writer.plan; after = self.new.writer.after } } }
+    /// The change begins that is due where the writer's round has ended with one. It leaves its place for the one of the last such.
+    #[inline(never)]
+    pub(crate) fn begin_due(&mut self, task: &Task, spares: &Spares)
+        requires target { IsTarget task.now.limits self.old.writer.plan }
+        requires spells { IsSpellablePlan self.old.writer.plan }
+        requires room { HaveRoom task.now.limits spares.now }
+        ensures begun { HasBegunPlan task.now spares.now self.old.writer.plan (and_then.After self.old.writer.after) (state_of self.new) }
+        ensures reader { self.new.reader ≡ self.old.reader }
+        ensures writer { self.new.writer.round ≡ self.old.writer.round }
     {
-        self.writer.take_due(plan)
+        let after = self.writer.take_due(&mut self.due);
+        self.change.begin(task.limits(), spares, &mut self.due);
+        self.then = Then::After(after);
+        self.stand = StateKind::Change;
     }
 
-    /// A change begins, and leaves another plan in the place of its own.
+    /// A change begins that is made at the leaf before the command is executed there; what comes once it has won.
     #[inline(never)]
-    pub(crate) fn begin_change(&mut self, task: &Task, spares: &Spares, plan: &mut Plan, then: Then)
-        requires target { IsTarget task.now.limits plan.old }
-        requires spells { IsSpellablePlan plan.old }
+    pub(crate) fn begin_planned(&mut self, task: &Task, spares: &Spares, plan: Plan, after: After)
+        requires target { IsTarget task.now.limits plan }
+        requires spells { IsSpellablePlan plan }
         requires room { HaveRoom task.now.limits spares.now }
-        ensures stands { (k : Knowledge) (r : Recalled) → MayBegin task.now spares.now k r plan.old then → ShowsState task.now spares.now k r (state_of self.new) }
-        ensures few { (r : Recalled) → left_at task.now.limits r spares.now (state_of self.new) ≤ few_changes task.now.limits + 1 }
-        ensures asks { IsSome (wanted_at spares.now (state_of self.new)) }
+        ensures begun { HasBegunPlan task.now spares.now plan (and_then.After after) (state_of self.new) }
         ensures reader { self.new.reader ≡ self.old.reader }
         ensures writer { self.new.writer ≡ self.old.writer }
-        ensures begins { BeginsPlan plan.old (state_of self.new) }
     {
-        self.change.begin(task.limits(), spares, plan);
-        self.then = then;
+        *self.due = plan;
+        self.change.begin(task.limits(), spares, &mut self.due);
+        self.then = Then::After(after);
+        self.stand = StateKind::Change;
+    }
+
+    /// A change begins that links an update's record over the leaf in the hand of the writer's round.
+    pub(crate) fn begin_update(
+        &mut self,
+        task: &Task,
+        spares: &Spares,
+        update: &UpdateRecord,
+        reply: ShortReply,
+    )
+        requires target { IsTarget task.now.limits (over self.old.writer.page update.now) }
+        requires spells { IsSpellablePlan (over self.old.writer.page update.now) }
+        requires room { HaveRoom task.now.limits spares.now }
+        ensures begun { HasBegunPlan task.now spares.now (over self.old.writer.page update.now) (and_then.Reply reply) (state_of self.new) }
+        ensures reader { self.new.reader ≡ self.old.reader }
+        ensures writer { self.new.writer ≡ self.old.writer }
+    {
+        let leaf = self.writer.page();
+        let (pid, head) = (leaf.pid(), leaf.head());
+        self.change
+            .begin_update(task.limits(), spares, pid, head, update);
+        self.then = Then::Reply(reply);
         self.stand = StateKind::Change;
     }
 

@@ -43,7 +43,7 @@ impl Task {
         ensures writes { is_writer self.now.command ≡ true → state_of places.new ≡ State.Write (first_write self.now) }
     {
         if self.command().is_writer() {
-            places.write(self.way_key(), self.due(), self.tends());
+            places.write(self.way_key(), self.due(), self.tends(), self.splits());
             return;
         }
         places.read(self.command().key());

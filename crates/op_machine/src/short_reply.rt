@@ -121,15 +121,20 @@ impl ShortReply {
         }
     }
 
-    /// Tells the reply in its place: over the value that lies there, where that is of a lookup, as this one is.
+    /// Tells the reply in its place: over the value that lies there, where that is of a reply of the same kind.
     fn tell(&self, reply: &mut Reply)
         ensures { reply.new ≡ self.now }
     {
-        if let (Which::Value, Reply::Value(value)) = (self.which, &mut *reply) {
-            *value = self.value.copied();
-            return;
+        match (self.which, &mut *reply) {
+            (Which::Value, Reply::Value(value)) => *value = self.value.copied(),
+            (Which::Replaced, Reply::Replaced(value)) => *value = self.value.copied(),
+            (Which::Deleted, Reply::Deleted(value)) => *value = self.value.copied(),
+            (Which::None, Reply::None) => {}
+            (Which::Inserted, Reply::Inserted) => {}
+            (Which::Set, Reply::Set) => {}
+            (Which::Absent, Reply::Absent) => {}
+            _ => self.tell_anew(reply),
         }
-        self.tell_anew(reply);
     }
 
     /// Writes the reply over whatever is in its place. Not inlined: a reply with room for any is made first.

@@ -3,7 +3,7 @@ ghost use Rattle.std.specs.Prelude.{◌≡◌, ◌≤◌, ◌+◌, ◌<◌, ◌-
 ghost use Rattle.traces.specs.discipline.Knowledge.{Knowledge};
 ghost use Rattle.bw_model.specs.Replies.{is_writer, update_of};
 ghost use Rattle.op_machine.specs.machine.Brings.{update_over};
-ghost use Rattle.op_machine.specs.machine.Errands.{due_of, tends_of, way_key, with_errand};
+ghost use Rattle.op_machine.specs.machine.Errands.{due_of, splits_of, tends_of, way_key, with_errand};
 ghost use Rattle.sweep.specs.Bounded.{most_steps, steps_left as steps_of};
 ghost use Rattle.sweep.specs.Kept.{IsLimboOf};
 ghost use Rattle.sweep.specs.Moves.{IsEmpty};
@@ -12,11 +12,10 @@ ghost use Rattle.sweep.specs.Sweeps.{IsSoundSweep, IsKeptOutside, Shows as Shows
 use crate::errands::Errands;
 use base_page::Page;
 use bw_model::{Command, Key, Limits, Value};
-use deltas::{Delete, Put, Record};
 use epochs::Limbo;
 use std::alloc::Allocator;
 use std::marker::Model;
-use structure_changes::many_deltas;
+use structure_changes::{UpdateRecord, many_deltas};
 use sweep::Sweep;
 
 /// What an operation was asked, by whom, and what it is still to visit.
@@ -155,8 +154,19 @@ impl Task {
         }
     }
 
+    /// Whether a round splits pages and makes roots on its way: in a small tree each does; in a large one that of an errand, or of a tidying.
+    /// Where no PID is free, all others so come to their leaves.
+    pub(crate) fn splits(&self) -> bool
+        ensures { result ≡ splits_of self.now.limits self.now.errands self.now.command }
+    {
+        match (&self.command, self.errands.newest()) {
+            (_, Some(_)) | (Command::Tidy(_), None) => true,
+            _ => !self.limits.is_large,
+        }
+    }
+
     /// The record that a command places over the row `next` where it changes the map, its key having the value `old`, or none.
-    pub(crate) fn update_over(&self, old: Option<&Value>, next: u32) -> Record
+    pub(crate) fn update_over(&self, old: Option<&Value>, next: u32) -> UpdateRecord
         requires { is_some (update_of 0 self.now.command (option_copied old)) ≡ true }
         ensures { result ≡ update_over self.now.command (option_copied old.entry) next }
     {
@@ -166,20 +176,12 @@ impl Task {
             }
             Command::Insert(key, value)
             | Command::Upsert(key, value)
-            | Command::Swap(key, _, value) => Record::Put(Put {
-                next,
-                key: key.copied(),
-                value: value.copied(),
-            }),
-            Command::Add(key, number) => Record::Put(Put {
-                next,
-                key: key.copied(),
-                value: old.map_or(Value::of_number(*number), |old| old.added(*number)),
-            }),
-            Command::Delete(key) | Command::DeleteIf(key, _) => Record::Delete(Delete {
-                next,
-                key: key.copied(),
-            }),
+            | Command::Swap(key, _, value) => UpdateRecord::put(next, key, value.copied()),
+            Command::Add(key, number) => {
+                let sum = old.map_or(Value::of_number(*number), |old| old.added(*number));
+                UpdateRecord::put(next, key, sum)
+            }
+            Command::Delete(key) | Command::DeleteIf(key, _) => UpdateRecord::delete(next, key),
         }
     }
 }

@@ -1,5 +1,5 @@
 //! What an operation makes of the end of a writer's round, where its pages stand, and of the end of a change.
-ghost use Rattle.std.specs.Prelude.{◌≡◌, ◌≤◌, ◌+◌, ◌-◌, [], true, IfSome, Option, Some, IsSome, MatchOption, length, take};
+ghost use Rattle.std.specs.Prelude.{◌≡◌, ◌≤◌, ◌+◌, ◌-◌, [], true, false, IfSome, Option, Some, None, IsSome, MatchOption, length, take, option_copied};
 ghost use Rattle.bw_model.specs.Replies.{is_writer};
 ghost use Rattle.traces.specs.discipline.Knowledge.{Knowledge};
 ghost use Rattle.traces.specs.discipline.Recalled.{Recalled};
@@ -17,18 +17,20 @@ ghost use Rattle.op_machine.specs.machine.Tasks.{IsSameTask};
 ghost use Rattle.op_machine.specs.machine.Upkeep.{IsIdleFor, IsUpkeepFor};
 ghost use Rattle.rounds.specs.WriteRounds.{ended_write};
 ghost use Rattle.structure_changes.specs.Reads.{IsReadPage};
+ghost use Rattle.structure_changes.specs.Sizes.{HasManyItems};
+ghost use Rattle.structure_changes.specs.Splits.{CanSplit};
 ghost use Rattle.structure_changes.specs.Versions.{Version};
 
 use crate::places::Places;
 use crate::short_reply::{ShortReply, Which};
 use crate::task::Task;
 use crate::then::Then;
-use bw_model::Command;
+use bw_model::{Command, Value};
 use change_machine::{End, Spares, plans_may_be_linked};
 use rounds::{WriteEndKind, WriteRound};
 use row_search::{KeyWords, Rows};
 use std::alloc::Allocator;
-use structure_changes::{After, Plan, plan_upkeep};
+use structure_changes::{After, Plan, plan_split, plan_upkeep};
 use traces::{chains_make_pages, updates_fit};
 
 impl Task {
@@ -84,7 +86,7 @@ impl Task {
         ensures goes { AfterLeaf places.old.writer.round.parent places.old.writer.page (state_of places.new) }
     {
         match self.errand() {
-            None => self.tend_leaf(spares, places, rows, pass),
+            None => self.end_at_own_leaf(spares, places, rows, pass),
             Some(_) => {
                 self.finish_errand();
                 self.begin_round(places);
@@ -92,7 +94,33 @@ impl Task {
         }
     }
 
+    /// At the leaf of its key a deletion or a tidying tends the leaf; any other command is executed.
+    fn end_at_own_leaf<R: Rows, A: Allocator>(
+        &self,
+        spares: &Spares,
+        places: &mut Places<R, A>,
+        rows: &R,
+        pass: &mut R::Pass,
+    )
+        requires have { HaveLimits self.now.limits places.old }
+        requires faced { (k : Knowledge) × (r : Recalled) × IsAtLeafBelow self.now spares.now k r places.old.writer.round.parent places.old.writer.page × AreThere (R.has rows.now pass.old) k }
+        requires last { self.now.errands ≡ [] }
+        ensures looks { pass.new ≡ pass.old }
+        ensures stands { (k : Knowledge) (r : Recalled) → IsAtLeafBelow self.now spares.now k r places.old.writer.round.parent places.old.writer.page
+            → ShowsState self.now spares.now k r (state_of places.new) }
+        ensures few { (r : Recalled) → left_at self.now.limits r spares.now (state_of places.new) ≤ few_changes self.now.limits + 1 }
+        ensures asks { IsSome (wanted_at spares.now (state_of places.new)) }
+        ensures have { HaveLimits self.now.limits places.new }
+        ensures goes { AfterLeaf places.old.writer.round.parent places.old.writer.page (state_of places.new) }
+    {
+        if self.tends() {
+            return self.tend_leaf(spares, places, rows, pass);
+        }
+        self.execute_at_leaf(spares, places, rows, pass)
+    }
+
     /// At the leaf of its key a deletion or a tidying removes a small leaf first; then the command is executed.
+    #[inline(never)]
     fn tend_leaf<R: Rows, A: Allocator>(
         &self,
         spares: &Spares,
@@ -113,12 +141,7 @@ impl Task {
     {
         plans_may_be_linked();
         match self.upkeep_at(places.writer(), rows, pass) {
-            Some(mut plan) => places.begin_change(
-                self,
-                spares,
-                &mut plan,
-                Then::After(After::Round),
-            ),
+            Some(plan) => places.begin_planned(self, spares, plan, After::Round),
             None => self.execute_at_leaf(spares, places, rows, pass),
         }
     }
@@ -144,7 +167,7 @@ impl Task {
     }
 
     /// At the leaf of its key the command answers, where nothing is to be changed, a tidying so that nothing is left to do; else
-    /// its update is linked.
+    /// its update is linked, in a large tree after a split, where it adds an item and the leaf has many.
     #[inline(never)]
     fn execute_at_leaf<R: Rows, A: Allocator>(
         &self,
@@ -176,12 +199,67 @@ impl Task {
         if !self.command().changes(old.as_ref()) {
             return places.leave(reply);
         }
-        let mut plan = Plan::Install {
-            pid: leaf.pid(),
-            head: leaf.head(),
-            content: self.update_over(old.as_ref(), leaf.head()),
-        };
-        places.begin_change(self, spares, &mut plan, Then::Reply(reply))
+        if self.splits_first(old.as_ref(), places.writer(), rows, pass) {
+            return self.split_leaf(spares, places, rows, pass);
+        }
+        let update = self.update_over(old.as_ref(), leaf.head());
+        places.begin_update(self, spares, &update, reply)
+    }
+
+    /// Whether the leaf is split before an update: in a large tree, where it adds an item to a leaf that has many.
+    fn splits_first<R: Rows, A: Allocator>(
+        &self,
+        old: Option<&Value>,
+        round: &WriteRound<R, A>,
+        rows: &R,
+        pass: &mut R::Pass,
+    ) -> bool
+        requires page { IsReadPage (R.has rows.now pass.old) round.now.page }
+        ensures looks { pass.new ≡ pass.old }
+        ensures many { result ≡ true → HasManyItems round.now.page.chain }
+        ensures few { result ≡ false → self.now.limits.is_large ≡ true → option_copied old.entry ≡ None → ¬ HasManyItems round.now.page.chain }
+    {
+        if !self.limits().is_large {
+            return false;
+        }
+        if old.is_some() {
+            return false;
+        }
+        round.is_wide(rows, pass)
+    }
+
+    /// The leaf, which has many items, is split, before an update adds one.
+    #[inline(never)]
+    fn split_leaf<R: Rows, A: Allocator>(
+        &self,
+        spares: &Spares,
+        places: &mut Places<R, A>,
+        rows: &R,
+        pass: &mut R::Pass,
+    )
+        requires have { HaveLimits self.now.limits places.old }
+        requires faced { (k : Knowledge) × (r : Recalled) × IsAtLeaf self.now spares.now k r places.old.writer.page × AreThere (R.has rows.now pass.old) k }
+        requires can { CanSplit places.old.writer.page }
+        ensures looks { pass.new ≡ pass.old }
+        ensures stands { (k : Knowledge) (r : Recalled) → IsAtLeaf self.now spares.now k r places.old.writer.page → ShowsState self.now spares.now k r (state_of places.new) }
+        ensures few { (r : Recalled) → left_at self.now.limits r spares.now (state_of places.new) ≤ few_changes self.now.limits + 1 }
+        ensures asks { IsSome (wanted_at spares.now (state_of places.new)) }
+        ensures have { HaveLimits self.now.limits places.new }
+        ensures goes { (parent : Option Version) → AfterLeaf parent places.old.writer.page (state_of places.new) }
+    {
+        plans_may_be_linked();
+        let leaf = places.writer().page();
+        match plan_split(leaf, rows, pass) {
+            Some(split) => {
+                let separator = split.upper.low().copied();
+                let plan = Plan::Split {
+                    pid: leaf.pid(),
+                    plan: split,
+                };
+                places.begin_planned(self, spares, plan, After::Errand(separator))
+            }
+            None => unreachable!(),
+        }
     }
 
     /// A change begins that is due where the round ended.
@@ -197,9 +275,7 @@ impl Task {
         ensures goes { BeginsPlan places.old.writer.plan (state_of places.new) }
     {
         plans_may_be_linked();
-        let mut plan = Plan::default();
-        let after = places.take_due(&mut plan);
-        places.begin_change(self, spares, &mut plan, Then::After(after))
+        places.begin_due(self, spares)
     }
 
     /// An update that won has its reply; any other change is followed by a new round, and one for which nothing was free by none.

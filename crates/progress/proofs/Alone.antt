@@ -4,7 +4,7 @@ use Rattle.progress.proofs.Words.{mul-le-mul_left, cases_lt, All-weaker, count_b
 use Rattle.progress.proofs.Words.{◌||◌, slice_get, slice_range, Limits, Whether, TakePid, TakeRow, Entry, Begin, Step, cause_worth, Happens}
 use Rattle.progress.proofs.Words.{memory_at, HasFewChanges, AreAmong, ChangesTree, IsDirect, IsRun, KeepsPhases}
 use Rattle.progress.proofs.Words.{is_begin, steps_from, Hinders, RunsAlone, Command}
-use Rattle.op_machine.specs.theorem.UntilRemoval.{EndAloneUntilRemoval}
+use Rattle.linearization.specs.UntilRemoval.{EndAloneUntilRemoval}
 use Rattle.progress.proofs.Hindering.{among_hinder, changes_at, hinder, takes_beside, paid_by_hinder}
 use Rattle.progress.proofs.Later.{paid_since}
 use Rattle.progress.proofs.Tallies.{counted_range, listed, passes, passes_in, tally, tally_none, tally_split}

@@ -4,8 +4,8 @@ use Rattle.progress.proofs.Words.{cause_worth, IsRun, memory_at, IsOperation, Op
 use Rattle.bw_model.specs.declared.step.Answer.TheVariants.{Content}
 use Rattle.bw_model.specs.declared.step.Step.TheVariants.{Row}
 use Rattle.deltas.specs.declared.record.Record.TheVariants as delta
-use Rattle.op_machine.specs.theorem.Direct.{IsCause, IsDirect, Meets}
-use Rattle.op_machine.specs.theorem.UntilRemoval.{ReadersEndUntilRemoval}
+use Rattle.linearization.specs.Direct.{IsCause, IsDirect, Meets}
+use Rattle.linearization.specs.UntilRemoval.{ReadersEndUntilRemoval}
 use Rattle.progress.proofs.Cleared.{was_removed}
 use Rattle.progress.proofs.Placed.{none_stands}
 

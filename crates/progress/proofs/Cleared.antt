@@ -3,8 +3,8 @@ use Rattle.progress.proofs.Words.{◌≡◌, ◌≢◌, ◌<◌, ◌⊎◌, ℕ,
 use Rattle.progress.proofs.Words.{merges, unterms, reuses}
 use Rattle.deltas.specs.declared.record.Record.TheVariants as delta
 use Rattle.deltas.specs.declared.record.Remove.{Remove}
-use Rattle.op_machine.specs.theorem.Links.{Installs}
-use Rattle.op_machine.specs.theorem.Phases.{Phase, MovesPhase, MovesAt, IsInPhase, KeepsPhases, first_phase, free, indexed, owned, removed, merged, cleared}
+use Rattle.linearization.specs.Links.{Installs}
+use Rattle.linearization.specs.Phases.{Phase, MovesPhase, MovesAt, IsInPhase, KeepsPhases, first_phase, free, indexed, owned, removed, merged, cleared}
 
 -- the phase in which a move to each one started, where it was one alone; and what removed a page
 abbrev pub CameBy : Memory → Entry → ℕ → Phase → Phase → Type 0

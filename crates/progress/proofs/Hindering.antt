@@ -5,7 +5,7 @@ use Rattle.progress.proofs.Words.{Memory, not_true, Entry, Step, cause_worth, Is
 use Rattle.progress.proofs.Words.{TakesOwnStep, IsInPhase, KeepsPhases, owned, AreAmong, ChangesTree, PlacesNoRemoval, steps_from, takes_number}
 use Rattle.bw_model.specs.declared.step.Link.TheVariants as link
 use Rattle.bw_model.specs.declared.step.Step.TheVariants.{Exchange, Slot, TakePid, TakeRow}
-use Rattle.op_machine.specs.theorem.Progress.{Hinders, TakesBeside}
+use Rattle.linearization.specs.Progress.{Hinders, TakesBeside}
 use Rattle.progress.proofs.Begun.{one_of}
 use Rattle.progress.proofs.Between.{take_of}
 use Rattle.progress.proofs.Counted.{Each}

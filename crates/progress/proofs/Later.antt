@@ -5,7 +5,7 @@ use Rattle.progress.proofs.Words.{mul-le-mul_left, cases_lt, All, Limits, Number
 use Rattle.progress.proofs.Words.{TakesNone}
 use Rattle.progress.proofs.Words.{IsOperation, IsOwnStep, Operation, TakesOwnStep, KeepsPhases, PlacesNoRemoval, steps_from}
 use Rattle.bw_model.specs.declared.step.Step.TheVariants.{Exchange, Slot}
-use Rattle.op_machine.specs.theorem.UntilRemoval.{OperationsEndUntilRemoval}
+use Rattle.linearization.specs.UntilRemoval.{OperationsEndUntilRemoval}
 use Rattle.progress.proofs.Counted.{AreDistinct, Each}
 use Rattle.progress.proofs.Hindering.{among_hinder, hinder, paid_by_hinder, pays_hinder}
 use Rattle.progress.proofs.Numbered.{IsIn, numbered}

@@ -5,8 +5,8 @@ use Rattle.progress.proofs.Words.{Happens-kept, wanted_by, State, Begun, Epoch, 
 use Rattle.progress.proofs.Words.{AreAmong, ChangesTree, steps_from, RunsAlone, IsLast, IsState}
 use Rattle.std.proofs.lemmas.List.{drop-append-le, length-drop, take-append-le, take_all, take_rest}
 use Rattle.traces.proofs.Pushes.{pushed_length, slice_get_below, take-push}
-use Rattle.op_machine.specs.theorem.Readers.{IsReading}
-use Rattle.op_machine.specs.theorem.ReadersEnd.{ReadersEnd, one_memory}
+use Rattle.linearization.specs.Readers.{IsReading}
+use Rattle.linearization.specs.ReadersEnd.{ReadersEnd, one_memory}
 use Rattle.tree_law.specs.TraceLaws.{Opens}
 use Rattle.tree_law.proofs.trace.Owned.{operation_old, step_below, step_cases}
 use Rattle.tree_law.specs.Direct.{IsDirectState}

@@ -3,7 +3,7 @@ use Rattle.progress.proofs.Words.{◌≡◌, Bool, true, false, refl, Place, Ent
 use Rattle.std.specs.Prelude.{None}
 use Rattle.bw_model.specs.declared.step.Answer.TheVariants.{Done}
 use Rattle.deltas.specs.declared.record.Record.TheVariants.{Remove}
-use Rattle.op_machine.proofs.Listed.{passes_at}
+use Rattle.linearization.proofs.Listed.{passes_at}
 
 places_none : Entry → Bool
 places_none (Step actor (Place row (Remove remove)) answer reply) = false

@@ -11,7 +11,7 @@ use Rattle.round_model.specs.Descents.{Descent, Page, Root}
 use Rattle.round_model.specs.ReadRounds.{ReadRound, TreatsRead, left_of, read_way, reading, wanted_step}
 use Rattle.round_model.specs.Rounds.{Responds}
 use Rattle.round_model.specs.Visits.{Row, Slot, Visit, Whole, to_page}
-use Rattle.op_machine.specs.theorem.Examples.{hold_leaf, new_leaf, opening_leaf, remove_leaf, root, small, split_away}
+use Rattle.linearization.specs.Examples.{hold_leaf, new_leaf, opening_leaf, remove_leaf, root, small, split_away}
 use Rattle.tree_law.proofs.shape.KeyOrder.{by_key}
 use Rattle.progress.specs.RoundExample.{beside_removal, get_x, lookup_rounds, removed_read, root_read, round_at, wrong_rounds}
 

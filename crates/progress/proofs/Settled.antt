@@ -3,7 +3,7 @@ use Rattle.progress.proofs.Words.{◌≡◌, ◌≢◌, ◌<◌, ◌≤◌, ℕ,
 use Rattle.progress.proofs.Words.{Entry, IsInPhase, KeepsPhases, MovesAt, MovesPhase, Phase, cleared, free, owned, takes, splits, becomes_root, terms, under_root, holds, removes, merges}
 use Rattle.progress.proofs.Words.{unterms, reuses, PlacesNoRemoval}
 use Rattle.traces.specs.trace.Trace.{IsStep}
-use Rattle.op_machine.proofs.PhaseLaws.{is_taken}
+use Rattle.linearization.proofs.PhaseLaws.{is_taken}
 use Rattle.progress.proofs.Cleared.{begins_in_use, came_by, came_from, was_removed}
 use Rattle.progress.proofs.Placed.{none_stands}
 

@@ -4,8 +4,8 @@ use Rattle.progress.proofs.Words.{mul-add, mul-le-mul_left, cases_lt, eqb_tells,
 use Rattle.progress.proofs.Words.{Step, cause_worth, IsRun, Happens}
 use Rattle.progress.proofs.Words.{command_of, commands_after, HasFewChanges, IsDirect, KeepsPhases, is_step_of, IsOperation, IsOwnStep, Operation}
 use Rattle.progress.proofs.Words.{get_take, take_past}
-use Rattle.op_machine.specs.theorem.Progress.{AreAmong, ChangesTree, is_begin, is_end, is_step, steps_from, takes_number}
-use Rattle.op_machine.specs.theorem.UntilRemoval.{AreLockFreeUntilRemoval, PlacesNoRemoval}
+use Rattle.linearization.specs.Progress.{AreAmong, ChangesTree, is_begin, is_end, is_step, steps_from, takes_number}
+use Rattle.linearization.specs.UntilRemoval.{AreLockFreeUntilRemoval, PlacesNoRemoval}
 use Rattle.progress.proofs.Begun.{LastBegin, actor_below, begins_here, command_next, last_begin, one_on}
 use Rattle.progress.proofs.Hindering.{happens, hinder, hinder_parts, is_change, paid_by_hinder}
 use Rattle.progress.proofs.Tallies.{counted_range, counted_taken, listed, one_at_most, passes, passes_in, sum, sum_both, sum_less, sum_none, sum_one, sum_worth}

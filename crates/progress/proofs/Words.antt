@@ -26,7 +26,7 @@ pub use Rattle.bw_model.specs.declared.step.Step.TheVariants.{Exchange, TakePid,
 pub use Rattle.deltas.specs.Memory.{Memory}
 pub use Rattle.deltas.specs.Records.{next_row}
 pub use Rattle.deltas.specs.declared.record.Record.{Record}
-pub use Rattle.op_machine.proofs.LogLaws.{take-one}
+pub use Rattle.linearization.proofs.LogLaws.{take-one}
 pub use Rattle.op_machine.specs.machine.Actors.{IsActorWith, command_at, wanted_by}
 pub use Rattle.op_machine.specs.machine.GoesLeft.{first_read, read_left_of}
 pub use Rattle.op_machine.specs.machine.Hands.{Hand}
@@ -35,16 +35,16 @@ pub use Rattle.op_machine.specs.machine.RoundSteps.{AfterReading, StepsReading}
 pub use Rattle.op_machine.specs.machine.States.{State, Begun, Epoch, Enter, Read, Write, Change, Leave}
 pub use Rattle.op_machine.specs.machine.Tasks.{Task}
 pub use Rattle.op_machine.specs.machine.UnderWay.{UnderWay}
-pub use Rattle.op_machine.specs.theorem.Changes.{HasFewChanges}
-pub use Rattle.op_machine.specs.theorem.Direct.{IsExchangeOf, IsTake, TakesNone, IsCause, IsDirect, is_step_of}
-pub use Rattle.op_machine.specs.theorem.Examples.{insert_and_lookup, page_life, small}
-pub use Rattle.op_machine.specs.theorem.Links.{link_of}
-pub use Rattle.op_machine.specs.theorem.Operations.{Operation, TakesOwnStep, IsOperation, IsOwnStep}
-pub use Rattle.op_machine.specs.theorem.Phases.{Phase, MovesPhase, MovesAt, IsInPhase, KeepsPhases, free, owned, cleared, takes, removes, merges, unterms, reuses, splits, becomes_root}
-pub use Rattle.op_machine.specs.theorem.Phases.{terms, under_root, holds}
-pub use Rattle.op_machine.specs.theorem.Progress.{AreAmong, ChangesTree, Hinders, RunsAlone, steps_from, takes_number, is_begin}
-pub use Rattle.op_machine.specs.theorem.ReadersEnd.{one_memory}
-pub use Rattle.op_machine.specs.theorem.UntilRemoval.{PlacesNoRemoval}
+pub use Rattle.linearization.specs.Changes.{HasFewChanges}
+pub use Rattle.linearization.specs.Direct.{IsExchangeOf, IsTake, TakesNone, IsCause, IsDirect, is_step_of}
+pub use Rattle.linearization.specs.Examples.{insert_and_lookup, page_life, small}
+pub use Rattle.linearization.specs.Links.{link_of}
+pub use Rattle.linearization.specs.Operations.{Operation, TakesOwnStep, IsOperation, IsOwnStep}
+pub use Rattle.linearization.specs.Phases.{Phase, MovesPhase, MovesAt, IsInPhase, KeepsPhases, free, owned, cleared, takes, removes, merges, unterms, reuses, splits, becomes_root}
+pub use Rattle.linearization.specs.Phases.{terms, under_root, holds}
+pub use Rattle.linearization.specs.Progress.{AreAmong, ChangesTree, Hinders, RunsAlone, steps_from, takes_number, is_begin}
+pub use Rattle.linearization.specs.ReadersEnd.{one_memory}
+pub use Rattle.linearization.specs.UntilRemoval.{PlacesNoRemoval}
 pub use Rattle.round_model.proofs.Responding.{by_step}
 pub use Rattle.round_model.specs.Descents.{Page, Root, WayState}
 pub use Rattle.round_model.specs.ReadEnds.{ReadEnd, Again, Removed, Leaf, Beside}

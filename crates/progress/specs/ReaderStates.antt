@@ -20,9 +20,9 @@ use Rattle.op_machine.specs.machine.Actors.{Actor, ActsOn, IsActor, command_left
 use Rattle.op_machine.specs.machine.States.{State, Begun, Epoch, Enter, Read, Leave}
 use Rattle.op_machine.specs.machine.Tasks.{Task}
 use Rattle.op_machine.specs.machine.UnderWay.{UnderWay}
-use Rattle.op_machine.specs.theorem.Direct.{IsDirect, is_step_of}
-use Rattle.op_machine.specs.theorem.Progress.{ChangesTree}
-use Rattle.op_machine.specs.theorem.ReadersEnd.{ReadersEnd, one_memory}
+use Rattle.linearization.specs.Direct.{IsDirect, is_step_of}
+use Rattle.linearization.specs.Progress.{ChangesTree}
+use Rattle.linearization.specs.ReadersEnd.{ReadersEnd, one_memory}
 use Rattle.tree_law.specs.Direct.{IsLast}
 use Rattle.tree_law.specs.State.{IsState, operation_from}
 use Rattle.progress.specs.ReadersAmong.{AreLawful, Moment, all_changes, own_steps}

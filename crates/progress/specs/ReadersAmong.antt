@@ -19,8 +19,8 @@ use Rattle.round_model.specs.ReadRounds.{ReadRound, Shows, wanted_step}
 use Rattle.op_machine.specs.machine.RoundSteps.{StepsReading}
 use Rattle.op_machine.specs.machine.States.{Read}
 use Rattle.op_machine.specs.machine.Tasks.{Task}
-use Rattle.op_machine.specs.theorem.Direct.{IsDirect, is_step_of}
-use Rattle.op_machine.specs.theorem.Links.{link_of}
+use Rattle.linearization.specs.Direct.{IsDirect, is_step_of}
+use Rattle.linearization.specs.Links.{link_of}
 use Rattle.tree_law.specs.State.{IsState}
 use Rattle.progress.specs.RoundsEnd.{one_walk}
 

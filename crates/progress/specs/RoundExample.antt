@@ -13,7 +13,7 @@ use Rattle.round_model.specs.ReadRounds.{ReadRound}
 use Rattle.round_model.specs.Visits.{Slot, Row, VisitState}
 use Rattle.op_machine.specs.machine.GoesLeft.{first_read, read_left_of}
 use Rattle.op_machine.specs.machine.Tasks.{Task}
-use Rattle.op_machine.specs.theorem.Examples.{hold_leaf, new_leaf, page_life, remove_leaf, root, small, split_away}
+use Rattle.linearization.specs.Examples.{hold_leaf, new_leaf, page_life, remove_leaf, root, small, split_away}
 
 -- Page 3 is the root, above the leaves 1 and 2; the term of page 2, at "m", is held.
 abbrev pub beside_removal : Memory

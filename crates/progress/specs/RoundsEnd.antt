@@ -14,7 +14,7 @@ use Rattle.structure_changes.specs.Versions.{Version}
 use Rattle.round_model.specs.ReadRounds.{ReadRound, Shows}
 use Rattle.op_machine.specs.machine.GoesLeft.{first_read, read_left_of}
 use Rattle.op_machine.specs.machine.Tasks.{Task}
-pub use Rattle.op_machine.specs.theorem.ReadersEnd.{one_walk}
+pub use Rattle.linearization.specs.ReadersEnd.{one_walk}
 use Rattle.tree_law.specs.LevelPages.{IsPageOn}
 use Rattle.tree_law.specs.OneMemory.{HasWholeTree}
 use Rattle.tree_law.specs.State.{IsState}

@@ -3,10 +3,10 @@ use Rattle.std.specs.Prelude.{List}
 use Rattle.tree_limits.specs.declared.limits.Limits.{Limits}
 use Rattle.traces.specs.declared.trace.Entry.{Entry}
 use Rattle.traces.specs.trace.Run.{IsRun}
-use Rattle.op_machine.specs.theorem.Changes.{HasFewChanges}
-use Rattle.op_machine.specs.theorem.Direct.{IsDirect}
-use Rattle.op_machine.specs.theorem.Phases.{KeepsPhases}
-use Rattle.op_machine.specs.theorem.UntilRemoval.{MakesProgressUntilRemoval}
+use Rattle.linearization.specs.Changes.{HasFewChanges}
+use Rattle.linearization.specs.Direct.{IsDirect}
+use Rattle.linearization.specs.Phases.{KeepsPhases}
+use Rattle.linearization.specs.UntilRemoval.{MakesProgressUntilRemoval}
 
 -- In a run that keeps phases, is direct and has few changes, nothing costs a reader steps, and only changes of the tree and numbers that others take
 -- cost another operation any; an operation that runs alone ends, and all together take few steps.

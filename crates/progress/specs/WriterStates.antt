@@ -20,8 +20,8 @@ use Rattle.change_machine.specs.Changes.{has_decided}
 use Rattle.op_machine.specs.machine.Actors.{Actor, ActsOn, IsActor, command_left, running_command, wanted_by}
 use Rattle.op_machine.specs.machine.States.{State, Begun, Epoch, Enter, Read, Write, Change, Leave}
 use Rattle.op_machine.specs.machine.UnderWay.{UnderWay}
-use Rattle.op_machine.specs.theorem.Direct.{IsDirect}
-use Rattle.op_machine.specs.theorem.Progress.{ChangesTree}
+use Rattle.linearization.specs.Direct.{IsDirect}
+use Rattle.linearization.specs.Progress.{ChangesTree}
 use Rattle.tree_law.specs.Direct.{IsLast}
 use Rattle.tree_law.specs.State.{IsState, operation_from}
 use Rattle.progress.specs.Writers.{MeetsSeldom}

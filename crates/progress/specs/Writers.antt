@@ -5,12 +5,12 @@ use Rattle.tree_limits.specs.declared.limits.Limits.{Limits}
 use Rattle.bw_model.specs.Replies.{is_writer}
 use Rattle.traces.specs.declared.trace.Entry.{Entry}
 use Rattle.traces.specs.trace.Run.{IsRun}
-use Rattle.op_machine.specs.theorem.Changes.{HasFewChanges}
-use Rattle.op_machine.specs.theorem.Direct.{IsDirect}
-use Rattle.op_machine.specs.theorem.Operations.{IsOperation, IsOwnStep, Operation}
-use Rattle.op_machine.specs.theorem.Progress.{AreAmong, ChangesTree}
-use Rattle.op_machine.specs.theorem.ReadersEnd.{ReadersEnd}
-use Rattle.op_machine.specs.theorem.Whole.{MakesProgress, most_meets}
+use Rattle.linearization.specs.Changes.{HasFewChanges}
+use Rattle.linearization.specs.Direct.{IsDirect}
+use Rattle.linearization.specs.Operations.{IsOperation, IsOwnStep, Operation}
+use Rattle.linearization.specs.Progress.{AreAmong, ChangesTree}
+use Rattle.linearization.specs.ReadersEnd.{ReadersEnd}
+use Rattle.linearization.specs.Whole.{MakesProgress, most_meets}
 use Rattle.progress.specs.WritersAmong.{meets_at}
 
 module _ (limits : Limits) (entries : List Entry) where

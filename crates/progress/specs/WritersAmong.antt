@@ -24,7 +24,7 @@ use Rattle.round_model.specs.WriteResponses.{writing}
 use Rattle.round_model.specs.WriteRounds.{WriteRound, wanted_step}
 use Rattle.round_model.specs.WriteRounds as write
 use Rattle.op_machine.specs.machine.GoesLeft.{write_left_of}
-use Rattle.op_machine.specs.theorem.Direct.{IsDirect}
+use Rattle.linearization.specs.Direct.{IsDirect}
 use Rattle.tree_law.specs.State.{IsState}
 use Rattle.progress.specs.ReadersAmong.{IsOthers, changes_tree}
 

@@ -11,7 +11,7 @@
 //! changes, and the numbers that others take, pay for all steps.
 //!
 //! Called by `step_core` and `running_tree`, whose contracts have the bounds of their runs; the other laws are for whoever needs them. It knows the theorem
-//! about a trace (`op_machine`, specs/theorem), and, for readers beside removals, the invariant of the law, what an actor keeps, and what a reader's rounds
+//! about a trace (`linearization`), and, for readers beside removals, the invariant of the law, what an actor keeps, and what a reader's rounds
 //! make of an answer.
 #![tactic(auto)]
 

@@ -1,5 +1,5 @@
 -- A writer's pages in hand, while other pages are read.
-use Rattle.round_model.proofs.Words.{◌≡◌, ◌≢◌, ◌<◌, ◌++◌, ◌⊎◌, inl, inr, ℕ, zero, suc, List, [], ◌∷◌, Option, Some, None, refl, sym, ap, ◌∙◌, false, arith, IfSome, IsFalse, IsTrue, ⊤}
+use Rattle.round_model.proofs.Words.{◌≡◌, ◌≢◌, ◌<◌, ◌++◌, ◌⊎◌, inl, inr, ℕ, zero, suc, List, [], ◌∷◌, Bool, Option, Some, None, refl, sym, ap, ◌∙◌, false, true, arith, IfSome, IsFalse, IsTrue, ⊤}
 use Rattle.round_model.proofs.Words.{eqb_tells, IfSome_then, Limits, Answer, Record, next_row, level_in, Fits, FitsRow, Knowledge, learn, learn_slot, IsUnread, Recalled, is_lower, recall}
 use Rattle.round_model.proofs.Words.{IsAfter, Version, HasArrived, IsAmongPids, IsLosingTerm, IsMissing, KeepsToWrite, is_cutting, write_way, IsBased, IsLed, IsLeftOf, IsKept, VisitsToWrite}
 use Rattle.round_model.proofs.Words.{SeeksLeaf}
@@ -39,7 +39,7 @@ Passed limits key floor k now pid earlier (Merge left) = IsKept limits now left 
 Passed limits key floor k now pid earlier (Unterm parent left) = IsLosingTerm limits now earlier parent left
 
 -- A page was read whole, on the way of the goal.
-pub record HasReached (limits : Limits) (key : List ℕ) (floor : ℕ) (goal : WriteGoal) (parent left : Option Version) (k now : Knowledge) (r : Recalled) (version : Version) : Type 0 where
+pub record HasReached (limits : Limits) (key : List ℕ) (floor : ℕ) (splits : Bool) (goal : WriteGoal) (parent left : Option Version) (k now : Knowledge) (r : Recalled) (version : Version) : Type 0 where
   pub level : ℕ
   pub low : List ℕ
   pub earlier : List ℕ
@@ -49,12 +49,12 @@ pub record HasReached (limits : Limits) (key : List ℕ) (floor : ℕ) (goal : W
   pub above : IfSome parent (LiesAbove limits now version earlier)
   pub aside : IfSome left (IsLeftOf limits now low earlier)
   pub based : IsBased r parent left version.pid low
-  pub led : SeeksLeaf goal → IsLed (write_way goal key) parent left version.pid level low
+  pub led : SeeksLeaf goal → splits ≡ true → IsLed (write_way goal key) parent left version.pid level low
   pub passed : Passed limits key floor k now version.pid earlier goal
 
-module _ (limits : Limits) (key : List ℕ) (floor : ℕ) (goal : WriteGoal) (parent left : Option Version) (k : Knowledge) (r : Recalled) (visit : Visit) where
+module _ (limits : Limits) (key : List ℕ) (floor : ℕ) (splits : Bool) (goal : WriteGoal) (parent left : Option Version) (k : Knowledge) (r : Recalled) (visit : Visit) where
   abbrev Visits : VisitState → Type 0
-  Visits state = VisitsToWrite limits key floor goal parent left k r (at visit state)
+  Visits state = VisitsToWrite limits key floor splits goal parent left k r (at visit state)
 
   recall_root : (pid n : ℕ) → 0 < pid → (recall r (step.Slot pid) (answer.Number n)).heads 0 ≡ r.heads 0
   recall_root zero n some = absurd (omega (arith, some))
@@ -88,7 +88,7 @@ module _ (limits : Limits) (key : List ℕ) (floor : ℕ) (goal : WriteGoal) (pa
   }
 
   visits_slot : (row : ℕ) → 0 < row → row < visit.limits.rows → Visits Slot
-      → VisitsToWrite limits key floor goal parent left (learn k (step.Slot visit.pid) (answer.Number row)) (recall r (step.Slot visit.pid) (answer.Number row))
+      → VisitsToWrite limits key floor splits goal parent left (learn k (step.Slot visit.pid) (answer.Number row)) (recall r (step.Slot visit.pid) (answer.Number row))
       (record visit { part = []; state = Row row row })
   visits_slot row linked few h =
       let some = h.seeks.on_way.shows.page in
@@ -145,7 +145,7 @@ module _ (limits : Limits) (key : List ℕ) (floor : ℕ) (goal : WriteGoal) (pa
     passed_row pid earlier (Unterm above at_left) h = cut_row above at_left earlier h
 
     visits_row : (head under : ℕ) → next_row content ≡ Some under → Visits (Row head row)
-        → VisitsToWrite limits key floor goal parent left now walked (record visit { part = visit.part ++ content ∷ []; state = Row head under })
+        → VisitsToWrite limits key floor splits goal parent left now walked (record visit { part = visit.part ++ content ∷ []; state = Row head under })
     visits_row head under more h = record {
       level = h.level;
       low = h.low;
@@ -159,7 +159,7 @@ module _ (limits : Limits) (key : List ℕ) (floor : ℕ) (goal : WriteGoal) (pa
     }
 
     reaches_whole : (version : Version) → version.pid ≡ visit.pid → version.chain ≡ visit.part ++ content ∷ [] → next_row content ≡ None
-        → Visits (Row version.head row) → HasReached limits key floor goal parent left k now walked version
+        → Visits (Row version.head row) → HasReached limits key floor splits goal parent left k now walked version
     reaches_whole version pid made last h =
         let here = arrived limits (write_way goal key) (is_cutting goal) k r visit h.level h.low h.earlier row content fits version pid made last h.seeks in
         record {
@@ -181,33 +181,33 @@ module _ (limits : Limits) (key : List ℕ) (floor : ℕ) (goal : WriteGoal) (pa
         }
 
 -- the same by what a visit makes of an answer
-module _ (limits : Limits) (key : List ℕ) (floor : ℕ) (goal : WriteGoal) (parent left : Option Version) (k : Knowledge) (r : Recalled) (visit : Visit)
-    (told : Answer Record) (h : VisitsToWrite limits key floor goal parent left k r visit) (f : Fits limits k (wanted_step visit) told) where
+module _ (limits : Limits) (key : List ℕ) (floor : ℕ) (splits : Bool) (goal : WriteGoal) (parent left : Option Version) (k : Knowledge) (r : Recalled) (visit : Visit)
+    (told : Answer Record) (h : VisitsToWrite limits key floor splits goal parent left k r visit) (f : Fits limits k (wanted_step visit) told) where
   abbrev VisitsAt : Visit → Answer Record → Type 0
-  VisitsAt v x = VisitsToWrite limits key floor goal parent left k r v
+  VisitsAt v x = VisitsToWrite limits key floor splits goal parent left k r v
 
   abbrev FitsAt : Visit → Answer Record → Type 0
   FitsAt v x = Fits limits k (wanted_step v) x
 
   pub visits_next : (new : Visit) → FindsHead visit told new ⊎ Continues visit told new
-      → VisitsToWrite limits key floor goal parent left (learn k (wanted_step visit) told) (recall r (wanted_step visit) told) new
+      → VisitsToWrite limits key floor splits goal parent left (learn k (wanted_step visit) told) (recall r (wanted_step visit) told) new
   visits_next new moves =
-      let P : Visit → Answer Record → Type 0 = λ v x. VisitsToWrite limits key floor goal parent left (learn k (wanted_step v) x) (recall r (wanted_step v) x) new in
+      let P : Visit → Answer Record → Type 0 = λ v x. VisitsToWrite limits key floor splits goal parent left (learn k (wanted_step v) x) (recall r (wanted_step v) x) new in
       elim moves [
-        | inl b ↦ back visit P Slot (answer.Number b.row) told b.asked b.is (rw b.goes (visits_slot limits key floor goal parent left k r visit b.row b.some
+        | inl b ↦ back visit P Slot (answer.Number b.row) told b.asked b.is (rw b.goes (visits_slot limits key floor splits goal parent left k r visit b.row b.some
             (rw h.seeks.on_way.same (row_below limits k visit.pid b.row h.seeks.on_way.shows.page (there visit FitsAt Slot (answer.Number b.row) told b.asked b.is f)))
             (there visit VisitsAt Slot (answer.Number b.row) told b.asked b.is h)))
         | inr b ↦
             let fits = there visit FitsAt (Row b.head b.row) (answer.Content b.content) told b.asked b.is f in
             back visit P (Row b.head b.row) (answer.Content b.content) told b.asked b.is
-            (rw b.goes (visits_row limits key floor goal parent left k r visit b.row b.content fits b.head b.under b.more
+            (rw b.goes (visits_row limits key floor splits goal parent left k r visit b.row b.content fits b.head b.under b.more
             (there visit VisitsAt (Row b.head b.row) (answer.Content b.content) told b.asked b.is h)))
       ]
 
-  pub reached_next : (version : Version) → Completes visit told version → HasReached limits key floor goal parent left k (learn k (wanted_step visit) told) (recall r (wanted_step visit) told) version
+  pub reached_next : (version : Version) → Completes visit told version → HasReached limits key floor splits goal parent left k (learn k (wanted_step visit) told) (recall r (wanted_step visit) told) version
   reached_next version b =
       let fits = there visit FitsAt (Row version.head b.row) (answer.Content b.content) told b.asked b.is f in
-      back visit (λ v x. HasReached limits key floor goal parent left k (learn k (wanted_step v) x) (recall r (wanted_step v) x) version)
+      back visit (λ v x. HasReached limits key floor splits goal parent left k (learn k (wanted_step v) x) (recall r (wanted_step v) x) version)
       (Row version.head b.row) (answer.Content b.content) told b.asked b.is
-      (reaches_whole limits key floor goal parent left k r visit b.row b.content fits version b.pid b.chain b.last
+      (reaches_whole limits key floor splits goal parent left k r visit b.row b.content fits version b.pid b.chain b.last
       (there visit VisitsAt (Row version.head b.row) (answer.Content b.content) told b.asked b.is h))

@@ -73,13 +73,13 @@ module _ (limits : Limits) (below : Bool) (key : List ℕ) (k now : Knowledge) (
 
   -- with a parent the page is the one to which it leads, and without one it is the first of the leaves
   pub termed : (parent left : Option Version) → IfSome parent (LiesAbove limits now version earlier) → IfSome left (IsLeftOf limits now low earlier)
-      → IsLed way parent left version.pid level low → IsSplitFinished parent left version → level_in chain ≡ 0 → IsTermed version parent
+      → IsLed way parent left version.pid level low → IsSplitFinished true parent left version → level_in chain ≡ 0 → IsTermed version parent
   termed (Some parent) None over beside led finished leaf = (led.short, (led.held, ap (content_in parent.chain) arrives.is_low ∙ led.greatest.has))
   termed (Some parent) (Some left) over beside led finished leaf = absurd (finished (posts parent over led))
   termed None None over beside led finished leaf = arrives.is_low ∙ led
   termed None (Some left) over beside led finished leaf = elim led [
     | inl index ↦ absurd (let is = at_level left beside in omega (arith, index, leaf, is))
-    | inr next ↦ absurd (finished (roots left next))
+    | inr next ↦ absurd (finished refl (roots left next))
   ]
 
   -- the round goes aside
@@ -92,11 +92,11 @@ module _ (limits : Limits) (below : Bool) (key : List ℕ) (k now : Knowledge) (
     beside_first first (suc n) is = inl (omega arith)
 
     pub led_aside : (parent left : Option Version) → IfSome parent (LiesAbove limits now version earlier) → IfSome left (IsLeftOf limits now low earlier)
-        → IsLed way parent left version.pid level low → IsSplitFinished parent left version → IsLed way parent (Some version) pid (level_in chain) leads.low
+        → IsLed way parent left version.pid level low → IsSplitFinished true parent left version → IsLed way parent (Some version) pid (level_in chain) leads.low
     led_aside (Some parent) None over beside led finished = room_at below key parent version.pid low leads.low over.kept.in_hand.sound.is_chain.fitted led span leads.on_way
     led_aside (Some parent) (Some left) over beside led finished = absurd (finished (posts parent over led))
     led_aside None None over beside led finished = beside_first led (level_in chain) refl
     led_aside None (Some left) over beside led finished = elim led [
       | inl index ↦ inl (let is = at_level left beside in omega (arith, index, is))
-      | inr next ↦ absurd (finished (roots left next))
+      | inr next ↦ absurd (finished refl (roots left next))
     ]

@@ -44,7 +44,7 @@ inner : (low high : List ℕ) → IsTrue (is_below low high) → IsTrue (is_belo
 inner low [] h = let no : is_below low [] ≡ false = not_true (is_below low []) (lowest low) in let clash : true ≡ false = sym h ∙ no in cc
 inner low (x ∷ xs) h = refl
 
-module _ (old : WriteRound) (k now : Knowledge) (r : Recalled) (version : Version) (h : HasReached old.limits old.key old.floor old.goal old.parent old.left k now r version) where
+module _ (old : WriteRound) (k now : Knowledge) (r : Recalled) (version : Version) (h : HasReached old.limits old.key old.floor old.splits old.goal old.parent old.left k now r version) where
   abbrev way : List ℕ → Bool
   way = write_way old.goal old.key
 
@@ -93,6 +93,10 @@ module _ (old : WriteRound) (k now : Knowledge) (r : Recalled) (version : Versio
       let m = made version.chain (hand old.limits k now r version h.level h.low h.earlier h.arrives).sound.is_chain.fitted in
       (m.0.items, m.1.items, lt_of_not-le (λ many. narrow (record { alive = alive; short = short; wide = (m.0.items, m.1.items, many) })))
 
+  -- what finishes a split isn't due in a round that splits pages
+  where_split : old.splits ≡ true → IsSplitFinished old.splits old.parent old.left version → IsSplitFinished true old.parent old.left version
+  where_split on finished = subst (λ (splits : Bool). IsSplitFinished splits old.parent old.left version) on finished
+
   -- goes on
 
   based_on : (parent left : Option Version) (pid : ℕ) (low : List ℕ) → IsBased r parent left version.pid h.low
@@ -101,8 +105,8 @@ module _ (old : WriteRound) (k now : Knowledge) (r : Recalled) (version : Versio
   based_on None None pid low based aside = elim based [ inl is ↦ inl is | inr above ↦ inr (rw h.arrives.is_low above) ]
   based_on None (Some other) pid low based aside = inr (rw h.arrives.is_low aside.inner)
 
-  aside : (pid : ℕ) → is_removed version.chain ≡ false → SeeksLeaf old.goal → IsSplitFinished old.parent old.left version → LeadsRight way version.chain pid
-      → VisitsToWrite old.limits old.key old.floor old.goal old.parent (Some version) now r (page.to_page old.limits pid)
+  aside : (pid : ℕ) → is_removed version.chain ≡ false → SeeksLeaf old.goal → IsSplitFinished old.splits old.parent old.left version → LeadsRight way version.chain pid
+      → VisitsToWrite old.limits old.key old.floor old.splits old.goal old.parent (Some version) now r (page.to_page old.limits pid)
   aside pid alive seeks finished leads =
       let names = right_names way version.chain pid leads in
       record {
@@ -117,12 +121,13 @@ module _ (old : WriteRound) (k now : Knowledge) (r : Recalled) (version : Versio
               (spans version.chain leads.low (hand old.limits k now r version h.level h.low h.earlier h.arrives).sound.is_chain.fitted leads.is_high);
         };
         based = based_on old.parent old.left pid leads.low h.based h.aside;
-        led = λ so. led_aside old.limits (goes_left old.goal) old.key k now r version h.level h.low h.earlier h.arrives alive pid leads old.parent old.left h.above h.aside (h.led so) finished;
+        led = λ so on. led_aside old.limits (goes_left old.goal) old.key k now r version h.level h.low h.earlier h.arrives alive pid leads old.parent old.left h.above h.aside (h.led so on)
+            (where_split on finished);
         keeps = keeps_on alive pid (level_in version.chain) leads.low names old.goal seeks leads.on_way h.passed;
       }
 
-  below : (pid : ℕ) → IsHere old version → IsFine old.limits old.due version → 0 < level_in version.chain → LeadsDown way version.chain pid
-      → VisitsToWrite old.limits old.key old.floor old.goal (Some version) None now r (page.to_page old.limits pid)
+  below : (pid : ℕ) → IsHere old version → IsFine old.limits old.due old.splits version → 0 < level_in version.chain → LeadsDown way version.chain pid
+      → VisitsToWrite old.limits old.key old.floor old.splits old.goal (Some version) None now r (page.to_page old.limits pid)
   below pid here fine index leads =
       let alive = here.alive in
       let names = down_names way version.chain pid index leads in
@@ -134,7 +139,7 @@ module _ (old : WriteRound) (k now : Knowledge) (r : Recalled) (version : Versio
         above = record { kept = kept_here alive; up = omega (arith, index); after = tt };
         aside = tt;
         based = tt;
-        led = λ so. record { short = few_deltas fine.short; roomy = few_items alive (few_deltas fine.short) fine.narrow; stays = here.stays; held = leads.held; greatest = leads.greatest };
+        led = λ so on. record { short = few_deltas fine.short; roomy = few_items alive (few_deltas fine.short) (fine.narrow on); stays = here.stays; held = leads.held; greatest = leads.greatest };
         keeps = keeps_on alive pid (level_in version.chain - 1) leads.low names old.goal here.seeks leads.greatest.passing h.passed;
       }
 
@@ -149,7 +154,7 @@ module _ (old : WriteRound) (k now : Knowledge) (r : Recalled) (version : Versio
     above_low : IsTrue (is_below [] old.key)
     above_low = inner h.low old.key left_of
 
-    back_to_merge : right_in version.chain ≡ Some pid → VisitsToWrite old.limits old.key old.floor (Merge version) None None now r (page.to_page old.limits pid)
+    back_to_merge : right_in version.chain ≡ Some pid → VisitsToWrite old.limits old.key old.floor old.splits (Merge version) None None now r (page.to_page old.limits pid)
     back_to_merge beside =
         let was = by.0 in
         let says = (h.arrives.arrives.whole.names alive was.removed.pid was.removed.head was.removed.chain was.gone.in_hand.seen.head was.gone.in_hand.seen.read).right
@@ -165,7 +170,7 @@ module _ (old : WriteRound) (k now : Knowledge) (r : Recalled) (version : Versio
           above = tt;
           aside = tt;
           based = inr above_low;
-          led = λ so. absurd so;
+          led = λ so on. absurd so;
           keeps = kept_here alive;
         }
 
@@ -182,7 +187,7 @@ module _ (old : WriteRound) (k now : Knowledge) (r : Recalled) (version : Versio
       below_limit : pid < old.limits.pids
       below_limit = subst (λ (p : ℕ). p < old.limits.pids) by.1.is by.1.gone.in_hand.page
 
-      back_to_unterm : VisitsToWrite old.limits old.key old.floor (Unterm parent version) None None now r (page.to_page old.limits pid)
+      back_to_unterm : VisitsToWrite old.limits old.key old.floor old.splits (Unterm parent version) None None now r (page.to_page old.limits pid)
       back_to_unterm = record {
         level = level_in version.chain;
         low = old.key;
@@ -220,7 +225,7 @@ module _ (old : WriteRound) (k now : Knowledge) (r : Recalled) (version : Versio
         above = tt;
         aside = tt;
         based = inr above_low;
-        led = λ so. absurd so;
+        led = λ so on. absurd so;
         keeps = record { above = kept_on parent over.kept; aside = kept_here alive; up = over.up; after = over.after };
       }
 
@@ -271,11 +276,11 @@ module _ (old : WriteRound) (k now : Knowledge) (r : Recalled) (version : Versio
             (subst (λ (g : WriteGoal). StaysLeft (write_way g old.key) version.chain) t.seeks t.here.stays);
         short = short;
         early = early;
-        few = few_items alive short t.fine.narrow;
+        few = λ on. few_items alive short (t.fine.narrow on);
         above = IfSome_then old.parent h.above (λ other i. record { page = alive_of other i.kept; up = i.up; after = i.after });
-        termed =
+        termed = λ on.
             termed old.limits (goes_left old.goal) old.key k now r version h.level h.low h.earlier h.arrives alive old.parent old.left h.above h.aside
-            (h.led (subst SeeksLeaf (sym t.seeks) tt)) t.here.finished t.level;
+            (h.led (subst SeeksLeaf (sym t.seeks) tt) on) (where_split on t.here.finished) t.level;
       })
 
   merge_end : (left removed : Version) (merge : MergeRecord) → EndsMerged old version left removed merge → IsMergeEnd old now r left removed merge

@@ -35,14 +35,14 @@ module _ (old new : WriteRound) (told : Answer Record) (visit : page.Visit) wher
   seen next Empty result b sees = rw sees (λ k r h f. inl (found_nothing r visit told b))
   seen next (Whole version) result b sees = λ k r h f.
       by_result k r result (treated here k (learn k (page.wanted_step visit) told) (recall r (page.wanted_step visit) told) version
-      (reached_next old.limits old.key old.floor old.goal old.parent old.left k r visit told h f version b) new result sees)
+      (reached_next old.limits old.key old.floor old.splits old.goal old.parent old.left k r visit told h f version b) new result sees)
     where
       by_result : (k : Knowledge) (r : Recalled) (o : Option WriteEnd)
           → After here (learn k (page.wanted_step visit) told) (recall r (page.wanted_step visit) told) new o → Follows writing k r here told new o
       by_result k r None a = a
       by_result k r (Some end) a = a
 
-  module _ (reserve kept : ℕ) (k : Knowledge) (r : Recalled) (h : VisitsToWrite old.limits old.key old.floor old.goal old.parent old.left k r visit)
+  module _ (reserve kept : ℕ) (k : Knowledge) (r : Recalled) (h : VisitsToWrite old.limits old.key old.floor old.splits old.goal old.parent old.left k r visit)
       (f : Fits old.limits k (page.wanted_step visit) told) where
     -- a page wasn't there
     missed : page.FindsEmpty visit told → (goal : WriteGoal) → IsSeeking old.limits (write_way goal old.key) (is_cutting goal) k r visit h.level h.low h.earlier
@@ -100,7 +100,7 @@ module _ (old new : WriteRound) (told : Answer Record) (visit : page.Visit) wher
   paid next Empty result b sees = rw sees (λ reserve kept k r h f. missed reserve kept k r h f b old.goal h.seeks)
   paid next (Whole version) result b sees = λ reserve kept k r h f. by_result reserve kept k r h f version b result sees
 
-module _ (limits : Limits) (key : List ℕ) (floor : ℕ) (k : Knowledge) (r : Recalled) (pid : ℕ) (fits : Fits limits k (step.Slot 0) (answer.Number pid)) where
+module _ (limits : Limits) (key : List ℕ) (floor : ℕ) (splits : Bool) (k : Knowledge) (r : Recalled) (pid : ℕ) (fits : Fits limits k (step.Slot 0) (answer.Number pid)) where
   abbrev begun : Knowledge
   begun = learn k (step.Slot 0) (answer.Number pid)
 
@@ -134,7 +134,7 @@ module _ (limits : Limits) (key : List ℕ) (floor : ℕ) (k : Knowledge) (r : R
   keeps_first (Unterm parent left) b = absurd b
 
   root : (goal : WriteGoal) (parent left : Option Version) → parent ≡ None → left ≡ None → k.inside ≡ true → BeginsToWrite limits key floor k goal
-      → VisitsToWrite limits key floor goal parent left begun (recall r (step.Slot 0) (answer.Number pid)) (page.to_page limits pid)
+      → VisitsToWrite limits key floor splits goal parent left begun (recall r (step.Slot 0) (answer.Number pid)) (page.to_page limits pid)
   root goal parent left orphan alone inside b = rw (orphan, alone) (record {
     level = 0;
     low = [];
@@ -143,7 +143,7 @@ module _ (limits : Limits) (key : List ℕ) (floor : ℕ) (k : Knowledge) (r : R
     above = tt;
     aside = tt;
     based = inl refl;
-    led = λ so. refl;
+    led = λ so on. refl;
     keeps = keeps_first goal b;
   })
 
@@ -152,8 +152,8 @@ module _ (limits : Limits) (key : List ℕ) (floor : ℕ) (k : Knowledge) (r : R
 pub follows_from : (old new : WriteRound) (told : Answer Record) (result : Option WriteEnd) → Responds writing old told new result
     → (k : Knowledge) (r : Recalled) → Shows old k r → Fits old.limits k (wanted_step old) told → Follows writing k r old told new result
 follows_from old new told result responds = by_step writing (λ round. refl) (λ o x n e. Then n e o x) old new told result responds
-    (λ pid k r h f. root old.limits old.key old.floor k r pid f old.goal old.parent old.left h.1 h.2 h.0 h.3)
-    (λ visit next b k r h f. visits_next old.limits old.key old.floor old.goal old.parent old.left k r visit told h f next b)
+    (λ pid k r h f. root old.limits old.key old.floor old.splits k r pid f old.goal old.parent old.left h.1 h.2 h.0 h.3)
+    (λ visit next b k r h f. visits_next old.limits old.key old.floor old.splits old.goal old.parent old.left k r visit told h f next b)
     (λ visit next sight b sees. seen old new told visit next sight result b sees)
 
 pub spends_from : (old new : WriteRound) (told : Answer Record) (result : Option WriteEnd) → Responds writing old told new result
@@ -171,7 +171,7 @@ way_shows round k r h = by_state round.state refl
   where
     by_state : (state : WayState) → round.state ≡ state → WayShows (writing.way round) k
     by_state Root e = rw e ((rw e at h).0)
-    by_state (Page visit) e = let here : VisitsToWrite round.limits round.key round.floor round.goal round.parent round.left k r visit = rw e at h in rw e here.seeks.on_way.shows
+    by_state (Page visit) e = let here : VisitsToWrite round.limits round.key round.floor round.splits round.goal round.parent round.left k r visit = rw e at h in rw e here.seeks.on_way.shows
 
 -- the page that was found is one that the round has reached
 pub can_see : (old : WriteRound) (other : WayState) (told : Answer Record) (sight : Sight) → Finds (writing.way old) told sight
@@ -179,9 +179,9 @@ pub can_see : (old : WriteRound) (other : WayState) (told : Answer Record) (sigh
 can_see old other told Empty b t = tt
 can_see old other told (Whole version) b t =
     let visit = b.visit in
-    let h : VisitsToWrite old.limits old.key old.floor old.goal old.parent old.left t.k t.r visit = subst (λ (s : WayState). Shows (at old s) t.k t.r) b.asked t.shows in
+    let h : VisitsToWrite old.limits old.key old.floor old.splits old.goal old.parent old.left t.k t.r visit = subst (λ (s : WayState). Shows (at old s) t.k t.r) b.asked t.shows in
     let f : Fits old.limits t.k (page.wanted_step visit) told = subst (λ (s : WayState). Fits old.limits t.k (wanted_step (at old s)) told) b.asked t.fits in
-    let d = reached_next old.limits old.key old.floor old.goal old.parent old.left t.k t.r visit told h f version b.responds in
+    let d = reached_next old.limits old.key old.floor old.splits old.goal old.parent old.left t.k t.r visit told h f version b.responds in
     record {
       reached = reached old.limits t.k (learn t.k (page.wanted_step visit) told)
           (recall t.r (page.wanted_step visit) told) version d.level d.low d.earlier d.arrives (write_way old.goal old.key) d.passing;
@@ -230,7 +230,7 @@ treats_as old new state other version None t = elim t [
     leads = down.leads;
     goes = down.goes;
   }))
-  | inr (inr (inl merge)) ↦ inr (inr (inl (record { pid = merge.pid; left = left_as old state other version merge.pid merge.left; beside = merge.beside; goes = merge.goes })))
+  | inr (inr (inl merge)) ↦ inr (inr (inl (record { pid = merge.pid; left = left_as old state other version merge.pid merge.left; beside = merge.beside; roomy = merge.roomy; goes = merge.goes })))
   | inr (inr (inr cut)) ↦ inr
       (inr (inr (record { pid = cut.pid; left = left_as old state other version cut.pid cut.left; apart = cut.apart; parent = cut.parent; above = cut.above; term = cut.term; goes = cut.goes })))
 ]

@@ -7,10 +7,10 @@ use Rattle.bw_model.specs.declared.step.Answer.{Answer}
 use Rattle.bw_model.specs.declared.step.Answer.TheVariants.{Number}
 use Rattle.deltas.specs.declared.record.Record.{Record}
 use Rattle.traces.specs.discipline.Knowledge.{Knowledge}
-use Rattle.traces.specs.discipline.Recalled.{Recalled}
+use Rattle.traces.specs.discipline.Recalled.{Recalled, few_reads}
 use Rattle.round_model.specs.Machines.{Machine}
 use Rattle.round_model.specs.Visits as page
-use Rattle.round_model.specs.Walks.{few_reads, reads_left_in}
+use Rattle.round_model.specs.Walks.{reads_left_in}
 use Rattle.round_model.specs.Visits.{Sight}
 
 -- where a descent stands: each state is named by what it reads

@@ -173,10 +173,6 @@ abbrev pub IsAmongPids : ℕ → List ℕ → Type 0
 IsAmongPids page [] = ⊥
 IsAmongPids page (other ∷ others) = (page ≡ other) ⊎ IsAmongPids page others
 
--- how many reads a round takes at most: slot 0, and of each page the slot and 13 records
-abbrev pub few_reads : Limits → ℕ
-few_reads limits = 1 + 14 * limits.pids
-
 -- how many reads a round takes at most once it goes on from a removed page, with those that are reserved for rounds after it
 abbrev pub with_walk : Limits → ℕ → ℕ
 with_walk limits reserve = 14 * limits.pids + reserve

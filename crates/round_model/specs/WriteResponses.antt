@@ -1,5 +1,5 @@
 -- What a writer's round does with a page that was read whole, and what it makes of an answer.
-use Rattle.std.specs.Prelude.{◌≡◌, ◌≢◌, ◌<◌, ◌⊎◌, ℕ, Option, Some, None, true, false, IfSome, ⊤}
+use Rattle.std.specs.Prelude.{◌≡◌, ◌≢◌, ◌<◌, ◌⊎◌, ℕ, Bool, Option, Some, None, true, false, IfSome, ⊤}
 use Rattle.tree_limits.specs.declared.limits.Limits.{Limits}
 use Rattle.base_page.specs.declared.item.Content.TheVariants.{Child}
 use Rattle.base_page.specs.Pages.{Page as PageOf}
@@ -10,6 +10,7 @@ use Rattle.traces.specs.chain.Chains.{content_in, is_removed, level_in, right_in
 use Rattle.structure_changes.specs.Bases.{IsBasePlan}
 use Rattle.structure_changes.specs.Merges.{CanMerge, IsMergePlan}
 use Rattle.structure_changes.specs.Roots.{CanRoot, IsRootPlan}
+use Rattle.structure_changes.specs.Sizes.{HasMergeRoom}
 use Rattle.structure_changes.specs.Splits.{CanSplit, IsSplitPlan}
 use Rattle.structure_changes.specs.Terms.{CanPost, IsTermPlan}
 use Rattle.structure_changes.specs.Unterms.{CanUnterm, IsUntermPlan}
@@ -27,23 +28,23 @@ use Rattle.round_model.specs.WriteEnds as end
 use Rattle.round_model.specs.WriteRounds.{EndsWrite, IsLong, SeeksLeaf, Shows, WriteRound, at, beside, ends_at, writing_on_to, write_way}
 
 -- No change is due that finishes the split of the page's left page: the parent can't get the page's term, nor, where there is no
--- parent, the two pages a root.
-abbrev pub IsSplitFinished : Option Version → Option Version → Version → Type 0
-IsSplitFinished parent None version = ⊤
-IsSplitFinished None (Some left) version = ¬ CanRoot left version
-IsSplitFinished (Some parent) (Some left) version = ¬ CanPost parent version
+-- parent, the two pages a root, which a round makes that splits pages.
+abbrev pub IsSplitFinished : Bool → Option Version → Option Version → Version → Type 0
+IsSplitFinished splits parent None version = ⊤
+IsSplitFinished splits None (Some left) version = splits ≡ true → ¬ CanRoot left version
+IsSplitFinished splits (Some parent) (Some left) version = ¬ CanPost parent version
 
 -- The page isn't removed, nothing is due at its left page, and it ends above the key.
 pub record IsHere (old : WriteRound) (version : Version) : Type 0 where
   pub seeks : SeeksLeaf old.goal
   pub alive : is_removed version.chain ≡ false
-  pub finished : IsSplitFinished old.parent old.left version
+  pub finished : IsSplitFinished old.splits old.parent old.left version
   pub stays : StaysLeft (write_way old.goal old.key) version.chain
 
--- The page is neither to be consolidated nor to be split.
-pub record IsFine (limits : Limits) (due : ℕ) (version : Version) : Type 0 where
+-- The page is not to be consolidated, nor, in a round that splits pages, to be split.
+pub record IsFine (limits : Limits) (due : ℕ) (splits : Bool) (version : Version) : Type 0 where
   pub short : ¬ IsLong limits due version.chain
-  pub narrow : ¬ CanSplit version
+  pub narrow : splits ≡ true → ¬ CanSplit version
 
 -- The round holds and removes small pages on its way to the leaf of a key, and the page is an index page, below the parent.
 pub record IsTended (old : WriteRound) (parent version : Version) : Type 0 where
@@ -60,7 +61,7 @@ IsIdleOnWay old version = (parent : Version) → IsTended old parent version →
 pub record GoesAside (old : WriteRound) (version : Version) (new : WriteRound) : Type 0 where
   pub seeks : SeeksLeaf old.goal
   pub alive : is_removed version.chain ≡ false
-  pub finished : IsSplitFinished old.parent old.left version
+  pub finished : IsSplitFinished old.splits old.parent old.left version
   pub right : ℕ
   pub leads : LeadsRight (write_way old.goal old.key) version.chain right
   pub goes : new ≡ writing_on_to right (beside (Some version) old)
@@ -68,7 +69,7 @@ pub record GoesAside (old : WriteRound) (version : Version) (new : WriteRound) :
 -- Nothing is due at the page, nor of a small page's removal, and the round goes down to a child of it.
 pub record GoesBelow (old : WriteRound) (version : Version) (new : WriteRound) : Type 0 where
   pub here : IsHere old version
-  pub fine : IsFine old.limits old.due version
+  pub fine : IsFine old.limits old.due old.splits version
   pub idle : IsIdleOnWay old version
   pub index : ends_at old.goal old.floor < level_in version.chain
   pub child : ℕ
@@ -108,7 +109,7 @@ pub record EndsUnrooted (old : WriteRound) (version left : Version) (root : Page
 pub record EndsSmall (old : WriteRound) (version parent page : Version) (upkeep : Plan) : Type 0 where
   pub is : page ≡ version
   pub here : IsHere old version
-  pub fine : IsFine old.limits old.due version
+  pub fine : IsFine old.limits old.due old.splits version
   pub tended : IsTended old parent version
   pub due : IsUpkeep parent version upkeep
 
@@ -118,7 +119,7 @@ pub record EndsFine (old : WriteRound) (version : Version) (parent : Option Vers
   pub seeks : old.goal ≡ Seek
   pub above : parent ≡ old.parent
   pub here : IsHere old version
-  pub fine : IsFine old.limits old.due version
+  pub fine : IsFine old.limits old.due old.splits version
   pub level : level_in version.chain ≡ 0
 
 -- The page is removed, on the way to a leaf.
@@ -131,7 +132,7 @@ pub record EndsRemoved (old : WriteRound) (version removed : Version) : Type 0 w
 pub record IsAtLeft (old : WriteRound) (version : Version) (pid : ℕ) : Type 0 where
   pub goal : old.goal ≡ Left pid
   pub here : IsHere old version
-  pub fine : IsFine old.limits old.due version
+  pub fine : IsFine old.limits old.due old.splits version
   pub level : level_in version.chain ≡ old.floor
 
 -- Nothing is due at the page, which is below the level of the removed page to whose left the round goes.
@@ -139,18 +140,19 @@ pub record EndsBelow (old : WriteRound) (version : Version) : Type 0 where
   pub pid : ℕ
   pub goal : old.goal ≡ Left pid
   pub here : IsHere old version
-  pub fine : IsFine old.limits old.due version
+  pub fine : IsFine old.limits old.due old.splits version
   pub below : level_in version.chain < old.floor
 
 -- the round, gone to read the removed page again
 abbrev pub going_back : WriteGoal → ℕ → WriteRound → WriteRound
 going_back goal pid round = writing_on_to pid (record round { goal = goal; parent = None; left = None })
 
--- The removed page is the leaf's right.
+-- The removed page is the leaf's right, and the leaf has room for its items.
 pub record GoesToMerge (old : WriteRound) (version : Version) (new : WriteRound) : Type 0 where
   pub pid : ℕ
   pub left : IsAtLeft old version pid
   pub beside : right_in version.chain ≡ Some pid
+  pub roomy : HasMergeRoom version.chain
   pub goes : new ≡ going_back (Merge version) pid old
 
 -- The removed page isn't the leaf's right, and the parent has its term.

@@ -38,13 +38,14 @@ use Rattle.round_model.specs.WriteEnds.{DueChange, IsPlanned, WriteEnd}
 use Rattle.round_model.specs.WriteEnds as end
 
 -- The key whose leaf is sought, or to whose left the round goes; at how many deltas a leaf is consolidated; whether small index pages
--- are held and removed on the way; the level at which a round to the left ends; where the round goes; the parent of the pages that are
+-- are held and removed on the way; whether the changes are made that need a new page; the level at which a round to the left ends; where the round goes; the parent of the pages that are
 -- read; the page to whose right the round has gone, until that one was read; where it stands.
 pub record WriteRound : Type 0 where
   pub limits : Limits
   pub key : List ℕ
   pub due : ℕ
   pub tends : Bool
+  pub splits : Bool
   pub floor : ℕ
   pub goal : WriteGoal
   pub parent : Option Version
@@ -183,7 +184,7 @@ IsLed way None None pid level low = low ≡ []
 IsLed way None (Some left) pid level low = (0 < level) ⊎ IsNextToFirst left pid low
 
 -- A page is visited on the way to the key.
-pub record VisitsToWrite (limits : Limits) (key : List ℕ) (floor : ℕ) (goal : WriteGoal) (parent left : Option Version) (k : Knowledge) (r : Recalled) (visit : page.Visit) : Type 0 where
+pub record VisitsToWrite (limits : Limits) (key : List ℕ) (floor : ℕ) (splits : Bool) (goal : WriteGoal) (parent left : Option Version) (k : Knowledge) (r : Recalled) (visit : page.Visit) : Type 0 where
   pub level : ℕ
   pub low : List ℕ
   pub earlier : List ℕ
@@ -191,13 +192,13 @@ pub record VisitsToWrite (limits : Limits) (key : List ℕ) (floor : ℕ) (goal 
   pub above : IfSome parent (IsParent limits k visit.pid visit.state level earlier)
   pub aside : IfSome left (IsLeftOf limits k low earlier)
   pub based : IsBased r parent left visit.pid low
-  pub led : SeeksLeaf goal → IsLed (write_way goal key) parent left visit.pid level low
+  pub led : SeeksLeaf goal → splits ≡ true → IsLed (write_way goal key) parent left visit.pid level low
   pub keeps : KeepsToWrite limits key floor k visit.pid earlier goal
 
 -- by the state of a round
 abbrev pub ShowsState : WriteRound → Knowledge → Recalled → WayState → Type 0
 ShowsState round k r Root = (k.inside ≡ true) × (round.parent ≡ None) × (round.left ≡ None) × BeginsToWrite round.limits round.key round.floor k round.goal
-ShowsState round k r (Page visit) = VisitsToWrite round.limits round.key round.floor round.goal round.parent round.left k r visit
+ShowsState round k r (Page visit) = VisitsToWrite round.limits round.key round.floor round.splits round.goal round.parent round.left k r visit
 
 abbrev pub Shows : WriteRound → Knowledge → Recalled → Type 0
 Shows round k r = ShowsState round k r round.state
@@ -246,7 +247,7 @@ abbrev pub IsTermed : Version → Option Version → Type 0
 IsTermed leaf None = low_in leaf.chain ≡ []
 IsTermed leaf (Some parent) = (length parent.chain ≤ 8) × ((held : Bool) × (content_in parent.chain (low_in leaf.chain) ≡ Some (Child leaf.pid held)))
 
--- The leaf has the key in its range, and few deltas and items.
+-- The leaf has the key in its range, and few deltas; where the round splits pages, it has few items, and the page above has its term.
 pub record IsLeafEnd (round : WriteRound) (k : Knowledge) (r : Recalled) (parent : Option Version) (leaf : Version) : Type 0 where
   pub seeks : round.goal ≡ Seek
   pub page : IsAlive round.limits k r leaf
@@ -254,9 +255,9 @@ pub record IsLeafEnd (round : WriteRound) (k : Knowledge) (r : Recalled) (parent
   pub covered : IsTrue (covers leaf.chain round.key)
   pub short : length leaf.chain ≤ 8
   pub early : length leaf.chain ≤ round.due
-  pub few : HasFewItems leaf.chain
+  pub few : round.splits ≡ true → HasFewItems leaf.chain
   pub above : IfSome parent (IsUpper round.limits k r leaf)
-  pub termed : IsTermed leaf parent
+  pub termed : round.splits ≡ true → IsTermed leaf parent
 
 -- The page is to get what the removed page to its right has.
 pub record IsMergeEnd (round : WriteRound) (k : Knowledge) (r : Recalled) (left removed : Version) (merge : MergeRecord) : Type 0 where
@@ -381,5 +382,6 @@ pub record WritesForTheSame (old new : WriteRound) : Type 0 where
   pub key : new.key ≡ old.key
   pub due : new.due ≡ old.due
   pub tends : new.tends ≡ old.tends
+  pub splits : new.splits ≡ old.splits
   pub floor : new.floor ≡ old.floor
   pub seeks : old.goal ≡ Seek → new.goal ≡ Seek

@@ -6,7 +6,7 @@ use Rattle.base_page.specs.declared.item.Item.{Item}
 use Rattle.deltas.specs.declared.record.Record.{Record}
 use Rattle.traces.specs.chain.Chains.{IsItemsOf}
 use Rattle.traces.specs.chain.Fitted.{IsFitted}
-use Rattle.structure_changes.specs.Sizes.{HasFewDeltas, HasManyItems, many_of}
+use Rattle.structure_changes.specs.Sizes.{HasFewDeltas, HasManyItems, HasMergeRoom, many_of}
 use Rattle.structure_changes.proofs.Few.{few_many}
 use Rattle.structure_changes.proofs.Places.{made}
 use Rattle.round_model.specs.Courses.{WriteGoal, Seek, Left, Merge, Unterm, removed_of}
@@ -27,6 +27,13 @@ module _ (chain : List Record) (count : ℕ) (counted : (items : List Item) → 
 
   pub count_of_many : HasManyItems chain → 16 ≤ count
   count_of_many h = let all = counted h.0 h.1 in let many = h.2 in omega (arith, many, all)
+
+  pub few_by_count : IsFitted chain → count ≤ 16 → HasMergeRoom chain
+  few_by_count fit few = let m = made chain fit in let all = counted m.0.items m.1.items in (m.0.items, m.1.items, omega (arith, few, all))
+
+-- a bound on how many items a chain has may say that there is room
+pub few_by_most : (chain : List Record) (most : ℕ) → ((items : List Item) → IsItemsOf chain items → length items ≤ most) → IsFitted chain → most ≤ 16 → HasMergeRoom chain
+few_by_most chain most within fit few = let m = made chain fit in let all = within m.0.items m.1.items in (m.0.items, m.1.items, omega (arith, few, all))
 
 -- the goal, by the removed page to whose left it is
 

@@ -49,11 +49,11 @@ module _ (is_there : ℕ → Record → Type 0) where
     pub are_read : Finds (writing.way old) told (Whole version) → IsToldThere is_there (machine writing) old told → AreReadToWrite is_there (at old other) version
     are_read b t =
         let visit = b.visit in
-        let h : VisitsToWrite old.limits old.key old.floor old.goal old.parent old.left t.k t.r visit = subst (λ (s : WayState). Shows (at old s) t.k t.r) b.asked t.shows in
+        let h : VisitsToWrite old.limits old.key old.floor old.splits old.goal old.parent old.left t.k t.r visit = subst (λ (s : WayState). Shows (at old s) t.k t.r) b.asked t.shows in
         let f : Fits old.limits t.k (page.wanted_step visit) told = subst (λ (s : WayState). Fits old.limits t.k (wanted_step (at old s)) told) b.asked t.fits in
         let now : Knowledge = learn t.k (page.wanted_step visit) told in
         let there : AreThere is_there now = subst (λ (s : WayState). AreThere is_there (learn t.k (wanted_step (at old s)) told)) b.asked t.there in
-        let d = reached_next old.limits old.key old.floor old.goal old.parent old.left t.k t.r visit told h f version b.responds in
+        let d = reached_next old.limits old.key old.floor old.splits old.goal old.parent old.left t.k t.r visit told h f version b.responds in
         record {
           page = seen_is_read is_there now version (hand old.limits t.k now (recall t.r (page.wanted_step visit) told) version d.level d.low d.earlier d.arrives).seen there;
           parent = IfSome_then old.parent d.above (λ other i. seen_is_read is_there now other i.kept.in_hand.seen there);

@@ -61,13 +61,14 @@ module _ (was : PlacedWrite) (now : PlacedDescent) (told : Answer Record) where
       inr (record { sight = sight.Whole now.page; finds = b; sees = treats_as was.round new.round was.round.state now.way.state now.page (option_map (ended_write new) result) there })
 
 -- the round whose fields these are
-abbrev pub placed : List ℕ → ℕ → Bool → ℕ → PlacedCourse → PlacedDescent → Plan → After → PlacedWrite
-placed key due tends floor course descent plan after = record {
+abbrev pub placed : List ℕ → ℕ → Bool → Bool → ℕ → PlacedCourse → PlacedDescent → Plan → After → PlacedWrite
+placed key due tends splits floor course descent plan after = record {
   round = record {
     limits = descent.way.limits;
     key = key;
     due = due;
     tends = tends;
+    splits = splits;
     floor = floor;
     goal = course.course.goal;
     parent = course.course.parent;

@@ -180,6 +180,7 @@ impl<R: Rows, A: Allocator> Descent<R, A> {
     }
 
     /// Takes the record that was read in the row that the descent asked for. With the base the page is whole.
+    #[inline(always)]
     pub(crate) fn take_record(&mut self, found: RowAt<R>, rows: &R, pass: &mut R::Pass) -> SightKind
         requires asked { wanted_step self.old.way ≡ step.Row found.row }
         requires told { IsTold descending self.old.way (Content found.content) }

@@ -1,5 +1,5 @@
 //! A writer's round from the root to a change that is due, or to the leaf of a key, in places that stay.
-ghost use Rattle.std.specs.Prelude.{◌≡◌, ◌<◌, ℕ, IfOk, IsTrue, MatchOption, None, Some, [], true, false, option_copied};
+ghost use Rattle.std.specs.Prelude.{◌≡◌, ◌<◌, ℕ, IfOk, IsTrue, MatchOption, None, Some, [], true, false, not, option_copied};
 ghost use Rattle.std.specs.Option.{option_map};
 ghost use Rattle.bw_model.specs.declared.step.Answer.TheVariants.{Content, Number};
 ghost use Rattle.bw_model.specs.declared.step.Step.TheVariants.{Row};
@@ -35,10 +35,11 @@ pub struct WriteRound<R: Rows, A: Allocator = Global> {
     key: KeyWords,
     due: usize,
     tends: bool,
+    splits: bool,
     floor: u8,
     course: Course<R, A>,
     descent: Descent<R, A>,
-    plan: Plan,
+    plan: Box<Plan, A>,
     after: After,
 }
 
@@ -48,6 +49,7 @@ impl<R: Rows, A: Allocator> Drop for WriteRound<R, A> {
             key: _,
             due: _,
             tends: _,
+            splits: _,
             floor: _,
             course: _,
             descent: _,
@@ -68,6 +70,7 @@ impl<R: Rows, A: Allocator> Model for WriteRound<R, A> {
         key = r.key;
         due = r.due;
         tends = r.tends;
+        splits = r.splits;
         floor = r.floor;
         goal = r.course.course.goal;
         parent = r.course.course.parent;
@@ -77,25 +80,27 @@ impl<R: Rows, A: Allocator> Model for WriteRound<R, A> {
       page = r.descent.page;
       parent = r.course.parent;
       left = r.course.left;
-      plan = r.plan;
+      plan = r.plan.value;
       after = r.after;
     } };
 }
 
 impl<R: Rows, A: Allocator + Copy> WriteRound<R, A> {
-    /// The round to the leaf of the lowest key, before its first step, where as many deltas are due as on any page, and no index page is
-    /// held or removed. Takes the memory for four pages, 832 bytes, and is refused for want of it alone. No later call takes memory.
+    /// The round to the leaf of the lowest key, before its first step, where as many deltas are due as on any page, no index page is
+    /// held or removed, and pages are split. Takes the memory for four pages and a plan, 4.2 KB, and is refused for want of it alone. No
+    /// later call takes memory.
     pub fn new(alloc: A, limits: &Limits) -> Result<WriteRound<R, A>, AllocError>
-        ensures { IfOk result (λ round. round.round ≡ record { limits = limits.now; key = []; due = 8; tends = false; floor = 0; goal = goal.Seek; parent = None; left = None; state = Root }) }
+        ensures { IfOk result (λ round. round.round ≡ record { limits = limits.now; key = []; due = 8; tends = false; splits = true; floor = 0; goal = goal.Seek; parent = None; left = None; state = Root }) }
     {
         Ok(WriteRound {
             key: KeyWords::of(&Key::default()),
             due: MANY_DELTAS,
             tends: false,
+            splits: true,
             floor: 0,
             course: Course::<R, A>::new(alloc)?,
             descent: Descent::<R, A>::new(alloc, limits)?,
-            plan: Plan::default(),
+            plan: Box::new(alloc, Plan::default())?,
             after: After::Round,
         })
     }
@@ -110,8 +115,8 @@ impl<R: Rows, A: Allocator> WriteRound<R, A> {
     }
 
     /// Begins a round to the leaf of a key. A leaf with as many deltas as are due is consolidated; a small index page is held and removed
-    /// where the round tends such pages.
-    pub fn restart(&mut self, key: &Key, due: usize, tends: bool)
+    /// where the round tends such pages; a page with many items is split, and a root made, where the round splits pages.
+    pub fn restart(&mut self, key: &Key, due: usize, tends: bool, splits: bool)
         requires due { 0 < due }
         ensures { self.new ≡ record self.old {
           round = record {
@@ -119,6 +124,7 @@ impl<R: Rows, A: Allocator> WriteRound<R, A> {
             key = key.now;
             due = due;
             tends = tends;
+            splits = splits;
             floor = 0;
             goal = goal.Seek;
             parent = None;
@@ -130,12 +136,14 @@ impl<R: Rows, A: Allocator> WriteRound<R, A> {
         self.key = KeyWords::of(key);
         self.due = due;
         self.tends = tends;
+        self.splits = splits;
         self.floor = 0;
         self.course.restart(None);
         self.descent.restart();
     }
 
-    /// Begins a round to the left of a removed page of this level, which begins at the key.
+    /// Begins a round to the left of a removed page of this level, which begins at the key. In a large tree it splits no page but the left
+    /// one, if that has no room for the removed one's items: so a tree without a free PID can be emptied.
     pub fn restart_left(&mut self, key: &Key, removed: u32, level: u8)
         ensures { self.new ≡ record self.old {
           round = record {
@@ -143,6 +151,7 @@ impl<R: Rows, A: Allocator> WriteRound<R, A> {
             key = key.now;
             due = 8;
             tends = false;
+            splits = not self.old.round.limits.is_large;
             floor = level;
             goal = goal.Left removed;
             parent = None;
@@ -154,6 +163,7 @@ impl<R: Rows, A: Allocator> WriteRound<R, A> {
         self.key = KeyWords::of(key);
         self.due = MANY_DELTAS;
         self.tends = false;
+        self.splits = !self.descent.limits().is_large;
         self.floor = level;
         self.course.restart(Some(removed));
         self.descent.restart();
@@ -306,7 +316,7 @@ impl<R: Rows, A: Allocator> WriteRound<R, A> {
         requires can { CanTreatWrite self.old.round self.old.page }
         requires seeks { SeeksLeaf self.old.round.goal }
         requires alive { is_removed self.old.page.chain ≡ false }
-        requires finished { IsSplitFinished self.old.round.parent self.old.round.left self.old.page }
+        requires finished { IsSplitFinished self.old.round.splits self.old.round.parent self.old.round.left self.old.page }
         ensures looks { pass.new ≡ pass.old }
         ensures treats { TreatsWrite self.old.round self.old.page self.new.round (option_map (ended_write self.new) result) }
         ensures same { WritesForTheSame self.old.round self.new.round }
@@ -331,7 +341,7 @@ impl<R: Rows, A: Allocator> WriteRound<R, A> {
         right_on_way(self.page().chain(), rows, pass, &self.key, self.is_left())
     }
 
-    /// Ends where the page is to be consolidated or split; else ends at it, or goes down.
+    /// Ends where the page is to be consolidated, or, if the round splits pages, to be split; else ends at it, or goes down.
     fn settle(&mut self, rows: &R, pass: &mut R::Pass) -> Option<WriteEndKind>
         requires read { AreReadToWrite (R.has rows.now pass.old) self.old.round self.old.page }
         requires can { CanTreatWrite self.old.round self.old.page }
@@ -342,6 +352,9 @@ impl<R: Rows, A: Allocator> WriteRound<R, A> {
     {
         if self.is_long(rows, pass) {
             return Some(self.end_long(rows, pass));
+        }
+        if !self.splits {
+            return self.go_on(rows, pass);
         }
         if self.is_wide(rows, pass) {
             return Some(self.end_wide(rows, pass));
@@ -354,7 +367,7 @@ impl<R: Rows, A: Allocator> WriteRound<R, A> {
         requires read { AreReadToWrite (R.has rows.now pass.old) self.old.round self.old.page }
         requires can { CanTreatWrite self.old.round self.old.page }
         requires here { IsHere self.old.round self.old.page }
-        requires fine { IsFine self.old.round.limits self.old.round.due self.old.page }
+        requires fine { IsFine self.old.round.limits self.old.round.due self.old.round.splits self.old.page }
         ensures looks { pass.new ≡ pass.old }
         ensures treats { TreatsWrite self.old.round self.old.page self.new.round (option_map (ended_write self.new) result) }
         ensures same { WritesForTheSame self.old.round self.new.round }
@@ -381,7 +394,7 @@ impl<R: Rows, A: Allocator> WriteRound<R, A> {
         requires read { AreReadToWrite (R.has rows.now pass.old) self.old.round self.old.page }
         requires can { CanTreatWrite self.old.round self.old.page }
         requires here { IsHere self.old.round self.old.page }
-        requires fine { IsFine self.old.round.limits self.old.round.due self.old.page }
+        requires fine { IsFine self.old.round.limits self.old.round.due self.old.round.splits self.old.page }
         requires index { ends_at self.old.round.goal self.old.round.floor < level_in self.old.page.chain }
         requires tends { self.old.round.tends ≡ true }
         ensures looks { pass.new ≡ pass.old }
@@ -402,7 +415,7 @@ impl<R: Rows, A: Allocator> WriteRound<R, A> {
         requires read { AreReadToWrite (R.has rows.now pass.old) self.old.round self.old.page }
         requires can { CanTreatWrite self.old.round self.old.page }
         requires here { IsHere self.old.round self.old.page }
-        requires fine { IsFine self.old.round.limits self.old.round.due self.old.page }
+        requires fine { IsFine self.old.round.limits self.old.round.due self.old.round.splits self.old.page }
         requires index { ends_at self.old.round.goal self.old.round.floor < level_in self.old.page.chain }
         requires idle { IsIdleOnWay self.old.round self.old.page }
         ensures looks { pass.new ≡ pass.old }
@@ -431,7 +444,7 @@ impl<R: Rows, A: Allocator> WriteRound<R, A> {
         requires read { AreReadToWrite (R.has rows.now pass.old) self.old.round self.old.page }
         requires can { CanTreatWrite self.old.round self.old.page }
         requires here { IsHere self.old.round self.old.page }
-        requires fine { IsFine self.old.round.limits self.old.round.due self.old.page }
+        requires fine { IsFine self.old.round.limits self.old.round.due self.old.round.splits self.old.page }
         requires level { level_in self.old.page.chain ≡ ends_at self.old.round.goal self.old.round.floor }
         ensures looks { pass.new ≡ pass.old }
         ensures treats { TreatsWrite self.old.round self.old.page self.new.round (option_map (ended_write self.new) result) }
@@ -443,7 +456,8 @@ impl<R: Rows, A: Allocator> WriteRound<R, A> {
         }
     }
 
-    /// Reads the removed page again where it is the page's right, or the parent has its term; else nothing is due.
+    /// Reads the removed page again where it is the page's right, or the parent has its term; else nothing is due. A page without room for
+    /// the removed one's items is split first.
     #[inline(never)]
     fn end_left(&mut self, rows: &R, pass: &mut R::Pass, pid: u32) -> Option<WriteEndKind>
         requires read { AreReadToWrite (R.has rows.now pass.old) self.old.round self.old.page }
@@ -455,6 +469,9 @@ impl<R: Rows, A: Allocator> WriteRound<R, A> {
         ensures same { WritesForTheSame self.old.round self.new.round }
     {
         if self.page().chain().right(rows, pass) == Some(pid) {
+            if !self.has_merge_room(rows, pass) {
+                return Some(self.end_wide(rows, pass));
+            }
             self.course.go_to_merge(&mut self.descent);
             self.descent.go_to(pid);
             return None;

@@ -1,16 +1,17 @@
 //! Keys as words.
-ghost use Rattle.std.specs.Prelude.{◌≡◌, ◌≤◌, ◌+◌, ◌%◌, List, ℕ, true, false, length, slice_index, take, drop};
+ghost use Rattle.std.specs.Prelude.{◌≡◌, ◌+◌, ◌%◌, List, ℕ, true, false, length, slice_index, take, drop};
 ghost use Rattle.std.specs.Ordering.{is_eq, nat_cmp};
 ghost use Rattle.bw_model.specs.Bytes.{key_cmp};
 ghost use Rattle.record_slots.specs.Spelling.{text_words};
 ghost use Rattle.record_slots.specs.Texts.{IsText};
-ghost use Rattle.record_slots.specs.declared.layout.TheConstants.{HELD, ROW_WORDS, TEXT_WORDS};
+ghost use Rattle.record_slots.specs.declared.layout.TheConstants.{HELD, TEXT_WORDS};
 ghost use Rattle.row_search.specs.Placed.{row_words_of};
 ghost use Rattle.row_search.specs.Reading.{text_in};
+ghost use Rattle.row_search.specs.TextsOf.{HasText, length_at};
 
-use crate::{RowAt, Rows};
+use crate::{RowAt, Rows, Text};
 use bw_model::Key;
-use record_slots::{HELD, ROW_WORDS, TEXT_WORDS, key_bytes, word_at};
+use record_slots::{HELD, TEXT_WORDS, key_bytes, word_at};
 use std::cmp::Ordering;
 use std::marker::Model;
 
@@ -44,22 +45,24 @@ impl KeyWords {
         }
     }
 
-    /// The key of that length which words of a record spell, from a place on.
+    /// The key of that length which is a text of a record.
     pub(crate) fn at<R: Rows>(
         row: &RowAt<R>,
         rows: &R,
         pass: &mut R::Pass,
-        at: usize,
+        place: R::Place,
+        text: Text,
         count: u64,
     ) -> KeyWords
-        requires read { R.has rows.now pass.old row.now.row row.now.content }
-        requires room { at + TEXT_WORDS ≤ ROW_WORDS }
-        requires text { IsText count (take TEXT_WORDS (drop at (row_words_of row.now))) (text_in count (drop at (row_words_of row.now))) }
+        requires read { R.lies rows.now pass.old place row.now.content }
+        requires there { HasText text row.now.content }
+        requires text { IsText count (take TEXT_WORDS (drop (length_at text + 1) (row_words_of row.now)))
+            (text_in count (drop (length_at text + 1) (row_words_of row.now))) }
         ensures same { pass.new ≡ pass.old }
-        ensures key { result ≡ text_in count (drop at (row_words_of row.now)) }
+        ensures key { result ≡ text_in count (drop (length_at text + 1) (row_words_of row.now)) }
     {
         KeyWords {
-            words: row.text(rows, pass, at, count),
+            words: row.text(rows, pass, place, text, count),
             count,
         }
     }
@@ -73,50 +76,52 @@ impl KeyWords {
             .then(self.count.cmp(&other.count))
     }
 
-    /// How the text of that length which words of a record spell, from a place on, compares with the key.
+    /// How a text of a record, which has that length, compares with the key.
     #[inline]
-    pub(crate) fn compare_at<R: Rows>(
+    pub(crate) fn compare_of<R: Rows>(
         &self,
         row: &RowAt<R>,
         rows: &R,
         pass: &mut R::Pass,
-        at: usize,
+        place: R::Place,
+        text: Text,
         count: u64,
     ) -> Ordering
-        requires read { R.has rows.now pass.old row.now.row row.now.content }
-        requires within { at + TEXT_WORDS ≤ ROW_WORDS }
+        requires read { R.lies rows.now pass.old place row.now.content }
+        requires there { HasText text row.now.content }
         ensures same { pass.new ≡ pass.old }
-        ensures compared { (text : List ℕ) → IsText count (take TEXT_WORDS (drop at (row_words_of row.now))) text → result ≡ key_cmp text self.now }
+        ensures compared { (bytes : List ℕ) → IsText count (take TEXT_WORDS (drop (length_at text + 1) (row_words_of row.now))) bytes → result ≡ key_cmp bytes self.now }
     {
-        let order = self.compare_words(row, rows, pass, at);
+        let order = self.compare_words(row, rows, pass, place, text);
         if !order.is_eq() {
             return order;
         }
         count.cmp(&self.count)
     }
 
-    /// How the key of an item compares with the key, whose length stands in the word at the place, beside the mark of a held term: that word is
-    /// looked at last, and only if all others are the same.
+    /// How a text of a record compares with the key. Its length, beside which a held term has a mark, is looked at last, and only if all words are
+    /// the same.
     #[inline]
-    pub(crate) fn compare_item<R: Rows>(
+    pub(crate) fn compare_text<R: Rows>(
         &self,
         row: &RowAt<R>,
         rows: &R,
         pass: &mut R::Pass,
-        at: usize,
+        place: R::Place,
+        text: Text,
     ) -> Ordering
-        requires read { R.has rows.now pass.old row.now.row row.now.content }
-        requires within { at + 1 + TEXT_WORDS ≤ ROW_WORDS }
+        requires read { R.lies rows.now pass.old place row.now.content }
+        requires there { HasText text row.now.content }
         ensures same { pass.new ≡ pass.old }
-        ensures compared { (text : List ℕ)
-            → IsText (slice_index (row_words_of row.now) at % HELD) (take TEXT_WORDS (drop (at + 1) (row_words_of row.now))) text
-            → result ≡ key_cmp text self.now }
+        ensures compared { (bytes : List ℕ)
+            → IsText (slice_index (row_words_of row.now) (length_at text) % HELD) (take TEXT_WORDS (drop (length_at text + 1) (row_words_of row.now))) bytes
+            → result ≡ key_cmp bytes self.now }
     {
-        let order = self.compare_words(row, rows, pass, at + 1);
+        let order = self.compare_words(row, rows, pass, place, text);
         if !order.is_eq() {
             return order;
         }
-        let count = row.word(rows, pass, at) % HELD;
+        let count = row.length(rows, pass, place, text) % HELD;
         count.cmp(&self.count)
     }
 
@@ -128,25 +133,26 @@ impl KeyWords {
         row: &RowAt<R>,
         rows: &R,
         pass: &mut R::Pass,
-        at: usize,
+        place: R::Place,
+        text: Text,
     ) -> Ordering
-        requires read { R.has rows.now pass.old row.now.row row.now.content }
-        requires within { at + TEXT_WORDS ≤ ROW_WORDS }
+        requires read { R.lies rows.now pass.old place row.now.content }
+        requires there { HasText text row.now.content }
         ensures same { pass.new ≡ pass.old }
-        ensures other { is_eq result ≡ false → (count : ℕ) (text : List ℕ) → IsText count (take TEXT_WORDS (drop at (row_words_of row.now))) text
-            → result ≡ key_cmp text self.now }
-        ensures alike { is_eq result ≡ true → (count : ℕ) (text : List ℕ) → IsText count (take TEXT_WORDS (drop at (row_words_of row.now))) text
-            → nat_cmp count (length self.now) ≡ key_cmp text self.now }
+        ensures other { is_eq result ≡ false → (count : ℕ) (bytes : List ℕ)
+            → IsText count (take TEXT_WORDS (drop (length_at text + 1) (row_words_of row.now))) bytes → result ≡ key_cmp bytes self.now }
+        ensures alike { is_eq result ≡ true → (count : ℕ) (bytes : List ℕ)
+            → IsText count (take TEXT_WORDS (drop (length_at text + 1) (row_words_of row.now))) bytes → nat_cmp count (length self.now) ≡ key_cmp bytes self.now }
     {
         let used = ((self.count + 7) / 8) as usize;
-        let mut place = 0;
-        while place < used {
-            let word = row.word(rows, pass, at + place);
-            let order = word.cmp(&self.words[place]);
+        let mut at = 0;
+        while at < used {
+            let word = row.text_word(rows, pass, place, text, at);
+            let order = word.cmp(&self.words[at]);
             if !order.is_eq() {
                 return order;
             }
-            place += 1;
+            at += 1;
         }
         Ordering::Equal
     }

@@ -16,5 +16,5 @@ mod told;
 
 pub use key_words::KeyWords;
 pub use row_at::RowAt;
-pub use rows::Rows;
+pub use rows::{Rows, Text};
 pub(crate) use told::Told;

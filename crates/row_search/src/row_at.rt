@@ -7,6 +7,8 @@ ghost use Rattle.record_slots.specs.Spelling.{words_of};
 ghost use Rattle.record_slots.specs.Spells.{HasSpelling};
 ghost use Rattle.record_slots.specs.Texts.{IsText};
 ghost use Rattle.record_slots.specs.declared.layout.TheConstants.{ROW_WORDS, TEXT_WORDS};
+ghost use Rattle.row_search.specs.Begins.{Begins};
+ghost use Rattle.row_search.specs.TextsOf.{HasText, length_at};
 
 mod bounds;
 mod items;
@@ -15,16 +17,19 @@ mod names;
 mod parts;
 mod says;
 
-use crate::{Rows, Told};
+use crate::{Rows, Text, Told};
 use deltas::Record;
 use record_slots::{
-    FIRST_ITEM, ITEM_UNIT, ITEM_WORDS, LEVEL_UNIT, PART_LIMIT, ROW_WORDS, TEXT_WORDS, kinds,
-    read_words, rows_have_words,
+    FIRST_ITEM, FORM, FORM_UNIT, ITEM_UNIT, ITEM_WORDS, LEVEL_UNIT, PART_LIMIT, ROW_WORDS,
+    TEXT_WORDS, kinds, read_words, rows_have_words,
 };
 use std::marker::Model;
 
-/// A record that was read in a row: the row's number, and its first word, which was loaded when it was read. Its other words are looked at
-/// where they lie.
+/// What the row under it counts in the first word of a row that has not the form of the spelling.
+const NEXT_UNIT: u64 = 4294967296;
+
+/// A record that was read in a row: the row's number, and its first word as it stands there, which was loaded when it was read. Its other words
+/// are looked at where they lie.
 #[derive(Drop)]
 pub struct RowAt<R: Rows> {
     number: u32,
@@ -33,16 +38,15 @@ pub struct RowAt<R: Rows> {
 }
 
 impl<R: Rows> Model for RowAt<R> {
-    ghost use Rattle.std.specs.Prelude.{◌≡◌, slice_index};
-    ghost use Rattle.record_slots.specs.Spelling.{words_of};
     ghost use Rattle.record_slots.specs.Spells.{HasSpelling};
+    ghost use Rattle.row_search.specs.Begins.{Begins};
     ghost use Rattle.row_search.specs.Placed.{PlacedRecord};
 
     ghost Value = { PlacedRecord };
 
     ghost view = { λ r. record { row = r.number; content = R.content r.told.value r.number } };
 
-    ghost invariant = { λ r. HasSpelling (R.content r.told.value r.number) × (r.first ≡ slice_index (words_of (R.content r.told.value r.number)) 0) };
+    ghost invariant = { λ r. HasSpelling (R.content r.told.value r.number) × Begins r.first (R.content r.told.value r.number) };
 }
 
 impl<R: Rows> RowAt<R> {
@@ -50,6 +54,20 @@ impl<R: Rows> RowAt<R> {
     pub fn of(number: u32, first: u64, pass: &R::Pass) -> RowAt<R>
         requires spelt { HasSpelling (R.content pass.now number) }
         requires first { first ≡ slice_index (words_of (R.content pass.now number)) 0 }
+        ensures { result ≡ record { row = number; content = R.content pass.now number } }
+    {
+        RowAt {
+            number,
+            first,
+            told: Told::of(pass),
+        }
+    }
+
+    /// The record that was read in the row, by the word with which the row begins, whatever form it has.
+    #[inline]
+    pub fn begun(number: u32, first: u64, pass: &R::Pass) -> RowAt<R>
+        requires spelt { HasSpelling (R.content pass.now number) }
+        requires first { Begins first (R.content pass.now number) }
         ensures { result ≡ record { row = number; content = R.content pass.now number } }
     {
         RowAt {
@@ -73,40 +91,94 @@ impl<R: Rows> RowAt<R> {
         let _ = &self.told;
     }
 
-    /// A word of it.
+    /// Where it lies.
+    #[inline]
+    pub(crate) fn place(&self, rows: &R, pass: &R::Pass) -> R::Place
+        requires read { R.has rows.now pass.now self.now.row self.now.content }
+        ensures { R.lies rows.now pass.now result self.now.content }
+    {
+        rows.place(pass, self.number, self.first)
+    }
+
+    /// A word of its spelling.
     pub(crate) fn word(&self, rows: &R, pass: &mut R::Pass, at: usize) -> u64
         requires read { R.has rows.now pass.old self.now.row self.now.content }
         requires within { at < ROW_WORDS }
         ensures same { pass.new ≡ pass.old }
         ensures word { result ≡ slice_index (words_of self.now.content) at }
     {
-        rows.look(pass, self.number, at)
+        let place = self.place(rows, pass);
+        rows.look(pass, place, at)
     }
 
-    /// The words of a text of so many bytes, from a place on. Those that it uses are looked at; the rest are 0.
+    /// The words of a text of so many bytes. Those that it uses are looked at; the rest are 0.
     pub(crate) fn text(
         &self,
         rows: &R,
         pass: &mut R::Pass,
-        at: usize,
+        place: R::Place,
+        text: Text,
         count: u64,
     ) -> [u64; TEXT_WORDS]
-        requires read { R.has rows.now pass.old self.now.row self.now.content }
-        requires within { at + TEXT_WORDS ≤ ROW_WORDS }
-        requires text { (text : List ℕ) × IsText count (take TEXT_WORDS (drop at (words_of self.now.content))) text }
+        requires read { R.lies rows.now pass.old place self.now.content }
+        requires there { HasText text self.now.content }
+        requires text { (bytes : List ℕ) × IsText count (take TEXT_WORDS (drop (length_at text + 1) (words_of self.now.content))) bytes }
         ensures same { pass.new ≡ pass.old }
-        ensures text { result ≡ take TEXT_WORDS (drop at (words_of self.now.content)) }
+        ensures text { result ≡ take TEXT_WORDS (drop (length_at text + 1) (words_of self.now.content)) }
     {
         rows_have_words();
         self.keeps_spelling();
+        self.has_room(text);
         let used = ((count + 7) / 8) as usize;
         let mut words = [0; TEXT_WORDS];
-        let mut place = 0;
-        while place < used {
-            words[place] = self.word(rows, pass, at + place);
-            place += 1;
+        let mut at = 0;
+        while at < used {
+            words[at] = self.text_word(rows, pass, place, text, at);
+            at += 1;
         }
         words
+    }
+
+    /// The length of a text, or of an item's content that is a child the PID.
+    #[inline(always)]
+    pub(crate) fn length(&self, rows: &R, pass: &mut R::Pass, place: R::Place, text: Text) -> u64
+        requires read { R.lies rows.now pass.old place self.now.content }
+        requires there { HasText text self.now.content }
+        ensures same { pass.new ≡ pass.old }
+        ensures word { result ≡ slice_index (words_of self.now.content) (length_at text) }
+    {
+        self.has_room(text);
+        rows.length(pass, place, text)
+    }
+
+    /// A word of a text; 0 behind its end.
+    #[inline(always)]
+    pub(crate) fn text_word(
+        &self,
+        rows: &R,
+        pass: &mut R::Pass,
+        place: R::Place,
+        text: Text,
+        at: usize,
+    ) -> u64
+        requires read { R.lies rows.now pass.old place self.now.content }
+        requires there { HasText text self.now.content }
+        requires within { at < TEXT_WORDS }
+        ensures same { pass.new ≡ pass.old }
+        ensures word { result ≡ slice_index (words_of self.now.content) (length_at text + 1 + at) }
+    {
+        self.has_room(text);
+        rows.word(pass, place, text, at)
+    }
+
+    /// Shows that its spelling has room for a text that it has, at no cost.
+    #[inline(always)]
+    fn has_room(&self, text: Text)
+        requires { HasText text self.now.content }
+        ensures { length_at text + TEXT_WORDS < ROW_WORDS }
+    {
+        self.keeps_spelling();
+        let _ = text;
     }
 
     /// All its words. Those that it uses are looked at; the rest are 0.
@@ -175,6 +247,9 @@ impl<R: Rows> RowAt<R> {
         self.keeps_spelling();
         if self.kind() == kinds::BASE {
             return None;
+        }
+        if self.first / FORM_UNIT % PART_LIMIT != FORM {
+            return Some((self.first / NEXT_UNIT) as u32);
         }
         Some(self.word(rows, pass, 1) as u32)
     }

@@ -10,8 +10,8 @@ use Rattle.bw_model.specs.declared.command.Reply.TheVariants as kind
 use Rattle.traces.specs.declared.trace.Entry.{Entry}
 use Rattle.traces.specs.declared.trace.Entry.TheVariants.{Begin, Step}
 use Rattle.traces.specs.trace.Trace.{command_of, turn_of}
-use Rattle.op_machine.specs.theorem.Linearized.{IsLinearized}
-use Rattle.op_machine.specs.theorem.Points.{HasPoints, log_at, log_of}
+use Rattle.linearization.specs.Linearized.{IsLinearized}
+use Rattle.linearization.specs.Points.{HasPoints, log_at, log_of}
 use Rattle.running_tree.specs.Loaded.{AreAt, AreLoaded, HaveUpserted, IsStopped, IsStoppedAt, KeysAscend, upsert_of}
 use Rattle.running_tree.specs.Trees.{Tree, fresh_seat}
 use Rattle.running_tree.proofs.Alone.{Blocks, absent, all_own, are_ours, in_blocks, AreOurs}

@@ -8,10 +8,10 @@ use Rattle.bw_model.specs.declared.command.Reply.TheVariants as kind
 use Rattle.traces.specs.declared.trace.Entry.{Entry}
 use Rattle.traces.specs.declared.trace.Entry.TheVariants.{Begin, Step}
 use Rattle.traces.specs.trace.Trace.{command_of, memory_at}
-use Rattle.op_machine.specs.theorem.Answered.{IsAnswered, IsTrueReply, RepliesAt, RepliesAtPoint}
-use Rattle.op_machine.specs.theorem.Operations.{Finishes, IsOwnStep, Operation}
-use Rattle.op_machine.specs.theorem.Points.{HasPoints, IsPoint, log_at, updates_at, updates_by}
-use Rattle.op_machine.proofs.LogLaws.{log_at-step, take-one}
+use Rattle.linearization.specs.Answered.{IsAnswered, IsTrueReply, RepliesAt, RepliesAtPoint}
+use Rattle.linearization.specs.Operations.{Finishes, IsOwnStep, Operation}
+use Rattle.linearization.specs.Points.{HasPoints, IsPoint, log_at, updates_at, updates_by}
+use Rattle.linearization.proofs.LogLaws.{log_at-step, take-one}
 use Rattle.running_tree.proofs.Alone.{IsSilent, get_middle}
 
 get_behind : {X : Type 0} (xs ys : List X) (j : ℕ) → slice_get (xs ++ ys) (length xs + j) ≡ slice_get ys j

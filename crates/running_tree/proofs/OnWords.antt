@@ -1,5 +1,5 @@
 -- Which steps are taken on a word.
-use Rattle.std.proofs.Common.{◌≡◌, ℕ, Bor, refl, arith}
+use Rattle.std.proofs.Common.{◌≡◌, ℕ, Bor, refl, sym, subst, arith}
 use Rattle.running_tree.proofs.Words.{step_of_loan, StepOf, Record, IsWithin, Limits, HasWord}
 use Rattle.bw_model.specs.declared.step.Step.TheVariants.{Slot, Row, Epoch, Announce, PidBits, RowBits, Place, Exchange, TakePid, TakeRow, Enter, Leave, Retire, ReusePids, ReuseRows}
 
@@ -26,3 +26,10 @@ on_word limits (ReuseRows word bits) within reads places = let whole = limits.al
 pub lent_stays : (step : StepOf (Bor Record)) → (step ≡ Leave → ⊥) → step_of_loan step ≡ Leave → ⊥
 lent_stays Leave stays leaves = stays refl
 lent_stays step stays leaves = cc leaves
+
+-- a step that reads a slot
+pub on_slot : (limits : Limits) (step : StepOf (Bor Record)) (pid : ℕ) → step ≡ Slot pid → IsWithin limits (step_of_loan step) → HasWord limits (step_of_loan step)
+on_slot limits step pid is = subst (λ s. IsWithin limits (step_of_loan s) → HasWord limits (step_of_loan s)) (sym is) (λ within. within)
+
+pub slot_stays : (step : StepOf (Bor Record)) (pid : ℕ) → step ≡ Slot pid → step_of_loan step ≡ Leave → ⊥
+slot_stays step pid is = subst (λ s. step_of_loan s ≡ Leave → ⊥) (sym is) (λ leaves. cc)

@@ -12,8 +12,8 @@ use Rattle.traces.specs.discipline.Knowledge.{Knowledge, after_reply, knows, lea
 use Rattle.traces.specs.discipline.Recalled.{IsStepSpent, cause_worth, Recalled, recall, recalls}
 use Rattle.traces.specs.trace.Trace.{command_of, commands_after, memory_of}
 use Rattle.traces.specs.discipline.Useful.{IsUseful}
-use Rattle.op_machine.specs.theorem.Halves.{IsHalved}
-use Rattle.op_machine.specs.theorem.Readers.{IsOfUse}
+use Rattle.linearization.specs.Halves.{IsHalved}
+use Rattle.linearization.specs.Readers.{IsOfUse}
 use Rattle.op_machine.proofs.Readers.{of_use}
 use Rattle.op_machine.specs.machine.Bounded.{left_at}
 use Rattle.op_machine.specs.machine.Shows.{ShowsState}

@@ -1,9 +1,10 @@
 -- What a seat's actor has read stands where it lies.
-use Rattle.running_tree.proofs.Words.{◌≡◌, ℕ, List, sym, refl, ap, ◌∙◌, subst, TableId, Limits, Content, Record, Remove, AreThere, words_of, knows, Idle, ReadsFirst, Took, Mine, SitsAt}
+use Rattle.running_tree.proofs.Words.{◌≡◌, ℕ, List, sym, refl, ap, ◌∙◌, subst, TableId, Limits, Content, Record, Remove, AreThere, knows, Idle, ReadsFirst, Took, Mine, SitsAt}
 use Rattle.running_tree.proofs.Words.{seen_of, Seat, IsSeatOf, Tree, IsLawfulRun, HaveLaws, replaced_same}
-use Rattle.std.specs.Prelude.{Some, None, slice_index, unwrap_or}
+use Rattle.std.specs.Prelude.{Some, None, unwrap_or}
 use Rattle.bw_model.specs.declared.step.Step.TheVariants.{Row}
 use Rattle.record_slots.specs.Spells.{HasSpelling}
+use Rattle.row_search.specs.Begins.{Begins}
 use Rattle.traces.specs.declared.trace.Entry.{Entry}
 use Rattle.running_tree.specs.Stands.{Stands, read_by}
 use Rattle.running_tree.proofs.Owning.{limits_of, table_of}
@@ -16,6 +17,11 @@ all_stand laws limits table seat a me lawful same sits row content seen =
     let apart = laws.apart limits (seen_of me) lawful.state in
     let learnt = apart.seen_learnt a row content seen in
     record { same = same; there = apart.learnt_below a row learnt; sits = sits; read = record { may = (apart.learnt_inside a row learnt, learnt); seen = seen } }
+
+-- an actor has read one record in a row
+pub one_read : (limits : Limits) (table seat : TableId) (a : ℕ) (me : Mine) (row : ℕ) (one other : Record) → Stands limits table seat a me row one → Stands limits table seat a me row other
+    → one ≡ other
+one_read limits table seat a me row one other h g = ap (λ o. unwrap_or o (Remove (record { level = 0; next = 1 }))) (sym h.read.seen ∙ g.read.seen)
 
 -- the same by a seat of the tree
 pub all_there : HaveLaws → (own : Limits) (at at' : TableId) (a : ℕ) (seen : List Entry) (tree : Tree) (seat : Seat) (me : Mine)
@@ -40,8 +46,8 @@ module _ (laws : HaveLaws) (limits : Limits) (a row : ℕ) (seen : List Entry) (
     pub spelt_there : HasSpelling (read_by me a row)
     spelt_there = subst HasSpelling is_read told.1
 
-    pub first_there : word ≡ slice_index (words_of (read_by me a row)) 0
-    first_there = told.2 ∙ ap (λ content. slice_index (words_of content) 0) is_read
+    pub first_there : Begins word (read_by me a row)
+    first_there = subst (Begins word) is_read told.2
 
     pub took_there : Took IsLawfulRun limits a seen None (Row row) (Content (read_by me a row)) None (seen_of me)
     took_there = subst (λ content. Took IsLawfulRun limits a seen None (Row row) (Content content) None (seen_of me)) is_read told.3

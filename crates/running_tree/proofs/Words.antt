@@ -30,7 +30,7 @@ pub use Rattle.op_machine.specs.machine.Actors.{Actor, IsActor, IsActorWith, IsT
 pub use Rattle.op_machine.specs.machine.Hands.{Hand}
 pub use Rattle.op_machine.specs.machine.Ops.{IsAtRestWith}
 pub use Rattle.op_machine.specs.machine.UnderWay.{UnderWay, steps_due}
-pub use Rattle.op_machine.specs.theorem.Answered.{IsAnswered}
+pub use Rattle.linearization.specs.Answered.{IsAnswered}
 pub use Rattle.record_slots.specs.Layout.{row_size}
 pub use Rattle.record_slots.specs.Spelling.{words_of}
 pub use Rattle.round_model.specs.Machines.{AreThere}

@@ -5,7 +5,7 @@ use Rattle.traces.specs.declared.trace.Entry.{Entry}
 use Rattle.traces.specs.trace.Trace.{turn_of}
 pub use Rattle.table_rule.specs.Running.{StartsWith}
 use Rattle.table_rule.specs.Running.{BeginWithSteps}
-use Rattle.op_machine.specs.theorem.Linearized.{IsLinearized, IsOrderly}
+use Rattle.linearization.specs.Linearized.{IsLinearized, IsOrderly}
 use Rattle.progress.specs.ReaderStates.{IsReadersState}
 use Rattle.progress.specs.WriterStates.{IsWritersState}
 use Rattle.tree_law.specs.Changes.{IsPaidState}

@@ -3,8 +3,11 @@ ghost use Rattle.std.specs.Prelude.{◌≡◌, ◌<◌, ◌≤◌, [], length, I
 ghost use Rattle.running_tree.specs.Closed.{IsClosedWith};
 ghost use Rattle.running_tree.specs.Trees.{AreClosed, AreSeatsOf, HasBusy, HasPartsOf, IsTreeTable};
 
+mod closed_rows;
+pub(crate) mod closed_tree;
+
 use crate::called::{CloseError, CloseRefusal};
-use crate::closed_tree::ClosedTree;
+use crate::closing::closed_tree::ClosedTree;
 use crate::lawful_runs::{TreeLaw, TreeWords, runs_are_one_history};
 use crate::seat::BwSeat;
 use crate::tree::Tree;

@@ -14,6 +14,7 @@ use crate::seat::BwSeat;
 use crate::tree::Tree;
 use atomic_table::Table;
 use bw_model::Limits;
+use compact_rows::CompactRow;
 use op_machine::{Actor, idle_actors_rest};
 use std::alloc::{AllocError, Allocator};
 use std::mem::replace;
@@ -43,6 +44,7 @@ pub(crate) fn begun<A: Allocator + Copy>(
         desk: Desk { place, number: 0 },
         limits,
         actor,
+        spelt: CompactRow::new(),
     };
     Ok((Tree { limits, table }, first, others))
 }
@@ -103,6 +105,7 @@ pub(crate) fn dealt_out<A: Allocator + Copy>(
             desk: Desk { place, number },
             limits,
             actor,
+            spelt: CompactRow::new(),
         })?;
     }
     Ok(seats)

@@ -9,8 +9,8 @@ ghost use Rattle.running_tree.specs.Stands.{StandsWithPlace};
 
 use crate::lawful_runs::runs_keep_rows_apart;
 use crate::tree::Tree;
-use compact_rows::{CompactRows, look_spread, records_have_room};
-use row_search::Rows;
+use compact_rows::{CompactRows, length_spread, look_spread, records_have_room, word_spread};
+use row_search::{Rows, Text};
 use std::alloc::Allocator;
 use table_rule::{TableSeat, look_at};
 use tree_words::row_place;
@@ -22,15 +22,17 @@ pub struct Desk {
     pub(crate) number: u8,
 }
 
-/// A row, and the place of its first word.
+/// A row, the place of its first word, and that word, or in a small tree the one with which the record's spelling begins.
 #[derive(Clone, Copy)]
 pub struct PlacedRow {
     pub(crate) row: u32,
     pub(crate) place: usize,
+    pub(crate) first: u64,
 }
 
 impl<A: Allocator> Rows for Tree<A> {
-    ghost use Rattle.running_tree.specs.Stands.{Stands, read_by};
+    ghost use Rattle.row_search.specs.Begins.{Begins};
+    ghost use Rattle.running_tree.specs.Stands.{Stands, StandsWithPlace, read_by};
 
     type Pass = Desk;
 
@@ -38,17 +40,44 @@ impl<A: Allocator> Rows for Tree<A> {
 
     ghost has = { λ tree desk row content. Stands tree.limits tree.table desk.place.table_id desk.number desk.place.me row content };
 
-    /// Loads, which are no steps: what the seat's actor has read stays until it leaves. In a small tree it is one.
-    #[inline]
-    fn look(&self, pass: &mut Desk, row: u32, at: usize) -> u64 {
-        let row = PlacedRow {
+    type Place = PlacedRow;
+
+    ghost lies = { λ tree desk row content. StandsWithPlace tree.limits tree.table desk.place.table_id desk.number desk.place.me row content × Begins row.first content };
+
+    #[inline(always)]
+    fn place(&self, pass: &Desk, row: u32, first: u64) -> PlacedRow {
+        let _ = pass;
+        PlacedRow {
             row,
             place: row_place(&self.limits, row),
-        };
-        if self.limits.is_large {
-            return look_compact(self, pass, row, at);
+            first,
         }
-        look_word(self, pass, row, at)
+    }
+
+    /// Loads, which are no steps: what the seat's actor has read stays until it leaves. In a small tree it is one. Not inlined: searches ask for
+    /// texts.
+    #[inline(never)]
+    fn look(&self, pass: &mut Desk, place: PlacedRow, at: usize) -> u64 {
+        if self.limits.is_large {
+            return look_compact(self, pass, place, at);
+        }
+        look_word(self, pass, place, at)
+    }
+
+    #[inline(always)]
+    fn length(&self, pass: &mut Desk, place: PlacedRow, text: Text) -> u64 {
+        if self.limits.is_large {
+            return length_spread(self, pass, place, place.first, text);
+        }
+        look_word(self, pass, place, text.length_at())
+    }
+
+    #[inline(always)]
+    fn word(&self, pass: &mut Desk, place: PlacedRow, text: Text, at: usize) -> u64 {
+        if self.limits.is_large {
+            return word_spread(self, pass, place, place.first, text, at);
+        }
+        look_word(self, pass, place, text.length_at() + 1 + at)
     }
 }
 
@@ -64,7 +93,7 @@ impl<A: Allocator> CompactRows for Tree<A> {
     ghost has = { λ tree desk row content. StandsWithPlace tree.limits tree.table desk.place.table_id desk.number desk.place.me row content × HasSpelling content
         × (tree.limits.is_large ≡ true) };
 
-    #[inline]
+    #[inline(always)]
     fn look(&self, pass: &mut Desk, row: PlacedRow, at: usize) -> u64 {
         records_have_room();
         look_word(self, pass, row, at)
@@ -77,7 +106,7 @@ impl<A: Allocator> CompactRows for Tree<A> {
 }
 
 /// A word that a record has in its row, by one load.
-#[inline]
+#[inline(always)]
 fn look_word<A: Allocator>(tree: &Tree<A>, desk: &mut Desk, row: PlacedRow, at: usize) -> u64
     requires has { (content : Record) × StandsWithPlace tree.now.limits tree.now.table desk.old.place.table_id desk.old.number desk.old.place.me row content }
     requires within { at < ROW_WORDS }
@@ -99,6 +128,7 @@ fn look_word<A: Allocator>(tree: &Tree<A>, desk: &mut Desk, row: PlacedRow, at: 
 }
 
 /// A word of the spelling of a record of a large tree.
+#[inline(never)]
 fn look_compact<A: Allocator>(tree: &Tree<A>, desk: &mut Desk, row: PlacedRow, at: usize) -> u64
     requires has { (content : Record) × StandsWithPlace tree.now.limits tree.now.table desk.old.place.table_id desk.old.number desk.old.place.me row content }
     requires within { at < ROW_WORDS }

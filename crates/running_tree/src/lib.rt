@@ -6,14 +6,12 @@
 //! core (`op_machine`), one atomic operation on the tree's words a step (`table_rule`). It takes no lock and allocates nothing. The contract of
 //! a call is about the run that its seat has seen: one history of all actors' steps up to the seat's own last one (specs/Runs, specs/Calls).
 //!
-//! Called by `seats`, `seat_threads`, `workers`, `walks`, `bw_tree_c` and `race`, and by programs that embed a tree (docs/GUIDE.md); `map_laws`
+//! Called by `seats`, `workers`, `walks`, `bw_tree_c` and `race`, and by programs that embed a tree (docs/GUIDE.md); `map_laws`
 //! is about its runs. docs/LOOKUP.md follows one call. It knows no thread and no channel: whoever has a seat steps for its actor.
 #![tactic(auto)]
 
 mod call_laws;
 mod called;
-mod closed;
-mod closed_tree;
 mod closing;
 mod dealing;
 mod desk;
@@ -33,8 +31,8 @@ mod tree;
 pub use call_laws::{calls_keep_real_time, done_calls_reply_last, resumed_calls_are_calls};
 pub use called::{Called, CloseError, CloseRefusal, LoadError, LoadStop};
 pub use change_machine::Kind;
-pub use closed_tree::{ClosedPage, ClosedTree};
 pub use closing::are_idle;
+pub use closing::closed_tree::{ClosedPage, ClosedTree};
 pub use examples::{
     counts_are_taken_by_words, entries_tell_calls, last_call_is_answered, last_replies_are_told,
 };

@@ -13,6 +13,7 @@ use crate::lawful_runs::{laws_of_runs, runs_are_one_history};
 use crate::taking::{Taken, take, take_leave};
 use crate::tree::Tree;
 use bw_model::{Command, Limits, Reply};
+use compact_rows::CompactRow;
 use op_machine::Actor;
 use row_search::RowAt;
 use std::alloc::{Allocator, Global};
@@ -24,6 +25,7 @@ pub struct BwSeat<A: Allocator = Global> {
     pub(crate) desk: Desk,
     pub(crate) limits: Limits,
     pub(crate) actor: Actor<Tree<A>, A>,
+    pub(crate) spelt: CompactRow,
 }
 
 impl<A: Allocator> Drop for BwSeat<A> {
@@ -32,6 +34,7 @@ impl<A: Allocator> Drop for BwSeat<A> {
             desk: _,
             limits: _,
             actor: _,
+            spelt: _,
         } = self;
     }
 }
@@ -64,6 +67,7 @@ impl<A: Allocator> BwSeat<A> {
             desk,
             limits: _,
             actor: _,
+            spelt: _,
         } = self;
         let Desk { place, number: _ } = desk;
         place
@@ -128,6 +132,7 @@ impl<A: Allocator> BwSeat<A> {
             &self.limits,
             self.desk.number,
             &self.actor.wanted(),
+            &mut self.spelt,
         );
         match taken {
             Taken::Leaving => {
@@ -143,7 +148,7 @@ impl<A: Allocator> BwSeat<A> {
                 return true;
             }
             Taken::First(row, first) => {
-                let record = RowAt::<Tree<A>>::of(row, first, &self.desk);
+                let record = RowAt::<Tree<A>>::begun(row, first, &self.desk);
                 self.actor.take_record(record, tree, &mut self.desk);
             }
             Taken::Told(told) => self.actor.go_on(told),

@@ -1,9 +1,12 @@
 //! One step on the words of the tree.
 ghost use Rattle.std.specs.Prelude.{◌≡◌, ◌≢◌, ◌<◌, None, Some, true, false, slice_index};
 ghost use Rattle.deltas.specs.declared.record.Record.{Record as RecordSeen};
-ghost use Rattle.record_slots.specs.Spelling.{words_of};
 ghost use Rattle.record_slots.specs.Spells.{HasSpelling};
+ghost use Rattle.row_search.specs.Begins.{Begins};
+ghost use Rattle.tree_limits.specs.Limits.{most_large_actors};
+ghost use Rattle.tree_words.specs.Changes.{HasWord};
 ghost use Rattle.tree_words.specs.Words.{stored};
+ghost use Rattle.bw_model.specs.Answers.{answer_of};
 ghost use Rattle.bw_model.specs.Lent.{step_of_loan};
 ghost use Rattle.bw_model.specs.declared.step.Answer.TheVariants as Answer;
 ghost use Rattle.bw_model.specs.declared.step.Step.TheVariants.{Leave};
@@ -19,9 +22,9 @@ ghost use Rattle.table_rule.specs.Views.{SitsAt, IsOf, seen_of};
 
 use crate::lawful_runs::{TreeWords, runs_keep_rows_apart};
 use bw_model::{Limits, Reply, Step, Told};
-use compact_rows::{compact_of, records_have_room, words_are_seen};
+use compact_rows::{CompactRow, compact_in, records_have_room, words_are_seen};
 use deltas::Record;
-use record_slots::{FORM, FORM_UNIT, WrittenRow, write_record};
+use record_slots::{WrittenRow, write_record};
 use table_rule::{TableSeat, act, place_row, read_first};
 
 /// What a step answers.
@@ -35,13 +38,15 @@ pub(crate) enum Taken {
     Told(Told),
 }
 
-/// Takes a step that the seat's actor may take, but for the leave.
+/// Takes a step that the seat's actor may take, but for the leave. Reads of rows and slots are most of all steps, and are taken here.
+#[inline(always)]
 pub(crate) fn take(
     words: &TreeWords,
     place: &mut TableSeat,
     limits: &Limits,
     number: u8,
     step: &Step<&Record>,
+    spelt: &mut CompactRow,
 ) -> Taken
     requires table { IsOf limits.now words.now.key words.now.table_id place.old.table_id }
     requires there { number < limits.now.actors }
@@ -59,14 +64,48 @@ pub(crate) fn take(
         Step::Row(row) => {
             runs_keep_rows_apart();
             let first = read_first(words, place, limits, number, *row);
-            Taken::First(*row, spelt_first(limits, first))
+            row_begins(limits, first);
+            Taken::First(*row, first)
         }
         Step::Place(row, record) => {
-            place_record(words, place, limits, number, *row, record);
+            place_record(words, place, limits, number, *row, record, spelt);
             Taken::Told(Told::Done)
         }
-        _ => Taken::Told(act(words, place, limits, number, step, None, None)),
+        Step::Slot(_) => Taken::Told(act(words, place, limits, number, step, None, None)),
+        _ => Taken::Told(act_on(words, place, limits, number, step)),
     }
+}
+
+/// Takes a step that is one atomic operation on a word. Not inlined: a lookup takes two such steps.
+#[inline(never)]
+fn act_on(
+    words: &TreeWords,
+    place: &mut TableSeat,
+    limits: &Limits,
+    number: u8,
+    step: &Step<&Record>,
+) -> Told
+    requires table { IsOf limits.now words.now.key words.now.table_id place.old.table_id }
+    requires range { HasWord limits.now (step_of_loan step.now) }
+    requires actor { number < most_large_actors }
+    requires seat { SitsAt limits.now number Idle place.old.me }
+    requires may { IsLawfulStep IsLawfulRun limits.now number (seen_of place.old.me) None (step_of_loan step.now) None }
+    ensures same { place.new.table_id ≡ place.old.table_id }
+    ensures seat { SitsAt limits.now number Idle place.new.me }
+    ensures took { Took IsLawfulRun limits.now number (seen_of place.old.me) None (step_of_loan step.now) (answer_of result) None (seen_of place.new.me) }
+{
+    act(words, place, limits, number, step, None, None)
+}
+
+/// Shows that a record's row begins with its first word, whichever form it has there, at no cost.
+#[inline(always)]
+fn row_begins(limits: &Limits, first: u64)
+    ensures { (content : RecordSeen) → HasSpelling content → first ≡ slice_index (stored limits.now content) 0 → Begins first content }
+{
+    words_are_seen();
+    records_have_room();
+    let _ = limits;
+    let _ = first;
 }
 
 /// Takes the leave that ends an operation, with its reply.
@@ -96,19 +135,6 @@ pub(crate) fn take_leave(
     );
 }
 
-/// The first word of a record's spelling, by the one that it has in its row.
-fn spelt_first(limits: &Limits, first: u64) -> u64
-    ensures { (content : RecordSeen) → HasSpelling content → first ≡ slice_index (stored limits.now content) 0 → result ≡ slice_index (words_of content) 0 }
-{
-    words_are_seen();
-    records_have_room();
-    if limits.is_large {
-        first % FORM_UNIT + FORM_UNIT * FORM
-    } else {
-        first
-    }
-}
-
 /// Places a record into a row.
 fn place_record(
     words: &TreeWords,
@@ -117,6 +143,7 @@ fn place_record(
     number: u8,
     row: u32,
     content: &Record,
+    spelt: &mut CompactRow,
 )
     requires table { IsOf limits.now words.now.key words.now.table_id place.old.table_id }
     requires there { number < limits.now.actors }
@@ -129,7 +156,7 @@ fn place_record(
     ensures took { Took IsLawfulRun limits.now number (seen_of place.old.me) None (Step.Place row content.now) Answer.Done None (seen_of place.new.me) }
 {
     if limits.is_large {
-        place_compact(words, place, limits, number, row, content);
+        place_compact(words, place, limits, number, row, content, spelt);
     } else {
         place_spelt(words, place, limits, number, row, content);
     }
@@ -144,6 +171,7 @@ fn place_compact(
     number: u8,
     row: u32,
     content: &Record,
+    spelt: &mut CompactRow,
 )
     requires large { limits.now.is_large ≡ true }
     requires table { IsOf limits.now words.now.key words.now.table_id place.old.table_id }
@@ -157,7 +185,7 @@ fn place_compact(
     ensures took { Took IsLawfulRun limits.now number (seen_of place.old.me) None (Step.Place row content.now) Answer.Done None (seen_of place.new.me) }
 {
     runs_keep_rows_apart();
-    let spelt = compact_of(content);
+    compact_in(spelt, content);
     place_row(words, place, limits, number, row, content, spelt.words());
 }
 

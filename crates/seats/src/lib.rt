@@ -2,8 +2,7 @@
 //!
 //! Look first at `opened` and `reply`: a tree with its seats, and one command run to completion.
 //!
-//! Called by `seat_threads` and `workers`, which re-exports all of it; by `bench`; and by `bw_tree_c`, which may link no thread and nothing
-//! that waits. It knows no job and no thread.
+//! Called by `workers`, which re-exports it; by `bench`; and by `bw_tree_c`, which may link no thread and nothing that waits. It knows no job and no thread.
 #![tactic(auto)]
 
 mod gathered;

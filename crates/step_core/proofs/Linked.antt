@@ -14,7 +14,7 @@ use Rattle.traces.specs.declared.trace.Entry.{Entry}
 use Rattle.traces.specs.declared.trace.Entry.TheVariants as entry
 use Rattle.traces.specs.trace.Trace.{memory_of}
 use Rattle.step_core.specs.declared.event.Event.{Event}
-use Rattle.op_machine.specs.theorem.Links.{link_without}
+use Rattle.linearization.specs.Links.{link_without}
 use Rattle.traces.specs.trace.Steps.{IsAnswer, memory_after}
 use Rattle.deltas.specs.Memory.{Memory}
 use Rattle.step_core.specs.declared.event.Event.TheVariants.{Stepped}

@@ -6,7 +6,7 @@ use Rattle.tree_limits.specs.declared.limits.Limits.{Limits}
 use Rattle.traces.specs.declared.trace.Turn.{Turn}
 use Rattle.traces.specs.discipline.Disciplined.{IsDisciplined}
 use Rattle.traces.specs.trace.Trace.{turn_of}
-use Rattle.op_machine.specs.theorem.Linearized.{IsLinearized, IsOrderly}
+use Rattle.linearization.specs.Linearized.{IsLinearized, IsOrderly}
 use Rattle.step_core.specs.declared.event.RunError.{RunError}
 use Rattle.step_core.specs.declared.event.Event.{Event}
 use Rattle.step_core.specs.Turns.{AddsTurn, AddsTurns, Core, Stops, StopsAt}

@@ -18,8 +18,8 @@ use Rattle.traces.specs.discipline.Disciplined.{IsDisciplined}
 use Rattle.traces.specs.trace.Steps.{IsAnswer, MovesRecord}
 use Rattle.traces.specs.trace.Trace.{command_of, memory_of, turn_of}
 use Rattle.deltas.specs.Memory.{Memory}
-use Rattle.op_machine.specs.theorem.Linearized.{IsLinearized, IsOrderly}
-use Rattle.op_machine.specs.theorem.Links.{link_of}
+use Rattle.linearization.specs.Linearized.{IsLinearized, IsOrderly}
+use Rattle.linearization.specs.Links.{link_of}
 use Rattle.step_core.specs.declared.event.RunError.{RunError}
 use Rattle.step_core.specs.declared.event.RunError.TheVariants.{NoActor, Unfinished, NoOperation, Memory as OutOfMemory}
 use Rattle.step_core.specs.declared.event.Event.{Event}

@@ -1,7 +1,7 @@
 //! What an exchange that won has done.
 ghost use Rattle.std.specs.Prelude.{◌≡◌};
 ghost use Rattle.core_memory.specs.Tables.{memory_in};
-ghost use Rattle.op_machine.specs.theorem.Links.{link_of, link_without};
+ghost use Rattle.linearization.specs.Links.{link_of, link_without};
 
 use bw_model::Link;
 use core_memory::CoreTable;

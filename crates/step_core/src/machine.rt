@@ -3,7 +3,7 @@ ghost use Rattle.std.specs.Prelude.{◌≡◌, ◌<◌, ◌≤◌, ◌&&◌, ◌
 ghost use Rattle.traces.specs.discipline.Disciplined.{IsDisciplined};
 ghost use Rattle.traces.specs.trace.Trace.{command_of, turn_of};
 ghost use Rattle.listing.specs.Listed.{IsListing};
-ghost use Rattle.op_machine.specs.theorem.Linearized.{IsLinearized, IsOrderly};
+ghost use Rattle.linearization.specs.Linearized.{IsLinearized, IsOrderly};
 ghost use Rattle.step_core.specs.Turns.{AddsTurn, AddsTurns, BeginsOrLeaves, LeavesAt, StopsAt, WantsMemory, busy_of, refusal_of};
 
 mod views;

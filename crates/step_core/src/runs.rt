@@ -1,7 +1,7 @@
 //! A run of turns from the opening state.
 ghost use Rattle.std.specs.Prelude.{◌≡◌, map, IfOk, IfErr};
 ghost use Rattle.traces.specs.trace.Trace.{turn_of};
-ghost use Rattle.op_machine.specs.theorem.Linearized.{IsLinearized, IsOrderly};
+ghost use Rattle.linearization.specs.Linearized.{IsLinearized, IsOrderly};
 ghost use Rattle.step_core.specs.Turns.{Stops};
 
 use crate::event::{RunError, Trace};

@@ -101,7 +101,7 @@ module _ (left removed : Version) (made merged : Page) (fitted : IsFitted remove
   pub planned : (merge : Merge) → merge ≡ merge_of left removed merged.items → IsMergePlan left removed merge
   planned merge is =
       let few = of_made removed.chain merged (λ items. length items ≤ 4) makes_merged can.few in
-      let roomy = of_made left.chain made (λ items. length items < 16) makes can.roomy in
+      let roomy = of_made left.chain made (λ items. length items ≤ 16) makes can.roomy in
       let unheld = unheld_from merged.items (of_made removed.chain merged (λ items. held_count items ≡ 0) makes_merged can.unheld) in
       let due = merge_of left removed merged.items in
       let fit : FitsMerge made due = record

@@ -14,3 +14,4 @@ pub mod Unterms
 pub mod Plans
 pub mod Linking
 pub mod Upkeep
+pub mod Updates

@@ -7,9 +7,9 @@ use Rattle.traces.specs.chain.Chains.{IsItemsOf, high_in, is_removed, level_in, 
 use Rattle.traces.specs.discipline.Discipline.{FitsOn}
 use Rattle.structure_changes.specs.Versions.{Version}
 use Rattle.structure_changes.specs.Neighbours.{IsNextTo}
-use Rattle.structure_changes.specs.Sizes.{HasFewDeltas, HasFewItems, HasItems, HasNoneHeld}
+use Rattle.structure_changes.specs.Sizes.{HasFewDeltas, HasItems, HasMergeRoom, HasNoneHeld}
 
--- The left page isn't removed, and has fewer than 8 deltas and fewer than 16 items; the other is its right, begins at its high
+-- The left page isn't removed, and has fewer than 8 deltas and 16 items at most; the other is its right, begins at its high
 -- key, is of its level and removed, and has at most 4 items, none of them held.
 pub record CanMerge (left removed : Version) : Type 0 where
   pub alive : is_removed left.chain ≡ false
@@ -19,7 +19,7 @@ pub record CanMerge (left removed : Version) : Type 0 where
   pub few : HasItems removed.chain (λ items. length items ≤ 4)
   pub unheld : HasNoneHeld removed.chain
   pub short : HasFewDeltas left.chain
-  pub roomy : HasFewItems left.chain
+  pub roomy : HasMergeRoom left.chain
 
 -- the merge, over the left page, of the removed page that has these items
 abbrev pub merge_of : Version → Version → List Item → Merge

@@ -25,6 +25,10 @@ HasFewItems chain = HasItems chain (λ items. length items < 16)
 abbrev pub HasManyItems : List Record → Type 0
 HasManyItems chain = HasItems chain (λ items. 16 ≤ length items)
 
+-- room for the items of a removed page: 16 items or fewer
+abbrev pub HasMergeRoom : List Record → Type 0
+HasMergeRoom chain = HasItems chain (λ items. length items ≤ 16)
+
 -- no item is held
 abbrev pub HasNoneHeld : List Record → Type 0
 HasNoneHeld chain = HasItems chain (λ items. held_count items ≡ 0)

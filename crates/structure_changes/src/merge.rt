@@ -5,15 +5,15 @@ ghost use Rattle.structure_changes.specs.Reads.{IsReadPage};
 
 use crate::PageInHand;
 use crate::neighbours::is_next_to;
-use crate::sizes::{MANY_DELTAS, MANY_ITEMS};
+use crate::sizes::{MANY_DELTAS, MERGE_ITEMS};
 use base_page::held_count;
 use bw_model::Key;
 use deltas::Merge;
 use row_search::Rows;
 use std::alloc::Allocator;
 
-/// The merge of what the removed page has; none exactly where the left page is removed, or has many deltas or items, or the other isn't
-/// its right and stands at its high key, isn't removed, is of another level, or has a held term. (A removed page has few items.)
+/// The merge of what the removed page has; none exactly where the left page is removed, has many deltas or more than
+/// `MERGE_ITEMS` items, or the other isn't its right and stands at its high key, isn't removed, is of another level, or has a held term. (A removed page has few items.)
 pub fn plan_merge<R: Rows, A: Allocator>(
     left: &PageInHand<R, A>,
     removed: &PageInHand<R, A>,
@@ -46,7 +46,7 @@ pub fn plan_merge<R: Rows, A: Allocator>(
     if chain.deltas() >= MANY_DELTAS {
         return None;
     }
-    if chain.item_count(rows, pass) >= MANY_ITEMS {
+    if chain.item_count(rows, pass) > MERGE_ITEMS {
         return None;
     }
     let merged = gone.page(rows, pass);

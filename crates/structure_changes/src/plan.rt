@@ -1,8 +1,9 @@
 //! What a change is to link.
 ghost use Rattle.std.specs.Prelude.{◌≡◌};
+ghost use Rattle.structure_changes.specs.declared.plan.Plan.TheVariants.{Install};
 ghost use Rattle.structure_changes.specs.Plans.{cleared_page, cleared_row, clears, head_of, needs_pid, new_base, new_record, over, rows_needed, slot_of};
 
-use crate::{PageInHand, SplitPlan};
+use crate::{PageInHand, SplitPlan, UpdateRecord};
 use base_page::Page;
 use deltas::{Record, Unterm};
 use row_search::Rows;
@@ -58,6 +59,33 @@ impl Plan {
             head: page.head(),
             content,
         }
+    }
+
+    /// Becomes an update's record over the row `head` of a page, in the room of one that was planned there before, if one was.
+    pub fn update(&mut self, pid: u32, head: u32, update: &UpdateRecord)
+        ensures { self.new ≡ Install pid head update.now }
+    {
+        if let Plan::Install {
+            pid: page,
+            head: row,
+            content,
+        } = &mut *self
+        {
+            *page = pid;
+            *row = head;
+            return update.tell(content);
+        }
+        self.update_anew(pid, head, update);
+    }
+
+    /// Becomes an update's record over whatever was planned before. Not inlined: a record with room for any is made first.
+    #[inline(never)]
+    fn update_anew(&mut self, pid: u32, head: u32, update: &UpdateRecord)
+        ensures { self.new ≡ Install pid head update.now }
+    {
+        let mut content = Record::default();
+        update.tell(&mut content);
+        *self = Plan::Install { pid, head, content };
     }
 
     /// Whether there is to be a new page.

@@ -16,6 +16,9 @@ pub const MANY_ITEMS: usize = 16;
 /// A page with this many items or fewer may be removed.
 pub const FEW_ITEMS: usize = 4;
 
+/// A page with this many items or fewer may get those of the removed page to its right: there are 20 then at most.
+pub const MERGE_ITEMS: usize = 16;
+
 /// The highest level of a page.
 pub const TOP_LEVEL: u8 = 15;
 

@@ -19,6 +19,7 @@ use bw_model::Limits;
 use tree_words::row_place;
 
 /// Reads a row that the seat's actor has learnt, by one load: that of its first word, which is the step.
+#[inline(always)]
 pub fn read_first<P: Law>(
     words: &Words<P>,
     seat: &mut TableSeat,
@@ -42,6 +43,7 @@ pub fn read_first<P: Law>(
 
 /// Looks at a word of a row whose record the seat's actor has read since it entered, by one load, and by the place of the row's first word. That is no
 /// step, and the seat stays as it is: nobody places anything there before the actor leaves.
+#[inline(always)]
 pub fn look_at<P: Law>(
     words: &Words<P>,
     seat: &mut TableSeat,

@@ -19,6 +19,7 @@ use tree_words::{
 
 /// Takes a step of the seat's actor that is one atomic operation on a word, and returns its answer. `begun` is the command of an operation
 /// that begins with the step, `reply` the reply of one that it ends; both are for the contract alone.
+#[inline(always)]
 pub fn act<P: Law>(
     words: &Words<P>,
     seat: &mut TableSeat,
@@ -41,6 +42,7 @@ pub fn act<P: Law>(
 }
 
 /// As `act`, once the caller has picked what the step's contract names (`Telling`).
+#[inline(always)]
 fn act_told<P: Law, C: Telling>(
     words: &Words<P>,
     seat: &mut TableSeat,
@@ -77,6 +79,7 @@ fn act_told<P: Law, C: Telling>(
 }
 
 /// Makes the operation that the step is, and answers the number that it found; of a store, the number that it wrote.
+#[inline(always)]
 fn operate<P: Law, C: Telling>(
     words: &Words<P>,
     seat: &mut TableSeat,

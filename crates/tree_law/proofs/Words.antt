@@ -72,22 +72,22 @@ pub use Rattle.traces.specs.chain.Unheld.{IsUnheld}
 pub use Rattle.traces.specs.discipline.Useful.{IsUseful}
 pub use Rattle.traces.specs.declared.trace.Entry.{Entry}
 pub use Rattle.traces.specs.declared.trace.Entry.TheVariants.{Begin, Step}
-pub use Rattle.op_machine.proofs.Listed.{and_right, same_operation, and_left, all_below-at}
-pub use Rattle.op_machine.proofs.LogLaws.{log_of-push, log_at-push}
-pub use Rattle.op_machine.specs.theorem.Answered.{WasHeldBack, RepliesAt}
-pub use Rattle.op_machine.specs.theorem.Direct.{is_step_of, Links, IsExchangeOf, IsCause, TakesNone, IsDirect, IsTheStep, IsTake}
-pub use Rattle.op_machine.specs.theorem.Examples.{opening_leaf, small, put_a}
-pub use Rattle.op_machine.specs.theorem.Index.{IsLeftmost, IsRootLevel, Indexes, HasPhaseOfTerm}
-pub use Rattle.op_machine.specs.theorem.Linearized.{IsLinearized}
-pub use Rattle.op_machine.specs.theorem.Links.{link_without, link_of, Wins, Installs}
-pub use Rattle.op_machine.specs.theorem.Operations.{IsOperation, Operation, Finishes, IsOwnStep, TakesOwnStep}
-pub use Rattle.op_machine.specs.theorem.Phases.{indexed, free, IsInPhase, MovesPhase, removes, Phase, cleared, held, removed, merged, splits, merges}
-pub use Rattle.op_machine.specs.theorem.Phases.{becomes_root, reuses, under_root, terms, holds, unterms}
-pub use Rattle.op_machine.specs.theorem.Points.{log_at, log_of, IsPoint}
-pub use Rattle.op_machine.specs.theorem.Quiet.{HasMapOf, IsQuiet}
-pub use Rattle.op_machine.specs.theorem.Reuse.{UnlinksPid, UnlinksRow, HandsPid, HandsRow}
-pub use Rattle.op_machine.specs.theorem.Readers.{IsOfUse, IsReading}
-pub use Rattle.op_machine.specs.theorem.Updates.{UpdatesAtLinks, IsUpdateLink, LinksUpdate}
+pub use Rattle.linearization.proofs.Listed.{and_right, same_operation, and_left, all_below-at}
+pub use Rattle.linearization.proofs.LogLaws.{log_of-push, log_at-push}
+pub use Rattle.linearization.specs.Answered.{WasHeldBack, RepliesAt}
+pub use Rattle.linearization.specs.Direct.{is_step_of, Links, IsExchangeOf, IsCause, TakesNone, IsDirect, IsTheStep, IsTake}
+pub use Rattle.linearization.specs.Examples.{opening_leaf, small, put_a}
+pub use Rattle.linearization.specs.Index.{IsLeftmost, IsRootLevel, Indexes, HasPhaseOfTerm}
+pub use Rattle.linearization.specs.Linearized.{IsLinearized}
+pub use Rattle.linearization.specs.Links.{link_without, link_of, Wins, Installs}
+pub use Rattle.linearization.specs.Operations.{IsOperation, Operation, Finishes, IsOwnStep, TakesOwnStep}
+pub use Rattle.linearization.specs.Phases.{indexed, free, IsInPhase, MovesPhase, removes, Phase, cleared, held, removed, merged, splits, merges}
+pub use Rattle.linearization.specs.Phases.{becomes_root, reuses, under_root, terms, holds, unterms}
+pub use Rattle.linearization.specs.Points.{log_at, log_of, IsPoint}
+pub use Rattle.linearization.specs.Quiet.{HasMapOf, IsQuiet}
+pub use Rattle.linearization.specs.Reuse.{UnlinksPid, UnlinksRow, HandsPid, HandsRow}
+pub use Rattle.linearization.specs.Readers.{IsOfUse, IsReading}
+pub use Rattle.linearization.specs.Updates.{UpdatesAtLinks, IsUpdateLink, LinksUpdate}
 pub use Rattle.tree_law.specs.AllLinks.{split_a, term_b, item_a, base_b, unterm_a, split_b, upper_a, deletion_a, merge_a, all_links, insert_a}
 pub use Rattle.tree_law.specs.CursorPages.{right_term}
 pub use Rattle.tree_law.specs.Direct.{Accounts, IsLast, Affords, IsDirectState, Recollects, Walks, StaysDirect}

@@ -13,7 +13,7 @@ use Rattle.deltas.specs.declared.record.Record.TheVariants as delta
 use Rattle.traces.specs.discipline.Discipline.{base_from}
 use Rattle.traces.specs.declared.trace.Entry.{Entry}
 use Rattle.traces.specs.declared.trace.Entry.TheVariants.{Begin, Step}
-use Rattle.op_machine.specs.theorem.Examples.{opening_leaf, put_a}
+use Rattle.linearization.specs.Examples.{opening_leaf, put_a}
 use Rattle.tree_law.specs.Example.{a, root_a, hold_a, remove_a, enters, takes_rows, places, roots}
 
 abbrev pub insert_a : Command

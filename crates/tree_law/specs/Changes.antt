@@ -19,9 +19,9 @@ use Rattle.traces.specs.discipline.Knowledge.{Asked, Knowledge, OwnRow, Foreign,
 use Rattle.traces.specs.discipline.Useful.{IsUseful}
 use Rattle.traces.specs.trace.Steps.{IsAnswer}
 use Rattle.traces.specs.trace.Trace.{Happens, command_of, memory_of}
-use Rattle.op_machine.specs.theorem.Changes.{HasFewChanges}
-use Rattle.op_machine.specs.theorem.Halves.{IsHalved}
-use Rattle.op_machine.specs.theorem.Progress.{ChangesTree, is_begin, takes_number}
+use Rattle.linearization.specs.Changes.{HasFewChanges}
+use Rattle.linearization.specs.Halves.{IsHalved}
+use Rattle.linearization.specs.Progress.{ChangesTree, is_begin, takes_number}
 use Rattle.tree_law.specs.Keys.{Key}
 use Rattle.tree_law.specs.Owners.{Linked, Owners}
 use Rattle.tree_law.specs.Phase.{Fresh, Indexed, Held, Removed, Merged, PageOwner, Nobody, Keeps, Placed, Cleared}

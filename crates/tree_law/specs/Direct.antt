@@ -22,10 +22,10 @@ use Rattle.traces.specs.discipline.Knowledge.{Ready, knows}
 use Rattle.traces.specs.discipline.Recalled.{Recalled, Walk, AnyNames, IsStepSpent, IsUnread, cause_worth, is_removal, recalls, removal_level}
 use Rattle.traces.specs.trace.Steps.{IsAnswer}
 use Rattle.traces.specs.trace.Trace.{memory_of}
-use Rattle.op_machine.specs.theorem.Direct.{IsCause, IsDirect, IsExchangeOf, IsTake, Links, IsTheStep, TakesNone, is_step_of}
-use Rattle.op_machine.specs.theorem.Readers.{IsOfUse}
-use Rattle.op_machine.specs.theorem.Operations.{Operation, IsOperation, TakesOwnStep}
-use Rattle.op_machine.specs.theorem.Updates.{IsUpdateLink}
+use Rattle.linearization.specs.Direct.{IsCause, IsDirect, IsExchangeOf, IsTake, Links, IsTheStep, TakesNone, is_step_of}
+use Rattle.linearization.specs.Readers.{IsOfUse}
+use Rattle.linearization.specs.Operations.{Operation, IsOperation, TakesOwnStep}
+use Rattle.linearization.specs.Updates.{IsUpdateLink}
 use Rattle.tree_law.specs.State.{IsState, IsUnended}
 
 -- The operation is the last that its actor has begun.

@@ -9,7 +9,7 @@ use Rattle.traces.specs.chain.Chains.{IsChainOf, content_in, level_in, low_in, c
 use Rattle.traces.specs.chain.SideChain.{LivePage, IsSideChainFrom, IsWhole}
 use Rattle.traces.specs.declared.trace.Entry.{Entry}
 use Rattle.traces.specs.trace.Trace.{memory_at}
-use Rattle.op_machine.specs.theorem.Index.{IsRootLevel, IsLeftmost, IsExactIndex}
+use Rattle.linearization.specs.Index.{IsRootLevel, IsLeftmost, IsExactIndex}
 use Rattle.tree_law.specs.Keys.{Key}
 use Rattle.tree_law.specs.Phase.{Stage, PageOwner, Placed, mark, rank}
 use Rattle.tree_law.specs.Owners.{Owners}

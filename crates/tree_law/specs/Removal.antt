@@ -7,7 +7,7 @@ use Rattle.bw_model.specs.declared.step.Step.TheVariants.{Slot, Row, Epoch, Exch
 use Rattle.bw_model.specs.declared.step.Answer.TheVariants.{Number, Content, Whether, Done}
 use Rattle.traces.specs.declared.trace.Entry.{Entry}
 use Rattle.traces.specs.declared.trace.Entry.TheVariants.{Begin, Step}
-use Rattle.op_machine.specs.theorem.Examples.{opening_leaf}
+use Rattle.linearization.specs.Examples.{opening_leaf}
 use Rattle.tree_law.specs.Example.{get_a, root_a, hold_a, remove_a, takes_rows, places}
 use Rattle.tree_law.specs.TwoSplits.{b, two_splits, upper_b, first_split, upper_c, second_split}
 

@@ -16,15 +16,15 @@ use Rattle.traces.specs.declared.trace.Entry.TheVariants.{Begin}
 use Rattle.traces.specs.discipline.Learnt.{HasLearnt}
 use Rattle.traces.specs.trace.Run.{IsRun}
 use Rattle.traces.specs.trace.Trace.{memory_of, memory_at, command_of}
-use Rattle.op_machine.specs.theorem.Answered.{FindsNothingFree, FindsTidy, RepliesAt}
-use Rattle.op_machine.specs.theorem.Operations.{EndAtLeaves, Operation, IsOperation, IsOwnStep, TakesOwnStep, Finishes}
-use Rattle.op_machine.specs.theorem.Points.{log_of, log_at, IsPoint}
-use Rattle.op_machine.specs.theorem.Quiet.{IsQuiet}
-use Rattle.op_machine.specs.theorem.Faithful.{IsFaithful, KnowsRow}
-use Rattle.op_machine.specs.theorem.Phases as phase
-use Rattle.op_machine.specs.theorem.Phases.{Phase, IsInPhase, KeepsPhases}
-use Rattle.op_machine.specs.theorem.Updates.{UpdatesAtLinks}
-use Rattle.op_machine.specs.theorem.Reuse.{HandsPid, HandsRow, UnlinksPid, UnlinksRow, IsFreedByRule}
+use Rattle.linearization.specs.Answered.{FindsNothingFree, FindsTidy, RepliesAt}
+use Rattle.linearization.specs.Operations.{EndAtLeaves, Operation, IsOperation, IsOwnStep, TakesOwnStep, Finishes}
+use Rattle.linearization.specs.Points.{log_of, log_at, IsPoint}
+use Rattle.linearization.specs.Quiet.{IsQuiet}
+use Rattle.linearization.specs.Faithful.{IsFaithful, KnowsRow}
+use Rattle.linearization.specs.Phases as phase
+use Rattle.linearization.specs.Phases.{Phase, IsInPhase, KeepsPhases}
+use Rattle.linearization.specs.Updates.{UpdatesAtLinks}
+use Rattle.linearization.specs.Reuse.{HandsPid, HandsRow, UnlinksPid, UnlinksRow, IsFreedByRule}
 use Rattle.tree_law.specs.Fitness.{AreFitted, AreUnheld}
 use Rattle.tree_law.specs.Indexed.{IsFirst, IsIndexedAlong}
 use Rattle.tree_law.specs.Limbos.{IsInLimbo}

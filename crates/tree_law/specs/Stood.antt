@@ -12,7 +12,7 @@ use Rattle.traces.specs.chain.Chains.{IsChainFrom, IsChainOf, content_in, covers
 use Rattle.traces.specs.discipline.Knowledge.{Readings}
 use Rattle.traces.specs.chain.SideChain.{LivePage, IsLeaves, Spells}
 use Rattle.traces.specs.trace.Trace.{command_of, memory_at}
-use Rattle.op_machine.specs.theorem.Operations.{Operation, IsOwnStep, TakesOwnStep}
+use Rattle.linearization.specs.Operations.{Operation, IsOwnStep, TakesOwnStep}
 
 -- The page is a leaf of the memory with this chain, and no other leaf has a key of its range; only page 1 begins at the empty key.
 pub record IsLeafWith (memory : Memory) (page : LivePage) : Type 0 where

@@ -4,7 +4,7 @@ use Rattle.bw_model.specs.declared.step.Step.TheVariants.{Epoch, Place, Exchange
 use Rattle.bw_model.specs.declared.step.Answer.TheVariants.{Number, Whether, Done}
 use Rattle.traces.specs.declared.trace.Entry.{Entry}
 use Rattle.traces.specs.declared.trace.Entry.TheVariants.{Begin, Step}
-use Rattle.op_machine.specs.theorem.Examples.{opening_leaf}
+use Rattle.linearization.specs.Examples.{opening_leaf}
 use Rattle.tree_law.specs.Example.{get_a}
 
 -- The actor reads the epoch, goes on to the next one, and looks at the other actor, which is outside. Then page 2, which was

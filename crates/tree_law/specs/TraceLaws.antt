@@ -17,12 +17,12 @@ use Rattle.traces.specs.trace.Steps.{IsAnswer}
 use Rattle.traces.specs.trace.Trace.{command_of, commands_after, memory_after_entry, memory_of, turn_of}
 use Rattle.traces.specs.declared.trace.Entry.{Entry}
 use Rattle.traces.specs.declared.trace.Entry.TheVariants.{Begin, Step}
-use Rattle.op_machine.specs.theorem.Index.{IsExactIndex}
-use Rattle.op_machine.specs.theorem.Linearized.{IsLinearized}
-use Rattle.op_machine.specs.theorem.Phases.{KeepsPhases}
-use Rattle.op_machine.specs.theorem.Points.{log_of}
-use Rattle.op_machine.specs.theorem.Quiet.{HasMapOf}
-use Rattle.op_machine.specs.theorem.Reuse.{IsFreedByRule}
+use Rattle.linearization.specs.Index.{IsExactIndex}
+use Rattle.linearization.specs.Linearized.{IsLinearized}
+use Rattle.linearization.specs.Phases.{KeepsPhases}
+use Rattle.linearization.specs.Points.{log_of}
+use Rattle.linearization.specs.Quiet.{HasMapOf}
+use Rattle.linearization.specs.Reuse.{IsFreedByRule}
 use Rattle.tree_law.specs.Leaves.{HasLeafPages}
 use Rattle.tree_law.specs.LevelPages.{HasAllLevels}
 use Rattle.tree_law.specs.OneMemory.{HasWholeTree}

@@ -9,7 +9,7 @@ use Rattle.deltas.specs.declared.record.Record.TheVariants as delta
 use Rattle.traces.specs.discipline.Discipline.{base_from}
 use Rattle.traces.specs.declared.trace.Entry.{Entry}
 use Rattle.traces.specs.declared.trace.Entry.TheVariants.{Step}
-use Rattle.op_machine.specs.theorem.Examples.{opening_leaf}
+use Rattle.linearization.specs.Examples.{opening_leaf}
 use Rattle.tree_law.specs.Example.{a, root_a, enters, takes_rows, places, roots}
 use Rattle.tree_law.specs.Keys.{Key}
 

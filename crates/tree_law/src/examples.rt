@@ -3,7 +3,7 @@ ghost use Rattle.std.specs.Prelude.{◌++◌};
 ghost use Rattle.traces.specs.discipline.Disciplined.{IsDisciplined};
 ghost use Rattle.tree_law.specs.AllLinks.{all_links};
 ghost use Rattle.tree_law.specs.CursorPages.{back_page, last_page, upkeep};
-ghost use Rattle.op_machine.specs.theorem.Examples.{small};
+ghost use Rattle.linearization.specs.Examples.{small};
 ghost use Rattle.tree_law.specs.HelpedSplit.{helped_split};
 ghost use Rattle.tree_law.specs.IndexRemoval.{index_removal};
 ghost use Rattle.tree_law.specs.NoRoom.{no_room};

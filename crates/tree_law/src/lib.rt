@@ -37,7 +37,7 @@
 //!   few times (`few_changes`).
 //!
 //! docs/PROOF.md has the argument. Called by `step_core` and `running_tree`, which keep the invariant; `listing` and `tree_picture` use what it says of leaves
-//! and levels. It knows no operation, only the discipline; neither `op_machine`'s code nor any way through the tree is named here.
+//! and levels. It knows no step machine and no way through the tree, only the discipline.
 #![tactic(auto)]
 
 mod changes;

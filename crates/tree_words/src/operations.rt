@@ -24,6 +24,7 @@ pub enum Operation {
 }
 
 /// The place of the word of an actor's step.
+#[inline(always)]
 pub fn word_place(limits: &Limits, actor: u8, step: &Step<&Record>) -> usize
     requires { HasWord limits.now (step_of_loan step.now) }
     ensures { result ≡ changed_word limits.now actor (step_of_loan step.now) }
@@ -42,6 +43,7 @@ pub fn word_place(limits: &Limits, actor: u8, step: &Step<&Record>) -> usize
 }
 
 /// The operation that a step is.
+#[inline(always)]
 pub fn made_by(limits: &Limits, step: &Step<&Record>) -> Operation
     requires { HasWord limits.now (step_of_loan step.now) }
     ensures made { result ≡ operation_of (step_of_loan step.now) }
@@ -60,6 +62,7 @@ pub fn made_by(limits: &Limits, step: &Step<&Record>) -> Operation
 }
 
 /// What a step is told by the number that it found in its word.
+#[inline(always)]
 pub fn told_by(limits: &Limits, step: &Step<&Record>, found: u64) -> Told
     requires { HasWord limits.now (step_of_loan step.now) }
     ensures { answer_of result ≡ answer_by (step_of_loan step.now) found }

@@ -4,7 +4,7 @@ use Rattle.std.specs.Prelude.{if◌then◌else◌}
 use Rattle.bw_model.specs.declared.command.Command.TheVariants as command
 use Rattle.bw_model.specs.declared.command.Reply.{Reply}
 use Rattle.bw_model.specs.declared.command.Reply.TheVariants as reply
-use Rattle.op_machine.specs.theorem.Operations.{Finishes}
+use Rattle.linearization.specs.Operations.{Finishes}
 use Rattle.running_tree.specs.Runs.{IsOneHistory}
 use Rattle.running_tree.specs.Seats.{IsSame, Seat, unfinished_command}
 use Rattle.running_tree.specs.declared.called.Called.{Called}

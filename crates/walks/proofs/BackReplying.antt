@@ -16,10 +16,10 @@ use Rattle.traces.specs.chain.SideChain.{LivePage}
 use Rattle.traces.specs.declared.trace.Entry.{Entry}
 use Rattle.traces.specs.declared.trace.Turn.{Turn}
 use Rattle.traces.specs.trace.Trace.{memory_at}
-use Rattle.op_machine.specs.theorem.Answered.{FindsTidy, IsTrueReply, RepliesAtPoint, ShowsBack}
-use Rattle.op_machine.specs.theorem.Linearized.{IsLinearized}
-use Rattle.op_machine.specs.theorem.Operations.{IsOwnStep, Operation}
-use Rattle.op_machine.specs.theorem.Points.{IsPoint, log_at}
+use Rattle.linearization.specs.Answered.{FindsTidy, IsTrueReply, RepliesAtPoint, ShowsBack}
+use Rattle.linearization.specs.Linearized.{IsLinearized}
+use Rattle.linearization.specs.Operations.{IsOwnStep, Operation}
+use Rattle.linearization.specs.Points.{IsPoint, log_at}
 use Rattle.map_laws.proofs.Ending.{own_before}
 use Rattle.walks.specs.BackPages.{AreKeyPairs, BackPage, IsBackOf, IsBackShown, back_operation, begin_above, pairs_from, place_from}
 use Rattle.walks.proofs.BackCuts.{cut_from, goes_below}

@@ -10,7 +10,7 @@ use Rattle.bw_model.specs.declared.step.Step.TheVariants.{Leave}
 use Rattle.traces.specs.declared.trace.Entry.TheVariants.{Step}
 use Rattle.traces.specs.discipline.Disciplined.{own_entries}
 use Rattle.traces.specs.trace.Trace.{command_of}
-use Rattle.op_machine.specs.theorem.Operations.{Finishes, IsOperation, Operation}
+use Rattle.linearization.specs.Operations.{Finishes, IsOperation, Operation}
 use Rattle.running_tree.specs.Calls.{EndsWith, answered_last, calls_in, calls_of}
 use Rattle.running_tree.specs.Runs.{IsOneHistory, StartsWith}
 use Rattle.running_tree.specs.Seats.{IsSame, Seat, unfinished_command}

@@ -11,10 +11,10 @@ use Rattle.tree_limits.specs.declared.limits.Limits.{Limits}
 use Rattle.traces.specs.declared.trace.Entry.{Entry}
 use Rattle.traces.specs.declared.trace.Turn.{Turn}
 use Rattle.traces.specs.trace.Trace.{memory_at}
-use Rattle.op_machine.specs.theorem.Answered.{FindsTidy, IsTrueReply, RepliesAtPoint, ShowsPage}
-use Rattle.op_machine.specs.theorem.Linearized.{IsLinearized}
-use Rattle.op_machine.specs.theorem.Operations.{IsOwnStep, Operation}
-use Rattle.op_machine.specs.theorem.Points.{IsPoint, log_at}
+use Rattle.linearization.specs.Answered.{FindsTidy, IsTrueReply, RepliesAtPoint, ShowsPage}
+use Rattle.linearization.specs.Linearized.{IsLinearized}
+use Rattle.linearization.specs.Operations.{IsOwnStep, Operation}
+use Rattle.linearization.specs.Points.{IsPoint, log_at}
 use Rattle.base_page.proofs.KeyLaws.{and_right, either}
 use Rattle.bw_model.specs.Bytes.{is_below, is_under}
 use Rattle.traces.specs.chain.Chains.{covers, high_in, low_in}

@@ -11,7 +11,7 @@ use Rattle.bw_model.specs.declared.command.Reply.{Reply}
 use Rattle.base_page.proofs.KeyLaws.{and_both, and_left, and_right, below_from, below-trans, below_reach, either, not_true}
 use Rattle.traces.specs.declared.trace.Entry.{Entry}
 use Rattle.traces.proofs.Pushes.{slice_get-append_left, slice_get_below, slice_get_kept}
-use Rattle.op_machine.specs.theorem.Operations.{Finishes, Operation}
+use Rattle.linearization.specs.Operations.{Finishes, Operation}
 use Rattle.running_tree.specs.Runs.{StartsWith}
 use Rattle.walks.specs.Pages.{IsPageOf, IsPageShown, WalkedPage, end_under, page_operation, place_under}
 use Rattle.walks.specs.Walks.{PairsAscend, IsWalk, TellMap, pairs_shown}

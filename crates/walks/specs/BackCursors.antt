@@ -7,7 +7,7 @@ use Rattle.bw_model.specs.declared.command.Reply.{Reply}
 use Rattle.traces.specs.declared.trace.Entry.{Entry}
 use Rattle.traces.specs.declared.trace.Turn.{Turn}
 use Rattle.tree_limits.specs.declared.limits.Limits.{Limits}
-use Rattle.op_machine.specs.theorem.Linearized.{IsLinearized}
+use Rattle.linearization.specs.Linearized.{IsLinearized}
 use Rattle.running_tree.specs.Runs.{StartsWith}
 use Rattle.running_tree.specs.Seats.{IsSame, Seat}
 use Rattle.running_tree.specs.declared.called.Called.TheVariants as called

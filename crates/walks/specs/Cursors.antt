@@ -7,7 +7,7 @@ use Rattle.traces.specs.trace.Trace.{command_of}
 use Rattle.traces.specs.declared.trace.Entry.{Entry}
 use Rattle.traces.specs.declared.trace.Turn.{Turn}
 use Rattle.tree_limits.specs.declared.limits.Limits.{Limits}
-use Rattle.op_machine.specs.theorem.Linearized.{IsLinearized}
+use Rattle.linearization.specs.Linearized.{IsLinearized}
 use Rattle.running_tree.specs.Calls.{IsCalled, IsResumed, calls_in}
 use Rattle.running_tree.specs.Runs.{StartsWith}
 use Rattle.running_tree.specs.Seats.{IsSame, Seat}

@@ -5,8 +5,8 @@ use Rattle.bw_model.specs.Pairs.{IsPairsOf}
 use Rattle.bw_model.specs.declared.command.Command.TheVariants as command
 use Rattle.bw_model.specs.declared.command.Reply.TheVariants as reply
 use Rattle.traces.specs.declared.trace.Entry.{Entry}
-use Rattle.op_machine.specs.theorem.Operations.{Finishes, IsOperation, IsOwnStep, Operation}
-use Rattle.op_machine.specs.theorem.Points.{IsPoint, log_at}
+use Rattle.linearization.specs.Operations.{Finishes, IsOperation, IsOwnStep, Operation}
+use Rattle.linearization.specs.Points.{IsPoint, log_at}
 
 -- a page: the key at which it begins, the key at which the walk goes on after it, if it does, the pairs that it shows, and its operation: of
 -- which actor, and at which places of the run it was begun and was done

@@ -4,7 +4,7 @@ use Rattle.std.specs.List.Sorted.{IsStrictlySortedBy}
 use Rattle.bw_model.specs.Bytes.{is_in_range, key_cmp}
 use Rattle.bw_model.specs.Log.{logged_value}
 use Rattle.traces.specs.declared.trace.Entry.{Entry}
-use Rattle.op_machine.specs.theorem.Points.{log_at}
+use Rattle.linearization.specs.Points.{log_at}
 use Rattle.walks.specs.Pages.{IsPageOf, WalkedPage}
 
 -- The walk stood at one key, or at its end, and went on from there by these pages to where it stands: each begins at the key where the one

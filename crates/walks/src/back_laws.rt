@@ -6,7 +6,7 @@ ghost use Rattle.running_tree.specs.Runs.{StartsWith};
 ghost use Rattle.running_tree.specs.Seats.{IsSame, Seat};
 ghost use Rattle.traces.specs.declared.trace.Entry.{Entry};
 ghost use Rattle.traces.specs.declared.trace.Turn.{Turn};
-ghost use Rattle.op_machine.specs.theorem.Linearized.{IsLinearized};
+ghost use Rattle.linearization.specs.Linearized.{IsLinearized};
 ghost use Rattle.walks.specs.BackCursors.{BackCursor, HasWalkedBack, IsNextBack, added_back};
 ghost use Rattle.walks.specs.BackPages.{BackPage, IsBackOf, IsBackShown, begin_above};
 ghost use Rattle.walks.specs.BackWalks.{IsBackWalk, TellKeys, pairs_upward};

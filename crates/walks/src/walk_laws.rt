@@ -5,7 +5,7 @@ ghost use Rattle.running_tree.specs.Runs.{StartsWith};
 ghost use Rattle.running_tree.specs.Seats.{IsSame, Seat};
 ghost use Rattle.traces.specs.declared.trace.Entry.{Entry};
 ghost use Rattle.traces.specs.declared.trace.Turn.{Turn};
-ghost use Rattle.op_machine.specs.theorem.Linearized.{IsLinearized};
+ghost use Rattle.linearization.specs.Linearized.{IsLinearized};
 ghost use Rattle.walks.specs.Cursors.{Cursor, HasWalked, IsNextOf, added_by};
 ghost use Rattle.walks.specs.Pages.{IsPageOf, IsPageShown, WalkedPage, end_under};
 ghost use Rattle.walks.specs.Walks.{IsWalk, TellMap, pairs_shown};

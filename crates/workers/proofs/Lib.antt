@@ -1,7 +1,9 @@
 mod Ascending
+pub mod Behind
 mod Beginning
 mod Doing
 mod Going
 mod Looked
 mod Named
 mod Parting
+pub mod UnderWay

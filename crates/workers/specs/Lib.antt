@@ -2,3 +2,4 @@ pub mod Begun
 pub mod Jobs
 pub mod Worked
 pub mod Working
+pub mod Works

@@ -7,13 +7,13 @@ ghost use Rattle.running_tree.specs.Trees.{IsSeatOf};
 ghost use Rattle.workers.specs.Worked.{GoesOn};
 ghost use Rattle.workers.specs.Working.{AddsResult, HasDone};
 
+use crate::endings::run_to_end;
 use crate::gate::Gate;
 use crate::job::JobResult;
 use crate::task::Task;
 use bw_model::{Command, Reply};
 use crossbeam_channel::Receiver;
 use running_tree::{BwSeat, Tree};
-use seat_threads::run_to_end;
 use std::alloc::Allocator;
 use std::sync::Wait;
 

@@ -43,5 +43,8 @@ pub(crate) fn consolidated<R: Abort + AllocGlobal>(rt: &R, page: &Held) -> Page
 {
     let mut shelf = Shelf::of_one(page);
     let read = shelf.read(rt, page);
-    read.chain().consolidated(&HeldRows::new(), &mut shelf)
+    let mut base = Page::empty_leaf();
+    read.chain()
+        .consolidated(&HeldRows::new(), &mut shelf, &mut base);
+    base
 }

@@ -50,12 +50,22 @@ impl<'a> Rows for HeldRows<'a> {
 
     type Pass = Shelf<'a>;
 
+    type Place = u32;
+
     ghost content = { λ shelf row. unwrap_or (found_in shelf row) (Remove (record { level = 0; next = 1 })) };
 
     ghost has = { λ rows shelf row content. found_in shelf row ≡ Some content };
 
-    fn look(&self, pass: &mut Shelf<'a>, row: u32, at: usize) -> u64 {
-        match pass.found_in(row) {
+    ghost lies = { λ rows shelf row content. found_in shelf row ≡ Some content };
+
+    fn place(&self, pass: &Shelf<'a>, row: u32, first: u64) -> u32 {
+        let _ = pass;
+        let _ = first;
+        row
+    }
+
+    fn look(&self, pass: &mut Shelf<'a>, place: u32, at: usize) -> u64 {
+        match pass.found_in(place) {
             None => 0,
             Some(record) => to_words(record)[at],
         }

@@ -48,16 +48,6 @@ const HELD: &[(&[u8], u8, Option<bool>)] = &[
     (&[2, 6, 10, 12], 14, None),
 ];
 
-/// Whether each of them may.
-fn are_held<R: Abort + AllocGlobal>(rt: &R) -> bool {
-    for (held, place, given) in HELD {
-        if holds(rt, held, *place) != *given {
-            return false;
-        }
-    }
-    true
-}
-
 /// Terms that are held, the place at which the page is split, and how many items go.
 const SPLIT: &[(&[u8], u8, usize)] = &[
     (&[], 8, 8),
@@ -67,17 +57,20 @@ const SPLIT: &[(&[u8], u8, usize)] = &[
     (&[9], 8, 8),
 ];
 
-/// Whether each of them is.
-fn are_split<R: Abort + AllocGlobal>(rt: &R) -> bool {
-    for (held, place, count) in SPLIT {
-        if split_at(rt, &sixteen(rt, held), *place) != Some((true, *count)) {
-            return false;
-        }
-    }
-    true
-}
-
 #[test]
 fn holds_and_splits_beside_no_held_term(rt: HostRuntime) {
-    assert!(rt; [are_held(&rt), are_split(&rt)] == [true; 2]);
+    for (held, place, expected) in HELD {
+        let found = holds(&rt, held, *place);
+        assert!(rt;
+            found == *expected,
+            "{held:?} held, then {place}: {found:?}"
+        );
+    }
+    for (held, place, count) in SPLIT {
+        let found = split_at(&rt, &sixteen(&rt, held), *place);
+        assert!(rt;
+            found == Some((true, *count)),
+            "{held:?} held, split at {place}: {found:?}"
+        );
+    }
 }

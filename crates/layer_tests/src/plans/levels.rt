@@ -12,15 +12,15 @@ fn merges<R: Abort + AllocGlobal>(rt: &R, left: &Held, right: &mut Held) -> [boo
     [remove(rt, &root, right), merges::merges(rt, left, right)]
 }
 
-/// Whether an index page of one term comes into one of fifteen terms, and not into one of sixteen.
-fn merges_beside_fifteen<R: Abort + AllocGlobal>(rt: &R) -> bool {
+/// Whether an index page of one term comes into one of fifteen terms, and into one of sixteen.
+fn merges_beside_sixteen<R: Abort + AllocGlobal>(rt: &R) -> bool {
     let mut left = read(rt, 1);
     with_each(rt, &mut left, b'a', 0, 14);
     consolidate(rt, &mut left);
     let given = merges(rt, &left, &mut right(rt)) == [true, true];
     with_terms(rt, &mut left, b'a', 14, 15);
     consolidate(rt, &mut left);
-    given & (merges(rt, &left, &mut right(rt)) == [true, false])
+    given & (merges(rt, &left, &mut right(rt)) == [true, true])
 }
 
 /// Whether an index page of two terms comes into its left one, and isn't even removed where one of them is held.
@@ -42,6 +42,7 @@ fn merges_by_level<R: Abort + AllocGlobal>(rt: &R) -> bool {
 }
 
 #[test]
-fn merges_a_page_of_its_level_that_holds_no_term_beside_fifteen_items(rt: HostRuntime) {
-    assert!(rt; [merges_beside_fifteen(&rt), merges_by_level(&rt)] == [true; 2]);
+fn merges_a_page_of_its_level_that_holds_no_term_beside_sixteen_items(rt: HostRuntime) {
+    assert!(rt; merges_beside_sixteen(&rt), "beside sixteen terms");
+    assert!(rt; merges_by_level(&rt), "by level");
 }

@@ -249,5 +249,6 @@ fn of_three<R: Abort + AllocGlobal>(rt: &R) -> bool {
 
 #[test]
 fn merges_a_removed_page_and_ends_its_term(rt: HostRuntime) {
-    assert!(rt; [of_two(&rt), of_three(&rt)] == [true; 2]);
+    assert!(rt; of_two(&rt), "two leaves");
+    assert!(rt; of_three(&rt), "three leaves");
 }

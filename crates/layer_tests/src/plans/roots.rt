@@ -75,5 +75,6 @@ fn root_level<R: Abort + AllocGlobal>(rt: &R, level: u8) -> u8
 #[test]
 fn roots_over_the_first_page_up_to_level_fifteen(rt: HostRuntime) {
     let levels = [root_level(&rt, 14), root_level(&rt, 15)];
-    assert!(rt; levels == [15, 0] && !roots_another(&rt));
+    assert!(rt; levels == [15, 0], "{levels:?}");
+    assert!(rt; !roots_another(&rt), "a second page, or one without end");
 }

@@ -57,8 +57,13 @@ fn posts_in_range<R: Abort + AllocGlobal>(rt: &R) -> bool {
 
 #[test]
 fn posts_and_holds_at_the_edges_alone(rt: HostRuntime) {
-    let beside = posts_beside(&rt) == [true, false];
-    let under = under_deltas(&rt) == [true, true, false, false];
-    let above = posts(&rt, &read(&rt, 2), b"k08");
-    assert!(rt; beside & under & posts_in_range(&rt) & !above);
+    let beside = posts_beside(&rt);
+    assert!(rt; beside == [true, false], "beside items: {beside:?}");
+    let under = under_deltas(&rt);
+    assert!(rt;
+        under == [true, true, false, false],
+        "under deltas: {under:?}"
+    );
+    assert!(rt; posts_in_range(&rt), "in its range");
+    assert!(rt; !posts(&rt, &read(&rt, 2), b"k08"), "on level 2");
 }

@@ -12,8 +12,8 @@ use Rattle.traces.specs.discipline.Knowledge.{Knowledge, learn, after_reply}
 use Rattle.traces.specs.discipline.Recalled.{Recalled, cause_worth, recall}
 use Rattle.round_model.specs.Machines.{AreThere}
 use Rattle.change_machine.specs.declared.taking.Kind.{Kind}
-use Rattle.op_machine.specs.theorem.Halves.{IsHalved}
-use Rattle.op_machine.specs.theorem.Readers.{IsOfUse}
+use Rattle.linearization.specs.Halves.{IsHalved}
+use Rattle.linearization.specs.Readers.{IsOfUse}
 use Rattle.op_machine.specs.machine.Hands.{Hand, empty_hand}
 use Rattle.op_machine.specs.machine.Lacks.{HasLack}
 use Rattle.op_machine.specs.machine.Ops.{Goes, IsAtRestWith}

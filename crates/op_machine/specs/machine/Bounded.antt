@@ -4,10 +4,9 @@ use Rattle.tree_limits.specs.declared.limits.Limits.{Limits}
 use Rattle.bw_model.specs.declared.step.Answer.{Answer}
 use Rattle.bw_model.specs.declared.step.Step.{Step as StepOf}
 use Rattle.deltas.specs.declared.record.Record.{Record}
-use Rattle.traces.specs.discipline.Recalled.{Recalled, IsStepSpent}
+use Rattle.traces.specs.discipline.Recalled.{Recalled, IsStepSpent, few_reads}
 use Rattle.round_model.specs.ReadRounds as read
 use Rattle.round_model.specs.WriteRounds as write
-use Rattle.round_model.specs.Walks.{few_reads}
 use Rattle.round_model.specs.ReadEnds as read_end
 use Rattle.round_model.specs.WriteEnds as write_end
 use Rattle.change_machine.specs.Bounded as change

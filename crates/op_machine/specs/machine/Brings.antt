@@ -19,14 +19,15 @@ use Rattle.change_machine.specs.Changes.{linked_after, linked_by}
 use Rattle.structure_changes.specs.declared.after.After.TheVariants.{Round, Limbo, Errand}
 use Rattle.structure_changes.specs.declared.split.SplitPlan.{SplitPlan}
 use Rattle.structure_changes.specs.Sizes.{HasFewItems}
-use Rattle.op_machine.specs.theorem.Halves.{AreHalves}
+use Rattle.linearization.specs.Halves.{AreHalves}
 use Rattle.op_machine.specs.machine.Errands.{with_errand}
 use Rattle.op_machine.specs.machine.Hands.{IsTakenBy, TakesNothing}
 use Rattle.op_machine.specs.machine.Upkeep.{IsTidying}
 use Rattle.op_machine.specs.declared.then.Then.{Then}
 use Rattle.op_machine.specs.declared.then.Then.TheVariants.{After, Reply}
 
--- The plan links the command's update over a leaf as it was read, where neither a consolidation nor a split is due, and this is the reply over that leaf.
+-- The plan links the command's update over a leaf as it was read, where no consolidation is due, nor, if the update adds an item, a split; and this
+-- is the reply over that leaf.
 pub record IsUpdateOf (k : Knowledge) (command : Command) (plan : Plan) (answered : ReplyOf) : Type 0 where
   pub pid : ℕ
   pub head : ℕ
@@ -37,7 +38,7 @@ pub record IsUpdateOf (k : Knowledge) (command : Command) (plan : Plan) (answere
   pub read : IsChainFrom k.read.seen head chain
   pub leaf : level_in chain ≡ 0
   pub short : length chain ≤ 8
-  pub few : HasFewItems chain
+  pub room : chain_value chain (command_key command) ≡ None → HasFewItems chain
   pub alive : is_removed chain ≡ false
   pub covers : IsTrue (covers chain (command_key command))
   pub replies : reply_of command (chain_value chain (command_key command)) ≡ Some answered

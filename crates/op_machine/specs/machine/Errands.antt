@@ -1,5 +1,5 @@
 -- For which key an operation's rounds look, and what is due there.
-use Rattle.std.specs.Prelude.{◌∷◌, [], ◌++◌, ◌-◌, ℕ, List, Bool, false, length, nat_lt, if◌then◌else◌, slice_get, unwrap_or}
+use Rattle.std.specs.Prelude.{◌∷◌, [], ◌++◌, ◌-◌, ℕ, List, Bool, false, true, length, nat_lt, not, if◌then◌else◌, slice_get, unwrap_or}
 use Rattle.tree_limits.specs.declared.limits.Limits.{Limits}
 use Rattle.bw_model.specs.declared.command.Command.{Command}
 use Rattle.bw_model.specs.declared.command.Command.TheVariants.{Add, Back, Delete, DeleteIf, Get, Insert, Page, Swap, Tidy, Upsert}
@@ -33,3 +33,17 @@ due_of limits (key ∷ errands) command = many_of limits
 abbrev pub tends_of : List (List ℕ) → Command → Bool
 tends_of [] command = tidies command
 tends_of (key ∷ errands) command = false
+
+-- Whether a round splits pages and makes roots on its way: in a small tree each does; in a large one that of an errand, or of a tidying.
+abbrev pub splits_of : Limits → List (List ℕ) → Command → Bool
+splits_of limits [] (Tidy key) = true
+splits_of limits [] (Get key) = not limits.is_large
+splits_of limits [] (Insert key value) = not limits.is_large
+splits_of limits [] (Upsert key value) = not limits.is_large
+splits_of limits [] (Delete key) = not limits.is_large
+splits_of limits [] (DeleteIf key expected) = not limits.is_large
+splits_of limits [] (Swap key expected value) = not limits.is_large
+splits_of limits [] (Add key number) = not limits.is_large
+splits_of limits [] (Page key) = not limits.is_large
+splits_of limits [] (Back key) = not limits.is_large
+splits_of limits (key ∷ errands) command = true

@@ -1,5 +1,5 @@
 -- Where an operation goes that meets a removed page: to the left of that page, and not from the root for its key once more.
-use Rattle.std.specs.Prelude.{◌≡◌, ◌<◌, ◌⊎◌, None, true, false, ⊤}
+use Rattle.std.specs.Prelude.{◌≡◌, ◌<◌, ◌⊎◌, None, true, false, not, ⊤}
 use Rattle.bw_model.specs.Replies.{command_key}
 use Rattle.bw_model.specs.declared.step.Answer.{Answer}
 use Rattle.tree_limits.specs.declared.limits.Limits.{Limits}
@@ -14,7 +14,7 @@ use Rattle.round_model.specs.ReadRounds.{GoesRound, IsLost, ReadRound, reading}
 use Rattle.round_model.specs.Visits.{Whole}
 use Rattle.round_model.specs.WriteResponses.{writing}
 use Rattle.round_model.specs.WriteRounds.{SeeksLeaf, WriteRound}
-use Rattle.op_machine.specs.machine.Errands.{due_of, tends_of, way_key}
+use Rattle.op_machine.specs.machine.Errands.{due_of, splits_of, tends_of, way_key}
 use Rattle.op_machine.specs.machine.States.{State, Read, Write}
 use Rattle.op_machine.specs.machine.Tasks.{Task}
 
@@ -31,6 +31,7 @@ first_write task = record {
   key = way_key task.errands task.command;
   due = due_of task.limits task.errands task.command;
   tends = tends_of task.errands task.command;
+  splits = splits_of task.limits task.errands task.command;
   floor = 0;
   goal = goal.Seek;
   parent = None;
@@ -49,6 +50,7 @@ write_left_of limits removed = record {
   key = low_in removed.chain;
   due = 8;
   tends = false;
+  splits = not limits.is_large;
   floor = level_in removed.chain;
   goal = goal.Left removed.pid;
   parent = None;

@@ -1,5 +1,5 @@
 -- Worked steps: an insert and a lookup that meet the removed leaf of the life of a page (theorem.Examples), before it is merged.
-use Rattle.std.specs.Prelude.{codes, [], ◌∷◌, false, None, Some}
+use Rattle.std.specs.Prelude.{codes, [], ◌∷◌, false, true, None, Some}
 use Rattle.std.proofs.Common.{lit≤}
 use Rattle.bw_model.specs.declared.command.Command.TheVariants.{Get, Insert}
 use Rattle.structure_changes.specs.Versions.{Version}
@@ -11,7 +11,7 @@ use Rattle.round_model.specs.ReadRounds.{ReadRound}
 use Rattle.round_model.specs.Visits.{Row, Slot}
 use Rattle.round_model.specs.WriteRounds.{WriteRound}
 use Rattle.op_machine.specs.machine.Tasks.{Task}
-use Rattle.op_machine.specs.theorem.Examples.{hold_leaf, new_leaf, remove_leaf, root, small}
+use Rattle.linearization.specs.Examples.{hold_leaf, new_leaf, remove_leaf, root, small}
 
 -- page 3, the index page, which has the term of page 2 held, and page 2, which is removed
 abbrev pub held_above : Version
@@ -35,14 +35,14 @@ looking = record { limits = small; actor = 1; command = Get (codes "p"); errands
 
 -- the insert's round, and the lookup's, from the index page down to page 2
 abbrev pub writing_down : WayState → WriteRound
-writing_down state = record { limits = small; key = codes "p"; due = 8; tends = false; floor = 0; goal = goal.Seek; parent = Some held_above; left = None; state = state }
+writing_down state = record { limits = small; key = codes "p"; due = 8; tends = false; splits = true; floor = 0; goal = goal.Seek; parent = Some held_above; left = None; state = state }
 
 abbrev pub reading_down : WayState → ReadRound
 reading_down state = record { limits = small; key = codes "p"; goal = read_goal.Seek; leg = Down (Some held_above); state = state }
 
 -- the insert's round to the left of page 2, which begins at "m", and the lookup's
 abbrev pub writing_left : WriteRound
-writing_left = record { limits = small; key = codes "m"; due = 8; tends = false; floor = 0; goal = goal.Left 2; parent = None; left = None; state = Root }
+writing_left = record { limits = small; key = codes "m"; due = 8; tends = false; splits = true; floor = 0; goal = goal.Left 2; parent = None; left = None; state = Root }
 
 abbrev pub reading_left : ReadRound
 reading_left = record { limits = small; key = codes "p"; goal = read_goal.Left removed_version; leg = Down None; state = Root }

@@ -26,7 +26,7 @@ use Rattle.change_machine.specs.declared.taking.Kind.{Kind}
 use Rattle.structure_changes.specs.Sizes.{HasFewItems}
 use Rattle.structure_changes.specs.Versions.{Version}
 use Rattle.bw_model.specs.Replies.{command_key, is_writer}
-use Rattle.op_machine.specs.machine.Errands.{due_of, way_key}
+use Rattle.op_machine.specs.machine.Errands.{due_of, splits_of, way_key}
 use Rattle.op_machine.specs.machine.Hands.{Unlinks}
 use Rattle.op_machine.specs.machine.Shows.{FitsLast, IsRoundOf, ShowsState, learn_last, recall_last, wanted_at}
 use Rattle.op_machine.specs.machine.Tasks.{IsBetweenChanges, IsAtRest, Seeks, Task, Waits}
@@ -77,7 +77,7 @@ pub record FacesWritten (task : Task) (spares : Spares) (k : Knowledge) (r : Rec
   pub sought : HasSought round end
   pub ends : write.EndsWrite round k r end
 
--- A writer is at the leaf that its round looked for, where nothing else is due.
+-- A writer is at the leaf that its round looked for, where nothing else is due. Where its round splits pages, the leaf has few items.
 pub record IsAtLeaf (task : Task) (spares : Spares) (k : Knowledge) (r : Recalled) (leaf : Version) : Type 0 where
   pub seeks : Seeks task spares k
   pub writer : is_writer task.command ≡ true
@@ -86,13 +86,13 @@ pub record IsAtLeaf (task : Task) (spares : Spares) (k : Knowledge) (r : Recalle
   pub covered : IsTrue (covers leaf.chain (way_key task.errands task.command))
   pub short : length leaf.chain ≤ 8
   pub early : length leaf.chain ≤ due_of task.limits task.errands task.command
-  pub few : HasFewItems leaf.chain
+  pub few : splits_of task.limits task.errands task.command ≡ true → HasFewItems leaf.chain
 
--- A writer is at its leaf, with the page above it, where one was read before it, which has its term.
+-- A writer is at its leaf, with the page above it, where one was read before it; where its round splits pages, that one has its term.
 pub record IsAtLeafBelow (task : Task) (spares : Spares) (k : Knowledge) (r : Recalled) (parent : Option Version) (leaf : Version) : Type 0 where
   pub at : IsAtLeaf task spares k r leaf
   pub above : IfSome parent (write.IsUpper task.limits k r leaf)
-  pub termed : write.IsTermed leaf parent
+  pub termed : splits_of task.limits task.errands task.command ≡ true → write.IsTermed leaf parent
 
 -- A change has ended: an update was linked, and justifies the reply, which isn't Full; or no update was linked, and, where it is full,
 -- nothing of the kind is free.

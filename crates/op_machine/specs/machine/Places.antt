@@ -1,5 +1,5 @@
 -- The places of an operation: the state that they are, by where the operation stands.
-use Rattle.std.specs.Prelude.{◌≡◌, Bool, false, true, Option, Some, None}
+use Rattle.std.specs.Prelude.{◌≡◌, Bool, false, true, not, Option, Some, None}
 use Rattle.bw_model.specs.declared.command.Reply.{Reply as ReplyOf}
 use Rattle.tree_limits.specs.declared.limits.Limits.{Limits}
 use Rattle.bw_model.specs.declared.step.Answer.{Answer}
@@ -65,6 +65,7 @@ left_round_of writer = record {
   key = low_in writer.page.chain;
   due = 8;
   tends = false;
+  splits = not writer.round.limits.is_large;
   floor = level_in writer.page.chain;
   goal = course.Left writer.page.pid;
   parent = None;

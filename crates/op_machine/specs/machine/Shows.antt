@@ -11,7 +11,7 @@ use Rattle.traces.specs.discipline.Fitting.{Fits}
 use Rattle.traces.specs.discipline.Knowledge.{Knowledge, learn}
 use Rattle.traces.specs.discipline.Recalled.{Recalled, WasHead, recall}
 use Rattle.traces.specs.discipline.Useful.{IsUseful}
-use Rattle.op_machine.specs.theorem.Halves.{IsHalved}
+use Rattle.linearization.specs.Halves.{IsHalved}
 use Rattle.round_model.specs.ReadRounds as read
 use Rattle.round_model.specs.WriteRounds as write
 use Rattle.round_model.specs.Courses.{Seek}
@@ -24,7 +24,7 @@ use Rattle.structure_changes.specs.declared.plan.Plan.{Plan}
 use Rattle.bw_model.specs.Replies.{is_writer}
 use Rattle.op_machine.specs.machine.Brings.{Brings, IsReadPlan, IsUsefulPlan}
 use Rattle.op_machine.specs.machine.Lacks.{TellsLack}
-use Rattle.op_machine.specs.machine.Errands.{due_of, tends_of, way_key}
+use Rattle.op_machine.specs.machine.Errands.{due_of, splits_of, tends_of, way_key}
 use Rattle.op_machine.specs.machine.Tasks.{IsAsked, IsBetweenChanges, IsUnreadPid, Seeks, Task, Waits}
 use Rattle.op_machine.specs.machine.States.{State, Begun, Epoch, Enter, Read, Write, Change, Leave}
 use Rattle.op_machine.specs.declared.then.Then.{Then}
@@ -44,6 +44,7 @@ pub record IsRoundOf (task : Task) (round : write.WriteRound) : Type 0 where
   pub key : round.goal ≡ Seek → round.key ≡ way_key task.errands task.command
   pub due : round.goal ≡ Seek → round.due ≡ due_of task.limits task.errands task.command
   pub tends : round.goal ≡ Seek → round.tends ≡ tends_of task.errands task.command
+  pub splits : round.goal ≡ Seek → round.splits ≡ splits_of task.limits task.errands task.command
 
 -- A writer's round is under way.
 pub record IsInWriteRound (task : Task) (spares : Spares) (k : Knowledge) (r : Recalled) (round : write.WriteRound) : Type 0 where

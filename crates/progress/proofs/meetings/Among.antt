@@ -3,7 +3,7 @@ use Rattle.std.proofs.Common.{◌≡◌, ◌<◌, ◌≤◌, ◌+◌, ◌*◌, �
 use Rattle.progress.proofs.Words.{add-mul, eqb_tells, if◌then◌else◌, ◌==◌, Limits, Answer, Number, Whether, Exchange, StepOf, Memory, Record, Entry, Begin, Step, knows, Recalled, IsNext}
 use Rattle.progress.proofs.Words.{IsAnswer, IsChainOf, IsTrue, memory_of, WayState, Root, Page, Visit, VisitState, is_below, low_in, IsState, IsInTree, Key, either, changes_tree}
 use Rattle.std.specs.Prelude.{◌&&◌}
-use Rattle.op_machine.specs.theorem.Direct.{IsDirect}
+use Rattle.linearization.specs.Direct.{IsDirect}
 use Rattle.round_model.specs.Courses.{WriteGoal, Seek, Left, Merge, Unterm}
 use Rattle.round_model.specs.Descents as way
 use Rattle.round_model.specs.Visits.{Slot, Row}
@@ -88,7 +88,7 @@ module _ (limits : Limits) (actor : ℕ) where
     fits_round : (round : WriteRound) (r : Recalled) → write.Shows round (knows entries actor) r → FitsRound (memory_of limits entries) round.state
     fits_round round r shows = by_state round.state shows
       where
-        by_visit : (visit : Visit) (at : VisitState) → visit.state ≡ at → VisitsToWrite round.limits round.key round.floor round.goal round.parent round.left (knows entries actor) r visit
+        by_visit : (visit : Visit) (at : VisitState) → visit.state ≡ at → VisitsToWrite round.limits round.key round.floor round.splits round.goal round.parent round.left (knows entries actor) r visit
             → FitsAt (memory_of limits entries) visit at
         by_visit visit Slot e v = subst (λ (s : VisitState). HasNoneRead s visit.part) e v.seeks.on_way.bare
         by_visit visit (Row head row) e v =

@@ -5,7 +5,7 @@ use Rattle.progress.proofs.Words.{IsBelow, IsUpTo, Key, IsPageOn, is_below}
 use Rattle.std.specs.Prelude.{IsFalse, IfSome}
 use Rattle.tree_law.proofs.shape.KeyOrder.{below_not, by_below, covers_from, covers_to, under_trans, upto_both, upto_refl, upto_trans}
 use Rattle.structure_changes.specs.Merges.{CanMerge}
-use Rattle.structure_changes.specs.Sizes.{HasFewDeltas, HasFewItems}
+use Rattle.structure_changes.specs.Sizes.{HasFewDeltas, HasMergeRoom}
 use Rattle.structure_changes.specs.Unterms.{CanUnterm}
 use Rattle.progress.proofs.rounds.KeyWays.{precedes_is_way, within}
 use Rattle.progress.proofs.rounds.Pages.{On, Standing, Under, chain_on, live, low_of, one_child, same_pid, some_of}
@@ -76,7 +76,7 @@ module _ (w : Standing) where
 
   -- a page that has it as its right may get what it has
   pub may_merge : (pid : ℕ) (key : Key) (level : ℕ) → IsHeld pid key level → (left removed : Version) → On w level (live left) → is_removed left.chain ≡ false
-      → right_in left.chain ≡ Some pid → HasFewDeltas left.chain → HasFewItems left.chain
+      → right_in left.chain ≡ Some pid → HasFewDeltas left.chain → HasMergeRoom left.chain
       → IsPageOn w.limits w.memory level (live removed) → removed.pid ≡ pid → CanMerge left removed
   may_merge pid key level h left removed on alive is_right short roomy stands is =
       let r = w.tree.right level (live left) pid on is_right in

@@ -1,17 +1,16 @@
 -- How often a writer's round meets pages that are gone, while nobody changes the tree: by what it makes of a page of the tree.
 use Rattle.std.proofs.Common.{◌≡◌, ◌≢◌, ◌<◌, ◌≤◌, ◌+◌, ◌-◌, ◌⊎◌, ℕ, zero, suc, [], length, Bool, true, false, Option, None, Some, refl, sym, ap, subst, ◌∙◌, inl, inr, arith}
 use Rattle.progress.proofs.Words.{⊤, IsTrue, is_below, Limits, Child, content_in, is_removed, level_in, low_in, LivePage, Version, WayState, Root, Page, Visit, to_page}
-use Rattle.progress.proofs.Words.{StaysLeft, precedes, Key, IsPageOn, IsPageChain, covers, cases_lt}
+use Rattle.progress.proofs.Words.{StaysLeft, precedes, Key, IsPageOn, covers, cases_lt}
 use Rattle.std.specs.Prelude.{IfSome}
 use Rattle.tree_law.proofs.shape.KeyOrder.{covers_to, upto_refl}
 use Rattle.structure_changes.proofs.Few.{few_many}
 use Rattle.structure_changes.specs.Plans.{head_of, slot_of}
-use Rattle.structure_changes.specs.Sizes.{HasFewDeltas, HasFewItems, HasManyItems, many_of}
+use Rattle.structure_changes.specs.Sizes.{HasFewDeltas, many_of}
 use Rattle.structure_changes.specs.Merges.{CanMerge}
 use Rattle.structure_changes.specs.Unterms.{CanUnterm}
 use Rattle.structure_changes.specs.declared.after.After.{After}
 use Rattle.structure_changes.specs.declared.plan.Plan.{Plan}
-use Rattle.structure_changes.proofs.Places.{from_made, made}
 use Rattle.round_model.specs.Courses.{WriteGoal, Seek, Left, Merge, Unterm}
 use Rattle.round_model.specs.WriteEnds.{DueChange, IsPlanned, WriteEnd}
 use Rattle.round_model.specs.WriteEnds as end
@@ -38,22 +37,12 @@ clash b e f = let both : true ≡ false = sym e ∙ f in cc
 one_less : (few rest owes : ℕ) → 1 ≤ few → few ≤ rest → owes ≤ 1 → (few - 1) + owes ≤ rest
 one_less few rest owes some less one = omega (arith, some, less, one)
 
--- a page at which nothing is due has few deltas and few items
-pub short_of : (limits : Limits) (due : ℕ) (version : Version) → IsFine limits due version → HasFewDeltas version.chain
-short_of limits due version fine = let many = few_many limits in by_cases (length version.chain) (many_of limits) many (λ long. fine.short (inl long))
+-- a page at which nothing is due has few deltas
+pub short_of : (limits : Limits) (due : ℕ) (splits : Bool) (version : Version) → IsFine limits due splits version → HasFewDeltas version.chain
+short_of limits due splits version fine = let many = few_many limits in by_cases (length version.chain) (many_of limits) many (λ long. fine.short (inl long))
   where
     by_cases : (n m : ℕ) → m ≤ 8 → (m < n → ⊥) → n ≤ 8
     by_cases n m few none = elim (cases_lt m n) [ inl lt ↦ absurd (none lt) | inr le ↦ omega (arith, le, few) ]
-
-pub roomy_of : (limits : Limits) (due : ℕ) (version : Version) → IsPageChain version.chain → is_removed version.chain ≡ false → IsFine limits due version → HasFewItems version.chain
-roomy_of limits due version fits alive fine =
-    let m = made version.chain fits.fitted in
-    from_made version.chain m.0 (λ items. length items < 16) m.1 (elim (cases_lt (length m.0.items) 16) [
-      | inl few ↦ few
-      | inr many ↦
-          let wide : HasManyItems version.chain = from_made version.chain m.0 (λ items. 16 ≤ length items) m.1 many in
-          absurd (fine.narrow (record { alive = alive; short = short_of limits due version fine; wide = wide }))
-    ])
 
 module _ (w : Standing) where
   -- The slot of a page that was read holds what was read.
@@ -250,7 +239,7 @@ module _ (w : Standing) where
     ]
       where
         over : IsOver way l version
-        over = record { on = on; alive = g.here.alive; passing = a.passing; stays = g.here.stays; short = short_of old.limits old.due version g.fine; as_read = as_read }
+        over = record { on = on; alive = g.here.alive; passing = a.passing; stays = g.here.stays; short = short_of old.limits old.due old.splits version g.fine; as_read = as_read }
 
     below : (new : WriteRound) → GoesBelow old version new → MeetsFew new rest
     below new g = let a = stays_clear g.here.seeks g.here.alive in subst (λ (o : WriteRound). MeetsFew o rest) (sym g.goes) (by_level a.0 a.1.0.on a.1.1 level refl)
@@ -299,7 +288,7 @@ module _ (w : Standing) where
           as_read,
           elim l.2 [
             | inl held ↦ inl (λ removed same. may_merge w g.pid old.key level held.0 version removed l.1.on g.left.here.alive g.beside
-                (short_of old.limits old.due version g.left.fine) (roomy_of old.limits old.due version stands.fits g.left.here.alive g.left.fine)
+                (short_of old.limits old.due old.splits version g.left.fine) g.roomy
                 (subst (λ (p : LivePage). IsPageOn w.limits w.memory level p) (sym same) (w.tree.each level r.0 r.1)) (ap (λ (p : LivePage). p.pid) same ∙ r.2))
             | inr spare ↦ inr (omega (arith, spare))
           ],

@@ -12,9 +12,9 @@ use Rattle.std.specs.Prelude.{◌&&◌}
 use Rattle.bw_model.specs.declared.step.Answer.TheVariants.{Content}
 use Rattle.bw_model.specs.declared.step.Step.TheVariants.{Exchange, Row, Slot}
 use Rattle.deltas.specs.declared.record.Record.TheVariants as delta
-use Rattle.op_machine.specs.theorem.ReadersEnd.{ReadersEnd}
+use Rattle.linearization.specs.ReadersEnd.{ReadersEnd}
 use Rattle.progress.specs.Writers.{MeetsSeldom}
-use Rattle.op_machine.specs.theorem.Whole.{hindrance_worth, most_meets, most_worth}
+use Rattle.linearization.specs.Whole.{hindrance_worth, most_meets, most_worth}
 use Rattle.progress.specs.WritersAmong.{meets, meets_at}
 use Rattle.progress.proofs.Counted.{AreDistinct, Each, IsNotAmong}
 use Rattle.progress.proofs.Hindering.{beside, changes_at, changes_by, beside_by, hinder, is_change, takes_beside}

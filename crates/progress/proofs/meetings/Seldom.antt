@@ -9,7 +9,7 @@ use Rattle.tree_law.proofs.trace.Owned.{operation_old, step_below, step_cases}
 use Rattle.tree_law.specs.Direct.{IsDirectState}
 use Rattle.progress.specs.WriterStates.{BeginsKeepWriters, IsWritersState, PaysMeets, PaysWriter, StepsKeepWriters}
 use Rattle.progress.specs.Writers.{MeetsSeldom}
-use Rattle.op_machine.specs.theorem.Whole.{most_meets}
+use Rattle.linearization.specs.Whole.{most_meets}
 use Rattle.progress.specs.WritersAmong.{few_meets, meets_at}
 use Rattle.progress.proofs.ReaderStates.{range_kept}
 use Rattle.progress.proofs.Tallies.{one_at_most, counted_range, passes, passes_in, tally, tally_none, tally_split}

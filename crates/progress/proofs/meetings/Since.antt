@@ -3,8 +3,8 @@ use Rattle.std.proofs.Common.{◌≡◌, ◌<◌, ◌≤◌, ◌+◌, ◌-◌, �
 use Rattle.progress.proofs.Words.{either, cases_lt, All, IsStrictlyIncreasing, Limits, is_writer, Whether, Entry, IsRun, IsCause, IsDirect}
 use Rattle.progress.proofs.Words.{IsOperation, IsOwnStep, Operation, steps_from}
 use Rattle.bw_model.specs.declared.step.Step.TheVariants.{Exchange}
-use Rattle.op_machine.specs.theorem.ReadersEnd.{ReadersEnd}
-use Rattle.op_machine.specs.theorem.Whole.{hindrance_worth}
+use Rattle.linearization.specs.ReadersEnd.{ReadersEnd}
+use Rattle.linearization.specs.Whole.{hindrance_worth}
 use Rattle.progress.specs.Writers.{MeetsSeldom}
 use Rattle.progress.proofs.Counted.{AreDistinct, Each}
 use Rattle.progress.proofs.Hindering.{beside, hinder, is_change}

@@ -3,9 +3,9 @@
 use Rattle.std.proofs.Common.{◌<◌, ◌≤◌, ◌+◌, ◌-◌, ◌*◌, ℕ, suc, List, length, take, inl, inr, arith}
 use Rattle.progress.proofs.Words.{mul-le-mul_left, cases_lt, count_by, Limits, Entry, IsRun, HasFewChanges, IsDirect, IsOperation, IsOwnStep}
 use Rattle.progress.proofs.Words.{Operation, is_begin, steps_from}
-use Rattle.op_machine.specs.theorem.Progress.{is_end, is_step}
-use Rattle.op_machine.specs.theorem.ReadersEnd.{ReadersEnd}
-use Rattle.op_machine.specs.theorem.Whole.{AlwaysEndAlone, AreLockFree, OperationsEnd, hindrance_worth, most_worth}
+use Rattle.linearization.specs.Progress.{is_end, is_step}
+use Rattle.linearization.specs.ReadersEnd.{ReadersEnd}
+use Rattle.linearization.specs.Whole.{AlwaysEndAlone, AreLockFree, OperationsEnd, hindrance_worth, most_worth}
 use Rattle.progress.specs.Writers.{MeetsSeldom, RunsMakeProgress}
 use Rattle.progress.proofs.Alone.{enough, lone_changes, lone_pays}
 use Rattle.progress.proofs.Hindering.{among_hinder, hinder}

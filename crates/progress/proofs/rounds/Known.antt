@@ -2,7 +2,7 @@
 use Rattle.std.proofs.Common.{◌≡◌, ◌<◌, ◌≤◌, ◌⊎◌, ◌++◌, ℕ, zero, suc, List, [], Bool, true, false, Option, Some, None, refl, sym, ap, subst, ◌∙◌, inl, inr, arith}
 use Rattle.progress.proofs.Words.{IsTrue, Limits, Child, Memory, Record, Contains, IsPageChain, LivePage, Entry, Knowledge, knows, memory_of, IsChainFrom-unique, same_page, Version, Key}
 use Rattle.progress.proofs.Words.{HasWholeTree, IsState, phase_of, covers_from, KeepsItsPlace, IsPlace, NamesPlaces}
-use Rattle.op_machine.specs.theorem.Phases as phase
+use Rattle.linearization.specs.Phases as phase
 use Rattle.traces.specs.chain.Chains.{IsChainFrom, IsFront, content_in, covers, is_removed, level_in, low_in, right_in}
 use Rattle.structure_changes.specs.Readings.{HasSeen}
 use Rattle.structure_changes.proofs.Due.{covered}

@@ -6,7 +6,7 @@ use Rattle.progress.proofs.Words.{takes, splits, becomes_root, terms, under_root
 use Rattle.bw_model.specs.declared.step.Link.TheVariants as link
 use Rattle.traces.specs.discipline.Knowledge.{Knowledge, OwnRow, Written, knows, knows_after}
 use Rattle.traces.proofs.TraceLaws.{Happens-below, Happens-kept, Happens-push_cases, memory_of-push}
-use Rattle.op_machine.specs.theorem.Links.{Wins, link_of}
+use Rattle.linearization.specs.Links.{Wins, link_of}
 use Rattle.tree_law.specs.Owners.{Linked, OwnFits, Reached, Spare}
 use Rattle.tree_law.specs.Phase.{Cleared, Fresh, Keeps, Nobody, PageOwner, Placed, Stage}
 use Rattle.tree_law.proofs.links.Keeping.{slot_of}

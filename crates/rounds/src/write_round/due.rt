@@ -10,7 +10,7 @@ ghost use Rattle.round_model.specs.WriteRounds.{IsLong, SeeksLeaf};
 ghost use Rattle.row_chain.specs.Placed.{IsReadChain};
 ghost use Rattle.rounds.specs.WriteRounds.{AreReadToWrite, ended_write};
 ghost use Rattle.structure_changes.specs.Reads.{IsReadPage};
-ghost use Rattle.structure_changes.specs.Sizes.{HasManyItems};
+ghost use Rattle.structure_changes.specs.Sizes.{HasManyItems, HasMergeRoom};
 ghost use Rattle.structure_changes.specs.Splits.{CanSplit};
 ghost use Rattle.structure_changes.specs.Upkeep.{IsUpkeep};
 ghost use Rattle.structure_changes.specs.declared.after.After.TheVariants.{Round};
@@ -23,15 +23,15 @@ use row_search::{KeyWords, Rows};
 use std::alloc::Allocator;
 use std::mem;
 use structure_changes::{
-    After, MANY_ITEMS, PageInHand, Plan, Unlinked, many_deltas, plan_base, plan_merge, plan_root,
-    plan_split, plan_term, plan_unterm, plan_upkeep,
+    After, MANY_ITEMS, MERGE_ITEMS, PageInHand, Plan, Unlinked, many_deltas, plan_base, plan_merge,
+    plan_root, plan_split, plan_term, plan_unterm, plan_upkeep,
 };
 
 impl<R: Rows, A: Allocator> WriteRound<R, A> {
     /// Gives the change that is due, where the round has ended with one, for the plan in another place, and tells what comes once it
     /// has won. The two change places, and none is copied.
-    pub fn take_due(&mut self, plan: &mut Plan) -> After
-        ensures plan { plan.new ≡ self.old.plan }
+    pub fn take_due(&mut self, plan: &mut Box<Plan, A>) -> After
+        ensures plan { plan.new.value ≡ self.old.plan }
         ensures after { result ≡ self.old.after }
         ensures only { self.new ≡ record self.old { plan = self.new.plan; after = self.new.after } }
     {
@@ -44,7 +44,7 @@ impl<R: Rows, A: Allocator> WriteRound<R, A> {
         ensures ends { ended_write self.new result ≡ end.Due plan after }
         ensures round { self.new.round ≡ self.old.round }
     {
-        self.plan = plan;
+        *self.plan = plan;
         self.after = after;
         WriteEndKind::Due
     }
@@ -61,7 +61,7 @@ impl<R: Rows, A: Allocator> WriteRound<R, A> {
     }
 
     /// Whether the page has many items. Most pages are told by how many items their records have; where those may be many, they are counted.
-    pub(super) fn is_wide(&self, rows: &R, pass: &mut R::Pass) -> bool
+    pub fn is_wide(&self, rows: &R, pass: &mut R::Pass) -> bool
         requires read { IsReadPage (R.has rows.now pass.old) self.now.page }
         ensures looks { pass.new ≡ pass.old }
         ensures wide { Decides result (HasManyItems self.now.page.chain) }
@@ -75,6 +75,22 @@ impl<R: Rows, A: Allocator> WriteRound<R, A> {
         chain.item_count(rows, pass) >= MANY_ITEMS
     }
 
+    /// Whether the page has room for the items of a removed page; else it has many. Most pages are told as in `is_wide`.
+    pub(super) fn has_merge_room(&self, rows: &R, pass: &mut R::Pass) -> bool
+        requires read { IsReadPage (R.has rows.now pass.old) self.now.page }
+        ensures looks { pass.new ≡ pass.old }
+        ensures yes { result ≡ true → HasMergeRoom self.now.page.chain }
+        ensures no { result ≡ false → HasManyItems self.now.page.chain }
+    {
+        let chain = self.page().chain();
+        chain.was_read(rows, pass);
+        chain.keeps_rules();
+        if chain.most_items() <= MERGE_ITEMS {
+            return true;
+        }
+        chain.item_count(rows, pass) <= MERGE_ITEMS
+    }
+
     /// Ends at a page that is to be consolidated.
     #[inline(never)]
     pub(super) fn end_long(&mut self, rows: &R, pass: &mut R::Pass) -> WriteEndKind
@@ -85,12 +101,11 @@ impl<R: Rows, A: Allocator> WriteRound<R, A> {
         ensures treats { TreatsWrite self.old.round self.old.page self.new.round (Some (ended_write self.new result)) }
         ensures round { self.new.round ≡ self.old.round }
     {
-        let page = self.page();
+        let page = self.descent.page();
         page.chain().was_read(rows, pass);
-        let base = plan_base(page, rows, pass);
-        let plan = Plan::over(page, Record::Base(base));
-        let unlinked = Unlinked::chain(page);
-        self.ends_due(plan, After::Limbo(unlinked))
+        plan_base(page, rows, pass, &mut self.plan);
+        self.after = After::Limbo(Unlinked::chain(page));
+        WriteEndKind::Due
     }
 
     /// Ends at a page that has few deltas and many items: it is to be split.
@@ -115,14 +130,15 @@ impl<R: Rows, A: Allocator> WriteRound<R, A> {
         }
     }
 
-    /// What finishes the split of the left page: the term of the page in hand in the parent, or, where there is none, the root over both.
+    /// What finishes the split of the left page: the term of the page in hand in the parent, or, where there is none, the root over both, if the
+    /// round splits pages.
     #[inline(never)]
     pub(super) fn due_aside(&self, rows: &R, pass: &mut R::Pass) -> Option<Plan>
         requires read { AreReadToWrite (R.has rows.now pass.old) self.now.round self.now.page }
         requires seeks { SeeksLeaf self.now.round.goal }
         requires left { self.now.round.left ≡ Some self.now.left }
         ensures looks { pass.new ≡ pass.old }
-        ensures plan { MatchOption result (IsSplitFinished self.now.round.parent self.now.round.left self.now.page) (λ plan. EndsDue self.now.round self.now.page plan Round) }
+        ensures plan { MatchOption result (IsSplitFinished self.now.round.splits self.now.round.parent self.now.round.left self.now.page) (λ plan. EndsDue self.now.round self.now.page plan Round) }
     {
         if self.course.has_parent() {
             let parent = self.parent();
@@ -130,6 +146,9 @@ impl<R: Rows, A: Allocator> WriteRound<R, A> {
                 None => None,
                 Some(term) => Some(Plan::over(parent, Record::Term(term))),
             };
+        }
+        if !self.splits {
+            return None;
         }
         let left = self.left();
         match plan_root(left, self.page(), rows, pass) {

@@ -46,19 +46,19 @@ impl<R: Rows, A: Allocator> Chain<R, A> {
         }
     }
 
-    /// The page that may stand as a base in the chain's place.
-    pub fn consolidated(&self, rows: &R, pass: &mut R::Pass) -> Page
+    /// Makes the page the one that may stand as a base in the chain's place, where it lies.
+    pub fn consolidated(&self, rows: &R, pass: &mut R::Pass, page: &mut Page)
         requires read { IsReadChain (R.has rows.now pass.old) self.now }
         requires alive { is_removed self.now.records ≡ false }
         ensures same { pass.new ≡ pass.old }
-        ensures makes { Makes self.now.records result }
-        ensures alive { result.removed ≡ false }
-        ensures base { Base result ≡ base_from self.now.records (low_in self.now.records) result.items }
-        ensures stands { IsPageChain (Base result ∷ []) }
+        ensures makes { Makes self.now.records page.new }
+        ensures alive { page.new.removed ≡ false }
+        ensures base { Base page.new ≡ base_from self.now.records (low_in self.now.records) page.new.items }
+        ensures stands { IsPageChain (Base page.new ∷ []) }
     {
         self.was_read(rows, pass);
         self.keeps_rules();
-        self.page(rows, pass)
+        self.page_in(rows, pass, page);
     }
 
     /// Makes the page that of the base.

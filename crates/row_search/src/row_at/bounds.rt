@@ -5,9 +5,9 @@ ghost use Rattle.base_page.specs.Places.{IsAt, IsCut, IsGap};
 ghost use Rattle.deltas.specs.Records.{high_after, right_after};
 ghost use Rattle.record_slots.specs.Parts.{items_of, row_of};
 
-use crate::{KeyWords, RowAt, Rows};
+use crate::{KeyWords, RowAt, Rows, Text};
 use bw_model::Key;
-use record_slots::{FIRST_ITEM, FIRST_KEY, ITEM_WORDS, NO_BOUND, SECOND_KEY, key_in, kinds};
+use record_slots::{NO_BOUND, key_in, kinds};
 use std::cmp::Ordering;
 
 impl<R: Rows> RowAt<R> {
@@ -18,8 +18,9 @@ impl<R: Rows> RowAt<R> {
         ensures first { result ≡ (row_of self.now.content).first }
     {
         self.keeps_spelling();
-        let count = self.word(rows, pass, FIRST_KEY);
-        let words = self.text(rows, pass, FIRST_KEY + 1, count);
+        let place = self.place(rows, pass);
+        let count = self.length(rows, pass, place, Text::First);
+        let words = self.text(rows, pass, place, Text::First, count);
         key_in(count, &words).unwrap()
     }
 
@@ -30,11 +31,12 @@ impl<R: Rows> RowAt<R> {
         ensures second { result ≡ (row_of self.now.content).second }
     {
         self.keeps_spelling();
-        let count = self.word(rows, pass, SECOND_KEY);
+        let place = self.place(rows, pass);
+        let count = self.length(rows, pass, place, Text::Second);
         if count == NO_BOUND {
             return None;
         }
-        let words = self.text(rows, pass, SECOND_KEY + 1, count);
+        let words = self.text(rows, pass, place, Text::Second, count);
         Some(key_in(count, &words).unwrap())
     }
 
@@ -121,12 +123,12 @@ impl<R: Rows> RowAt<R> {
         ensures items { AreItems (items_of self.now.content) }
     {
         self.keeps_spelling();
+        let place = self.place(rows, pass);
         let mut low = 0;
         let mut high = self.item_count();
         while low < high {
             let middle = (low + high) / 2;
-            let at = FIRST_ITEM + ITEM_WORDS * middle;
-            match key.compare_item(self, rows, pass, at) {
+            match key.compare_text(self, rows, pass, place, Text::Key(middle)) {
                 Ordering::Less => low = middle + 1,
                 Ordering::Equal => return Ok(middle),
                 Ordering::Greater => high = middle,

@@ -6,11 +6,12 @@ ghost use Rattle.base_page.specs.Pages.{AreItems, child_in};
 ghost use Rattle.base_page.specs.Places.{IsAt, IsGap};
 ghost use Rattle.record_slots.specs.Spelling.{words_of};
 ghost use Rattle.record_slots.specs.Texts.{IsText};
-ghost use Rattle.record_slots.specs.declared.layout.TheConstants.{HELD, ROW_WORDS, TEXT_WORDS};
+ghost use Rattle.record_slots.specs.declared.layout.TheConstants.{HELD, TEXT_WORDS};
 ghost use Rattle.row_search.specs.Items.{is_term, items_said, may_take, takes};
+ghost use Rattle.row_search.specs.TextsOf.{HasText, length_at};
 
-use crate::{KeyWords, RowAt, Rows};
-use record_slots::{FIRST_KEY, HELD, ITEM_CONTENT, kinds};
+use crate::{KeyWords, RowAt, Rows, Text};
+use record_slots::{HELD, kinds};
 use std::cmp::Ordering;
 
 impl<R: Rows> RowAt<R> {
@@ -43,20 +44,21 @@ impl<R: Rows> RowAt<R> {
         }
     }
 
-    /// Where the key of the item stands that it says is there, with its length before it.
-    fn said_at(&self, place: usize) -> usize
-        requires there { place < length (items_said self.now.content) }
-        ensures room { result + 1 + TEXT_WORDS ≤ ROW_WORDS }
+    /// Which text is the key of the item that it says is there.
+    #[inline]
+    fn said_at(&self, item: usize) -> Text
+        requires there { item < length (items_said self.now.content) }
+        ensures there { HasText result self.now.content }
         ensures text { (d : Item) → IsText
-            (slice_index (words_of self.now.content) result % HELD)
-            (take TEXT_WORDS (drop (result + 1) (words_of self.now.content)))
-            (slice_index_or (items_said self.now.content) place d).key }
+            (slice_index (words_of self.now.content) (length_at result) % HELD)
+            (take TEXT_WORDS (drop (length_at result + 1) (words_of self.now.content)))
+            (slice_index_or (items_said self.now.content) item d).key }
     {
         self.keeps_spelling();
         if self.is_term() {
-            return FIRST_KEY;
+            return Text::First;
         }
-        self.item_at(place)
+        Text::Key(item)
     }
 
     /// How the key of the item that it says is there compares with the key, looked at where it stands.
@@ -72,8 +74,9 @@ impl<R: Rows> RowAt<R> {
         ensures same { pass.new ≡ pass.old }
         ensures compared { (d : Item) → result ≡ key_cmp (slice_index_or (items_said self.now.content) place d).key key.now }
     {
-        let at = self.said_at(place);
-        key.compare_item(self, rows, pass, at)
+        let text = self.said_at(place);
+        let lies = self.place(rows, pass);
+        key.compare_text(self, rows, pass, lies, text)
     }
 
     /// The key of the item that it says is there.
@@ -83,9 +86,10 @@ impl<R: Rows> RowAt<R> {
         ensures same { pass.new ≡ pass.old }
         ensures key { (d : Item) → result ≡ (slice_index_or (items_said self.now.content) place d).key }
     {
-        let at = self.said_at(place);
-        let count = self.word(rows, pass, at) % HELD;
-        KeyWords::at(self, rows, pass, at + 1, count)
+        let text = self.said_at(place);
+        let lies = self.place(rows, pass);
+        let count = self.length(rows, pass, lies, text) % HELD;
+        KeyWords::at(self, rows, pass, lies, text, count)
     }
 
     /// The child of the item that it says is there; a value is none.
@@ -102,8 +106,8 @@ impl<R: Rows> RowAt<R> {
         if self.level() == 0 {
             return None;
         }
-        let at = self.item_at(place);
-        let page = self.word(rows, pass, at + ITEM_CONTENT) as u32;
+        let lies = self.place(rows, pass);
+        let page = self.length(rows, pass, lies, Text::Content(place)) as u32;
         Some(page)
     }
 

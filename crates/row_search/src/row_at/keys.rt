@@ -1,12 +1,11 @@
 //! The keys of a record that is looked at where it lies, as words.
-ghost use Rattle.std.specs.Prelude.{◌≡◌, ◌≤◌, ◌<◌, ◌+◌, ◌*◌, Some, length, slice_index_or};
+ghost use Rattle.std.specs.Prelude.{◌≡◌, ◌<◌, Some, length, slice_index_or};
 ghost use Rattle.base_page.specs.declared.item.Item.{Item};
 ghost use Rattle.record_slots.specs.Parts.{items_of, row_of};
-ghost use Rattle.record_slots.specs.declared.layout.TheConstants.{FIRST_ITEM, ITEM_WORDS, ROW_WORDS};
 ghost use Rattle.row_search.specs.OneKey.{one_key, split_at};
 
-use crate::{KeyWords, RowAt, Rows};
-use record_slots::{FIRST_ITEM, FIRST_KEY, HELD, ITEM_WORDS, kinds};
+use crate::{KeyWords, RowAt, Rows, Text};
+use record_slots::{HELD, kinds};
 
 impl<R: Rows> RowAt<R> {
     /// The one key that it names, and whether it says that the key is there. A base, a split, a removal and a merge have none.
@@ -54,9 +53,10 @@ impl<R: Rows> RowAt<R> {
         ensures key { (d : Item) → result ≡ (slice_index_or (items_of self.now.content) place d).key }
     {
         self.keeps_spelling();
-        let at = self.item_at(place);
-        let count = self.word(rows, pass, at) % HELD;
-        KeyWords::at(self, rows, pass, at + 1, count)
+        let text = Text::Key(place);
+        let lies = self.place(rows, pass);
+        let count = self.length(rows, pass, lies, text) % HELD;
+        KeyWords::at(self, rows, pass, lies, text, count)
     }
 
     /// The first of its two keys.
@@ -66,17 +66,8 @@ impl<R: Rows> RowAt<R> {
         ensures key { result ≡ (row_of self.now.content).first }
     {
         self.keeps_spelling();
-        let count = self.word(rows, pass, FIRST_KEY);
-        KeyWords::at(self, rows, pass, FIRST_KEY + 1, count)
-    }
-
-    /// The first of an item's words.
-    pub(super) fn item_at(&self, place: usize) -> usize
-        requires { place < length (items_of self.now.content) }
-        ensures at { result ≡ FIRST_ITEM + ITEM_WORDS * place }
-        ensures room { result + ITEM_WORDS ≤ ROW_WORDS }
-    {
-        self.keeps_spelling();
-        FIRST_ITEM + ITEM_WORDS * place
+        let lies = self.place(rows, pass);
+        let count = self.length(rows, pass, lies, Text::First);
+        KeyWords::at(self, rows, pass, lies, Text::First, count)
     }
 }

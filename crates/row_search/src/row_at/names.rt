@@ -5,8 +5,8 @@ ghost use Rattle.deltas.specs.Records.{high_after, names};
 ghost use Rattle.record_slots.specs.Parts.{items_of, row_of};
 ghost use Rattle.row_search.specs.Reading.{first_key};
 
-use crate::{KeyWords, RowAt, Rows};
-use record_slots::{FIRST_ITEM, FIRST_KEY, NO_BOUND, SECOND_KEY, kinds};
+use crate::{KeyWords, RowAt, Rows, Text};
+use record_slots::{NO_BOUND, kinds};
 use std::cmp::Ordering;
 
 impl<R: Rows> RowAt<R> {
@@ -17,8 +17,8 @@ impl<R: Rows> RowAt<R> {
         ensures compared { result ≡ key_cmp (row_of self.now.content).first key.now }
     {
         self.keeps_spelling();
-        let count = self.word(rows, pass, FIRST_KEY);
-        key.compare_at(self, rows, pass, FIRST_KEY + 1, count)
+        let place = self.place(rows, pass);
+        key.compare_text(self, rows, pass, place, Text::First)
     }
 
     /// How its second key compares with the key, where it isn't without bound.
@@ -28,11 +28,12 @@ impl<R: Rows> RowAt<R> {
         ensures compared { result ≡ option_map (λ bound. key_cmp bound key.now) (row_of self.now.content).second }
     {
         self.keeps_spelling();
-        let count = self.word(rows, pass, SECOND_KEY);
+        let place = self.place(rows, pass);
+        let count = self.length(rows, pass, place, Text::Second);
         if count == NO_BOUND {
             return None;
         }
-        Some(key.compare_at(self, rows, pass, SECOND_KEY + 1, count))
+        Some(key.compare_of(self, rows, pass, place, Text::Second, count))
     }
 
     /// How the key of its first item compares with the key.
@@ -43,7 +44,8 @@ impl<R: Rows> RowAt<R> {
         ensures compared { result ≡ key_cmp (first_key (items_of self.now.content)) key.now }
     {
         self.keeps_spelling();
-        key.compare_item(self, rows, pass, FIRST_ITEM)
+        let place = self.place(rows, pass);
+        key.compare_text(self, rows, pass, place, Text::Key(0))
     }
 
     /// Whether it decides what the key has.

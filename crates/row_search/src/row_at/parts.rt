@@ -6,7 +6,7 @@ ghost use Rattle.deltas.specs.declared.record.Record.TheVariants.{Base};
 ghost use Rattle.record_slots.specs.Parts.{items_of, row_of};
 ghost use Rattle.row_search.specs.Changes.{delete_of, put_of};
 
-use crate::{RowAt, Rows};
+use crate::{RowAt, Rows, Text};
 use base_page::{Content, Item, Page};
 use bw_model::Key;
 use deltas::{Delete, Put};
@@ -101,9 +101,10 @@ impl<R: Rows> RowAt<R> {
         ensures key { (d : Item) → result ≡ (slice_index_or (items_of self.now.content) place d).key }
     {
         self.keeps_spelling();
-        let at = self.item_at(place);
-        let count = self.word(rows, pass, at) % HELD;
-        let words = self.text(rows, pass, at + 1, count);
+        let text = Text::Key(place);
+        let lies = self.place(rows, pass);
+        let count = self.length(rows, pass, lies, text) % HELD;
+        let words = self.text(rows, pass, lies, text, count);
         key_in(count, &words).unwrap()
     }
 }

@@ -6,10 +6,10 @@ ghost use Rattle.base_page.specs.Pages.{content_at, value_in};
 ghost use Rattle.deltas.specs.Records.{content_said};
 ghost use Rattle.record_slots.specs.Parts.{items_of, row_of};
 
-use crate::{KeyWords, RowAt, Rows};
+use crate::{KeyWords, RowAt, Rows, Text};
 use base_page::Content;
 use bw_model::Value;
-use record_slots::{HELD, ITEM_CONTENT, kinds, value_in};
+use record_slots::{HELD, kinds, value_in};
 
 impl<R: Rows> RowAt<R> {
     /// What it says of a key that it names: its content, or none where the key is absent.
@@ -106,14 +106,14 @@ impl<R: Rows> RowAt<R> {
         ensures content { (d : Item) → result ≡ (slice_index_or (items_of self.now.content) place d).content }
     {
         self.keeps_spelling();
-        let at = self.item_at(place);
+        let lies = self.place(rows, pass);
         if self.level() > 0 {
-            let page = self.word(rows, pass, at + ITEM_CONTENT) as u32;
-            let held = self.word(rows, pass, at) >= HELD;
+            let page = self.length(rows, pass, lies, Text::Content(place)) as u32;
+            let held = self.length(rows, pass, lies, Text::Key(place)) >= HELD;
             return Content::Child { page, held };
         }
-        let count = self.word(rows, pass, at + ITEM_CONTENT);
-        let words = self.text(rows, pass, at + ITEM_CONTENT + 1, count);
+        let count = self.length(rows, pass, lies, Text::Content(place));
+        let words = self.text(rows, pass, lies, Text::Content(place), count);
         Content::Value(value_in(count, &words).unwrap())
     }
 

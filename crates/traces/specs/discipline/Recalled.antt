@@ -119,6 +119,10 @@ IsPaid r step answer = ⊥
 abbrev pub IsSpentWith : ℕ → Recalled → StepOf Record → Answer Record → ℕ → ℕ → Type 0
 IsSpentWith worth r step answer left rest = (rest < left) ⊎ (IsPaid r step answer × (rest < left + worth))
 
+-- how many reads a round takes at most: slot 0, and of each page the slot and 13 records
+abbrev pub few_reads : Limits → ℕ
+few_reads limits = 1 + 14 * limits.pids
+
 -- how many steps a cause is worth: 2^18, and in a large tree 48 more for each PID, and one for each row
 unfoldable pub cause_worth : Limits → ℕ
 cause_worth limits = if limits.is_large then 2 ^ 18 + (48 * limits.pids + limits.rows) else 2 ^ 18

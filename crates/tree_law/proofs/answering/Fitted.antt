@@ -8,7 +8,7 @@ use Rattle.tree_law.proofs.links.Merging.{frozen_as}
 use Rattle.traces.specs.discipline.Fitting.{FitsWord, ReadsRemoved}
 use Rattle.traces.specs.discipline.Fitting.{FitsRow, FitsTaken, FitsTakenPid, AreOutOfLimbo, FitsExchange}
 use Rattle.traces.proofs.FittedLaws.{first_spellable}
-use Rattle.op_machine.specs.theorem.Phases as phase
+use Rattle.linearization.specs.Phases as phase
 use Rattle.tree_law.proofs.epochs.Exchanging.{on_walk, slot_linked}
 use Rattle.tree_law.proofs.links.Keeping.{slot_of, met_placed}
 use Rattle.tree_law.proofs.shape.{is_indexed, below_top, placed_reached, slot_some, by_equal, next_linked, none_if, false_if}

@@ -6,7 +6,7 @@ use Rattle.tree_law.proofs.Words.{HasRead, FitsOver, Knowledge, Written, Owners,
 use Rattle.tree_law.proofs.Words.{put, phase_of, free, IsSome, IsFalse, IsTrue, IsFitted, base_from, MaySplit, Covers, ContentOf, Page, Makes}
 use Rattle.base_page.proofs.PageLaws.{belongs}
 use Rattle.traces.proofs.FittedLaws.{ruled}
-use Rattle.op_machine.specs.theorem.Halves.{AreHalves}
+use Rattle.linearization.specs.Halves.{AreHalves}
 use Rattle.tree_law.specs.Changes.{IsWorth, from_low, is_alive, total}
 use Rattle.tree_law.proofs.shape.KeyOrder.{below_not, covers_from, covers_to, upto_trans}
 use Rattle.tree_law.proofs.shape.Puts.{put_other, put_same}

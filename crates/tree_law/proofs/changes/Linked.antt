@@ -7,7 +7,7 @@ use Rattle.tree_law.proofs.Words.{Knowledge, Written, learn, MayLink, MayUpdate,
 use Rattle.tree_law.proofs.Words.{MayAdd, update_record, base_from, AreFitted, Owners, Shared, IsTree, shared_part, slot_in}
 use Rattle.tree_law.proofs.Words.{LinkMoves, put, phase_of, free, IsUpdateLink, IsUseful}
 use Rattle.bw_model.specs.declared.step.Link.TheVariants as link
-use Rattle.op_machine.specs.theorem.Halves.{IsHalved}
+use Rattle.linearization.specs.Halves.{IsHalved}
 use Rattle.tree_law.specs.Changes.{IsWorth, life, total}
 use Rattle.tree_law.proofs.trace.Phasing.{link_front}
 use Rattle.tree_law.proofs.links.Relinking.{found, placed_row}

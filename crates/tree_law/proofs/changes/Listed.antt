@@ -7,8 +7,8 @@ use Rattle.std.proofs.Common.{length-drop}
 use Rattle.std.proofs.lemmas.List.Kept.{AllPairs-from_increasing}
 use Rattle.traces.proofs.TraceLaws.{Happens-below}
 use Rattle.traces.specs.trace.Trace.{Happens}
-use Rattle.op_machine.specs.theorem.Changes.{HasFewChanges}
-use Rattle.op_machine.specs.theorem.Progress.{AreAmong, ChangesTree, is_begin, takes_number}
+use Rattle.linearization.specs.Changes.{HasFewChanges}
+use Rattle.linearization.specs.Progress.{AreAmong, ChangesTree, is_begin, takes_number}
 use Rattle.tree_law.proofs.trace.Owned.{pushed_length}
 use Rattle.tree_law.specs.Changes.{most_in_store}
 use Rattle.tree_law.proofs.direct.Counting.{count_push, range_kept}

@@ -12,7 +12,7 @@ use Rattle.bw_model.specs.declared.step.Step.TheVariants.{Retire}
 use Rattle.traces.specs.trace.Trace.{Happens}
 use Rattle.traces.proofs.TraceLaws.{Happens-below, Happens-kept, Happens-last}
 use Rattle.std.proofs.lemmas.List.Elements.{All-push}
-use Rattle.op_machine.specs.theorem.Progress.{ChangesTree, takes_number}
+use Rattle.linearization.specs.Progress.{ChangesTree, takes_number}
 use Rattle.tree_law.specs.Changes.{AreUsed, numbers_had, page_mark, pids_had, row_mark, rows_had, total}
 use Rattle.tree_law.specs.Owners.{Owner, Free, Spare, Linked, OwnFits, PageFits}
 use Rattle.tree_law.proofs.shape.Puts.{by_equal, put_other, put_same}

@@ -6,8 +6,8 @@ use Rattle.tree_law.proofs.Words.{Knowledge, learn, May, AreFitted, Owners, Link
 use Rattle.tree_law.proofs.Words.{Placed, PageOwner, Fresh, Keeps, Cleared, Phased, put, phase_of}
 use Rattle.tree_law.proofs.Words.{free, eqb, IsAnswer, memory_after, IsUseful, IsInTree, IsReadyPage, link_of, link_without}
 use Rattle.bw_model.specs.declared.step.Link.TheVariants as link
-use Rattle.op_machine.specs.theorem.Halves.{IsHalved}
-use Rattle.op_machine.specs.theorem.Progress.{ChangesTree}
+use Rattle.linearization.specs.Halves.{IsHalved}
+use Rattle.linearization.specs.Progress.{ChangesTree}
 use Rattle.tree_law.specs.Changes.{IsWorth, is_alive, life}
 use Rattle.tree_law.proofs.shape.Puts.{by_equal, decided, eqb_true, put_other, put_same}
 use Rattle.tree_law.proofs.shape.KeyOrder.{not_self}

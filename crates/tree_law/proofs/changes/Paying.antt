@@ -7,9 +7,9 @@ use Rattle.tree_law.proofs.Words.{shared_part, put, IsState, Opens}
 use Rattle.std.specs.List.Sorted.{IsStrictlySortedBy}
 use Rattle.traces.specs.trace.Trace.{Happens}
 use Rattle.traces.proofs.TraceLaws.{Happens-below}
-use Rattle.op_machine.specs.theorem.Changes.{HasFewChanges}
-use Rattle.op_machine.specs.theorem.Halves.{IsHalved}
-use Rattle.op_machine.specs.theorem.Progress.{ChangesTree, is_begin, takes_number}
+use Rattle.linearization.specs.Changes.{HasFewChanges}
+use Rattle.linearization.specs.Halves.{IsHalved}
+use Rattle.linearization.specs.Progress.{ChangesTree, is_begin, takes_number}
 use Rattle.tree_law.specs.Changes.{AreUsed, AreUsefulFrom, IsPaidState, IsWorth, RunsHaveFewChanges, StepsPay, credit, life, most_in_store, store, total}
 use Rattle.tree_law.specs.TraceLaws.{BeginsKeep}
 use Rattle.tree_law.proofs.shape.Puts.{by_equal}

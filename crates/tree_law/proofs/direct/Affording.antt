@@ -12,10 +12,10 @@ use Rattle.std.specs.Prelude.{◌⊎◌}
 use Rattle.bw_model.specs.declared.step.Link.TheVariants as link
 use Rattle.traces.specs.discipline.Discipline.{MayExchange}
 use Rattle.traces.specs.discipline.Knowledge.{OwnPage}
-use Rattle.op_machine.specs.theorem.Direct.{IsOfTree}
-use Rattle.op_machine.specs.theorem.Links.{link_of}
-use Rattle.op_machine.specs.theorem.Phases as phase
-use Rattle.op_machine.specs.theorem.Phases.{owned}
+use Rattle.linearization.specs.Direct.{IsOfTree}
+use Rattle.linearization.specs.Links.{link_of}
+use Rattle.linearization.specs.Phases as phase
+use Rattle.linearization.specs.Phases.{owned}
 use Rattle.tree_law.specs.Owners.{Reached}
 use Rattle.tree_law.specs.Keys.{Key}
 use Rattle.tree_law.specs.Phase.{PageOwner, Nobody, Keeps, Cleared, Fresh, Held, Removed, Merged}

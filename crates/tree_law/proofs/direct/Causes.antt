@@ -1,7 +1,7 @@
 -- What an operation's step did it has done in the longer trace too.
 use Rattle.tree_law.proofs.Words.{◌⊎◌, [], ap, Option, List, true, inl, length, ◌++◌, ◌≤◌, inr, ◌∷◌, sym, ℕ, ◌≡◌, ◌∙◌, ◌<◌, arith, Some, Reply, Limits, Answer, Whether, Link, StepOf, Exchange, Memory}
 use Rattle.tree_law.proofs.Words.{Record, memory_at, memory_of, Entry, Step, Links, IsCause, TakesNone, link_of, Operation, TakesOwnStep, IsUnended}
-use Rattle.op_machine.specs.theorem.Direct.{Loses, Meets, MissesNumber}
+use Rattle.linearization.specs.Direct.{Loses, Meets, MissesNumber}
 use Rattle.tree_law.proofs.trace.Searches.{takes_kept}
 use Rattle.tree_law.proofs.direct.Appended.{memory_kept, memory_last, takes_before, takes_below, takes_cases}
 

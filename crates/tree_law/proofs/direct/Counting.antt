@@ -28,10 +28,9 @@ module _ (limits : Limits) (entries : List Entry) (last : Entry) (op : Operation
   abbrev longer : List Entry
   longer = entries ++ last ∷ []
 
-  counted : IsOperation entries op → count_by (is_step_of op.actor) (drop op.start longer) ≡ count_by (is_step_of op.actor) (drop op.start entries) + cond (is_step_of op.actor last) 1 0
-  counted begun =
-      let start : op.start < length entries = slice_get_within entries op.start _ begun in
-      ap (count_by (is_step_of op.actor)) (drop-append-le op.start entries (last ∷ []) (omega arith)) ∙ count_push (is_step_of op.actor) (drop op.start entries) last
+  -- an operation begins at an entry
+  started : IsOperation entries op → op.start ≤ length entries
+  started begun = let start : op.start < length entries = slice_get_within entries op.start _ begun in omega arith
 
   causes_kept : (causes : List ℕ) → All (λ cause. (cause < length entries) × IsCause limits entries op cause) causes → All (λ cause. (cause < length longer) × IsCause limits longer op cause) causes
   causes_kept causes each = All-weaker (λ cause. (cause < length entries) × IsCause limits entries op cause) (λ cause. (cause < length longer) × IsCause limits longer op cause)
@@ -41,6 +40,26 @@ module _ (limits : Limits) (entries : List Entry) (last : Entry) (op : Operation
 
   counted_from : (m : ℕ) → m ≤ length entries → count_by (is_step_of op.actor) (drop m longer) ≡ count_by (is_step_of op.actor) (drop m entries) + cond (is_step_of op.actor last) 1 0
   counted_from m within = ap (count_by (is_step_of op.actor)) (drop-append-le m entries (last ∷ []) within) ∙ count_push (is_step_of op.actor) (drop m entries) last
+
+  -- The causes that paid for the steps from an entry on pay for one entry more.
+  paid_on : (m left rest paid : ℕ) → m ≤ length entries → rest + cond (is_step_of op.actor last) 1 0 ≤ left → count_by (is_step_of op.actor) (drop m entries) + left ≤ paid
+      → count_by (is_step_of op.actor) (drop m longer) + rest ≤ paid
+  paid_on m left rest paid within less old =
+      let same : count_by (is_step_of op.actor) (drop m longer) ≡ count_by (is_step_of op.actor) (drop m entries) + cond (is_step_of op.actor last) 1 0 = counted_from m within in
+      omega arith
+
+  -- One cause more pays for as many steps as a cause is worth.
+  paid_more : (m left rest few : ℕ) (causes : List ℕ) → m ≤ length entries → rest < left + cause_worth limits
+      → count_by (is_step_of op.actor) (drop m entries) + left ≤ cause_worth limits * (length causes + few)
+      → count_by (is_step_of op.actor) (drop m longer) + rest ≤ cause_worth limits * (length (causes ++ length entries ∷ []) + few)
+  paid_more m left rest few causes within less old =
+      let same : count_by (is_step_of op.actor) (drop m longer) ≡ count_by (is_step_of op.actor) (drop m entries) + cond (is_step_of op.actor last) 1 0 = counted_from m within in
+      let one : cond (is_step_of op.actor last) 1 0 ≤ 1 = one_at_most (is_step_of op.actor last) in
+      let more : length (causes ++ length entries ∷ []) ≡ suc (length causes) = pushed_length causes (length entries) in
+      let place : length (causes ++ length entries ∷ []) + few ≡ suc (length causes + few) = omega (arith, more) in
+      let grown : cause_worth limits * (length (causes ++ length entries ∷ []) + few) ≡ cause_worth limits * (length causes + few) + cause_worth limits
+      = ap (λ k. cause_worth limits * k) place ∙ mul-suc (cause_worth limits) (length causes + few) in
+      omega arith
 
   causes_kept_from : (m : ℕ) (causes : List ℕ) → All (λ cause. (m ≤ cause) × (cause < length entries) × IsCause limits entries op cause) causes
       → All (λ cause. (m ≤ cause) × (cause < length longer) × IsCause limits longer op cause) causes
@@ -67,10 +86,7 @@ module _ (limits : Limits) (entries : List Entry) (last : Entry) (op : Operation
     causes = h.causes;
     increasing = h.increasing;
     each = causes_kept_from m h.causes h.each;
-    paid =
-        let same : count_by (is_step_of op.actor) (drop m longer) ≡ count_by (is_step_of op.actor) (drop m entries) + cond (is_step_of op.actor last) 1 0 = counted_from m within in
-        let old : count_by (is_step_of op.actor) (drop m entries) + left ≤ cause_worth limits * (length h.causes + 10) = h.paid in
-        omega arith;
+    paid = paid_on m left rest (cause_worth limits * (length h.causes + 10)) within less h.paid;
   }
 
   from_cause : (left rest m : ℕ) → m ≤ length entries → IsCause limits longer op (length entries) → rest < left + cause_worth limits
@@ -82,15 +98,7 @@ module _ (limits : Limits) (entries : List Entry) (last : Entry) (op : Operation
     each =
         let long : length longer ≡ suc (length entries) = pushed_length entries last in
         All-push (λ c. (m ≤ c) × (c < length longer) × IsCause limits longer op c) h.causes (length entries) (causes_kept_from m h.causes h.each) (within, omega arith, cause);
-    paid =
-        let same : count_by (is_step_of op.actor) (drop m longer) ≡ count_by (is_step_of op.actor) (drop m entries) + cond (is_step_of op.actor last) 1 0 = counted_from m within in
-        let one : cond (is_step_of op.actor last) 1 0 ≤ 1 = one_at_most (is_step_of op.actor last) in
-        let old : count_by (is_step_of op.actor) (drop m entries) + left ≤ cause_worth limits * (length h.causes + 10) = h.paid in
-        let more : length (h.causes ++ length entries ∷ []) ≡ suc (length h.causes) = pushed_length h.causes (length entries) in
-        let place : length (h.causes ++ length entries ∷ []) + 10 ≡ suc (length h.causes + 10) = omega (arith, more) in
-        let grown : cause_worth limits * (length (h.causes ++ length entries ∷ []) + 10) ≡ cause_worth limits * (length h.causes + 10) + cause_worth limits
-        = ap (λ k. cause_worth limits * k) place ∙ mul-suc (cause_worth limits) (length h.causes + 10) in
-        omega arith;
+    paid = paid_more m left rest 10 h.causes within less h.paid;
   }
 
   -- from each entry on, where it is so from each but the end
@@ -127,15 +135,12 @@ module _ (limits : Limits) (entries : List Entry) (last : Entry) (op : Operation
     causes = h.causes;
     increasing = h.increasing;
     each = causes_kept h.causes h.each;
-    paid =
-        let same : count_by (is_step_of op.actor) (drop op.start longer) ≡ count_by (is_step_of op.actor) (drop op.start entries) + 0 = counted begun ∙ ap
-        (λ t. count_by (is_step_of op.actor) (drop op.start entries) + cond t 1 0) other in
-        let old : count_by (is_step_of op.actor) (drop op.start entries) + left ≤ cause_worth limits * (length h.causes + 1) = h.paid in
-        omega arith;
-    since =
-        from_each left (few_left left begun h)
-        (λ m after within. from_less left left m within (let none : cond {A = ℕ} (is_step_of op.actor last) 1 0 ≡ 0 = ap (λ t. cond {A = ℕ} t 1 0) other in omega arith) (h.since m after within));
+    paid = paid_on op.start left left (cause_worth limits * (length h.causes + 1)) (started begun) none h.paid;
+    since = from_each left (few_left left begun h) (λ m after within. from_less left left m within none (h.since m after within));
   }
+    where
+      none : left + cond (is_step_of op.actor last) 1 0 ≤ left
+      none = let free : cond {A = ℕ} (is_step_of op.actor last) 1 0 ≡ 0 = ap (λ t. cond {A = ℕ} t 1 0) other in omega arith
 
   -- what was left pays for one step more
   pub affords_less : (left rest : ℕ) → IsOperation entries op → Affords limits entries op left → rest < left → Affords limits longer op rest
@@ -143,16 +148,14 @@ module _ (limits : Limits) (entries : List Entry) (last : Entry) (op : Operation
     causes = h.causes;
     increasing = h.increasing;
     each = causes_kept h.causes h.each;
-    paid =
-        let same : count_by (is_step_of op.actor) (drop op.start longer) ≡ count_by (is_step_of op.actor) (drop op.start entries) + cond (is_step_of op.actor last) 1 0 = counted begun in
-        let one : cond (is_step_of op.actor last) 1 0 ≤ 1 = one_at_most (is_step_of op.actor last) in
-        let old : count_by (is_step_of op.actor) (drop op.start entries) + left ≤ cause_worth limits * (length h.causes + 1) = h.paid in
-        omega arith;
+    paid = paid_on op.start left rest (cause_worth limits * (length h.causes + 1)) (started begun) enough h.paid;
     since =
         let most : left ≤ cause_worth limits * 10 = few_left left begun h in
-        let one : cond (is_step_of op.actor last) 1 0 ≤ 1 = one_at_most (is_step_of op.actor last) in
-        from_each rest (omega arith) (λ m after within. from_less left rest m within (omega arith) (h.since m after within));
+        from_each rest (omega arith) (λ m after within. from_less left rest m within enough (h.since m after within));
   }
+    where
+      enough : rest + cond (is_step_of op.actor last) 1 0 ≤ left
+      enough = let one : cond (is_step_of op.actor last) 1 0 ≤ 1 = one_at_most (is_step_of op.actor last) in omega arith
 
   -- a cause more is worth 2^18 steps, itself among them
   pub affords_cause : (left rest : ℕ) → IsOperation entries op → Affords limits entries op left → IsCause limits longer op (length entries)
@@ -163,15 +166,7 @@ module _ (limits : Limits) (entries : List Entry) (last : Entry) (op : Operation
     each =
         let long : length longer ≡ suc (length entries) = pushed_length entries last in
         All-push (λ c. (c < length longer) × IsCause limits longer op c) h.causes (length entries) (causes_kept h.causes h.each) (omega arith, cause);
-    paid =
-        let same : count_by (is_step_of op.actor) (drop op.start longer) ≡ count_by (is_step_of op.actor) (drop op.start entries) + cond (is_step_of op.actor last) 1 0 = counted begun in
-        let one : cond (is_step_of op.actor last) 1 0 ≤ 1 = one_at_most (is_step_of op.actor last) in
-        let old : count_by (is_step_of op.actor) (drop op.start entries) + left ≤ cause_worth limits * (length h.causes + 1) = h.paid in
-        let more : length (h.causes ++ length entries ∷ []) ≡ suc (length h.causes) = pushed_length h.causes (length entries) in
-        let place : length (h.causes ++ length entries ∷ []) + 1 ≡ suc (length h.causes + 1) = omega (arith, more) in
-        let grown : cause_worth limits * (length (h.causes ++ length entries ∷ []) + 1) ≡ cause_worth limits * (length h.causes + 1) + cause_worth limits
-        = ap (λ k. cause_worth limits * k) place ∙ mul-suc (cause_worth limits) (length h.causes + 1) in
-        omega arith;
+    paid = paid_more op.start left rest 1 h.causes (started begun) less h.paid;
     since = from_each rest few (λ m after within. from_cause left rest m within cause less (h.since m after within));
   }
 

@@ -8,10 +8,10 @@ use Rattle.tree_law.specs.Direct.{AffordsFrom}
 use Rattle.traces.specs.discipline.Recalled.{cause_worth}
 use Rattle.bw_model.specs.Replies.{is_writer}
 use Rattle.bw_model.specs.declared.step.Link.TheVariants as link
-use Rattle.op_machine.specs.theorem.Direct.{IsOfTree}
-use Rattle.op_machine.specs.theorem.Phases.{owned}
+use Rattle.linearization.specs.Direct.{IsOfTree}
+use Rattle.linearization.specs.Phases.{owned}
 use Rattle.std.specs.Prelude.{◌⊎◌}
-use Rattle.op_machine.proofs.PhaseLaws.{IsInPhase-kept}
+use Rattle.linearization.proofs.PhaseLaws.{IsInPhase-kept}
 use Rattle.tree_law.proofs.trace.Owned.{pushed_length}
 use Rattle.tree_law.proofs.direct.Appended.{memory_kept, memory_last, operation_before, takes_below, takes_cases}
 use Rattle.tree_law.proofs.direct.Causes.{LinksLast, cause_kept, links_cases}

@@ -1,7 +1,7 @@
 -- A slot that an actor recalls to have read is not that of a page that it has made ready itself.
 use Rattle.tree_law.proofs.Words.{ap, suc, List, inl, ◌≢◌, inr, sym, ℕ, ◌≡◌, zero, ◌∙◌, ◌<◌, arith, Limits, Answer, StepOf, Slot, Record, May, knows, Knowledge, Ready, learn, Empty}
 use Rattle.tree_law.proofs.Words.{OwnPage, Other, Gone, after_exchange, Entry, IsExchangeOf, Key, Reached, PageOwner, Keeps, put, IsState, phase_of}
-use Rattle.op_machine.specs.theorem.Phases as phase
+use Rattle.linearization.specs.Phases as phase
 use Rattle.tree_law.proofs.links.Keeping.{met_placed}
 use Rattle.tree_law.proofs.shape.Puts.{by_equal}
 use Rattle.tree_law.proofs.links.Learning.{learning, takes_pid, wins}

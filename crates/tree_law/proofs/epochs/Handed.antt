@@ -8,7 +8,7 @@ use Rattle.tree_law.proofs.Words.{Key, IsInLimbo, Free, Linked, Owners, Reached}
 use Rattle.tree_law.proofs.Words.{Nobody, PageOwner, put, shared_part, slot_in, IsReadyPage, IsState, IsInTree, Times, Timed, LimboFits, Outing, IsTree, []}
 use Rattle.base_page.specs.Pages as pages
 use Rattle.traces.specs.trace.Trace.{TakesStep}
-use Rattle.op_machine.specs.theorem.Reuse.{IsFreedByRule}
+use Rattle.linearization.specs.Reuse.{IsFreedByRule}
 use Rattle.tree_law.proofs.links.Keeping.{slot_of}
 use Rattle.tree_law.proofs.epochs.Limbed.{LimboCase, as_it_was, is_stamped, is_passed, is_out, is_freed, RowOut, PageOut, FreesRows, FreesPids, limbo_case, walk_contained}
 use Rattle.tree_law.proofs.epochs.Limbos.{limbo_push, stamped_now, passed_now, freed_push, freed_now, pid_longer, row_longer}

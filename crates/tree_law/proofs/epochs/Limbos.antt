@@ -3,7 +3,7 @@ use Rattle.tree_law.proofs.Words.{false, ◌⊎◌, ap, refl, cond, ltb, Option,
 use Rattle.tree_law.proofs.Words.{◌||◌, Reply, Limits, Answer, Number, StepOf, Epoch, Announce, replaced_at, Record, slice_get_below, slice_get-push, TakesStep-push_cases, memory_at-push}
 use Rattle.tree_law.proofs.Words.{IsPassed, Unstamped, LimboMark, Absent, Stamped, passed_by, with_stamp, IsStep, Entry, Step, UnlinksPid, UnlinksRow, IsInLimbo, []}
 use Rattle.traces.proofs.TraceLaws.{TakesStep-kept}
-use Rattle.op_machine.specs.theorem.Reuse.{IsFreed}
+use Rattle.linearization.specs.Reuse.{IsFreed}
 use Rattle.tree_law.specs.Limbos.{WasTakenOut, IsPassedAt, IsStamped}
 use Rattle.tree_law.proofs.trace.Owned.{pushed_length}
 use Rattle.tree_law.proofs.shape.Puts.{by_equal}

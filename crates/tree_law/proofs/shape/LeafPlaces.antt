@@ -8,7 +8,7 @@ use Rattle.bw_model.proofs.NextKeyLaws.{after_is_above}
 use Rattle.bw_model.specs.Bytes.{IsShort}
 use Rattle.bw_model.specs.NextKeys.{key_after, key_before}
 use Rattle.bw_model.specs.Pairs.{IsPairsOf}
-use Rattle.op_machine.specs.theorem.Answered.{IsBackPage, IsCursorPage}
+use Rattle.linearization.specs.Answered.{IsBackPage, IsCursorPage}
 use Rattle.tree_law.proofs.shape.Exactness.{is_indexed}
 use Rattle.tree_law.proofs.shape.KeyOrder.{both, covers_from, covers_to, upto_below, upto_trans}
 use Rattle.tree_law.proofs.shape.Mapping.{live, leaves, is_leaves, map_of}

@@ -11,7 +11,7 @@ use Rattle.std.proofs.lemmas.List.Folds.{list_any_none}
 use Rattle.std.proofs.lemmas.List.Kept.{AllPairs-cons}
 use Rattle.std.proofs.lemmas.Map.Made.{IsDistinct-from_AllPairs}
 use Rattle.std.proofs.lemmas.Map.Steps.{length-le_from_distinct_below}
-use Rattle.op_machine.specs.theorem.Phases as phase
+use Rattle.linearization.specs.Phases as phase
 use Rattle.tree_law.specs.Leaves.{IsLeafPage, HasLeafPages}
 use Rattle.tree_law.specs.LevelPages.{IsPageOn, HasPagesOn}
 use Rattle.tree_law.proofs.shape.Mapping.{live, chain_of, leaves, side_from, whole_from}

@@ -1,9 +1,9 @@
 -- What was so of a moment is so in a longer trace.
 use Rattle.tree_law.proofs.Words.{false, [], suc, List, true, inl, length, ◌++◌, ◌≤◌, inr, ◌∷◌, ℕ, ◌≡◌, Bool, arith, Limits, memory_at-push, Happens-kept, Happens-push_cases}
 use Rattle.tree_law.proofs.Words.{LivePage, memory_at, Entry, IsLeftmost, Indexes, HasPhaseOfTerm, indexed, IsInPhase, Phase, held, removed, merged, Key}
-use Rattle.op_machine.specs.theorem.Index.{IsPageAt}
-use Rattle.op_machine.specs.theorem.Phases.{Rests}
-use Rattle.op_machine.proofs.PhaseLaws.{IsInPhase-kept}
+use Rattle.linearization.specs.Index.{IsPageAt}
+use Rattle.linearization.specs.Phases.{Rests}
+use Rattle.linearization.proofs.PhaseLaws.{IsInPhase-kept}
 
 module _ (limits : Limits) (entries : List Entry) (last : Entry) where
   abbrev longer : List Entry

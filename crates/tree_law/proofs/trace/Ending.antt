@@ -1,7 +1,7 @@
 -- Operations end at their leaves.
 use Rattle.tree_law.proofs.Words.{[], refl, Option, None, List, inl, ◌++◌, inr, ◌∷◌, ℕ, ◌≡◌, Some, IsSome, IfSome, Reply, Limits, Answer, StepOf, Leave, Record, slice_get-push_cases}
 use Rattle.tree_law.proofs.Words.{MayReply, Knowledge, Entry, Step}
-use Rattle.op_machine.specs.theorem.Operations.{EndAtLeaves, RepliesAtLeave}
+use Rattle.linearization.specs.Operations.{EndAtLeaves, RepliesAtLeave}
 
 pub ends_none : EndAtLeaves []
 ends_none = record { each = λ n entry e. cc }

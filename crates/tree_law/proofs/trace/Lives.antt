@@ -4,8 +4,8 @@ use Rattle.tree_law.proofs.Words.{Memory, Record, Remove, RemoveOf, Happens-kept
 use Rattle.tree_law.proofs.Words.{MovesPhase, removes, Phase, cleared, splits, merges, becomes_root, reuses, under_root, terms, holds, unterms, PageOwner, phase_of}
 use Rattle.bw_model.specs.declared.step.Link.TheVariants as link
 use Rattle.traces.proofs.TraceLaws.{Happens-below, Happens-last}
-use Rattle.op_machine.specs.theorem.Phases.{takes, KeepsPhases}
-use Rattle.op_machine.proofs.PhaseLaws.{IsInPhase-moved, IsInPhase-rested, KeepsPhases-push}
+use Rattle.linearization.specs.Phases.{takes, KeepsPhases}
+use Rattle.linearization.proofs.PhaseLaws.{IsInPhase-moved, IsInPhase-rested, KeepsPhases-push}
 use Rattle.tree_law.proofs.trace.Owned.{pushed_length}
 
 -- a begin moves nothing

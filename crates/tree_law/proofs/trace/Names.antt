@@ -8,9 +8,9 @@ use Rattle.tree_law.proofs.Words.{shared_part, slot_in, row_in, IsReadyPage, pha
 use Rattle.base_page.specs.Pages as pages
 use Rattle.traces.specs.trace.Run.{MayTake}
 use Rattle.traces.proofs.TraceLaws.{HasLearnt-push_cases}
-use Rattle.op_machine.specs.theorem.Phases as phase
-use Rattle.op_machine.specs.theorem.Faithful.{IsFaithful, KnowsRow, Disturbs, touches_pages}
-use Rattle.op_machine.proofs.FaithLaws.{KnowsRow-before, KnowsRow-kept, KnowsRow-shown}
+use Rattle.linearization.specs.Phases as phase
+use Rattle.linearization.specs.Faithful.{IsFaithful, KnowsRow, Disturbs, touches_pages}
+use Rattle.linearization.proofs.FaithLaws.{KnowsRow-before, KnowsRow-kept, KnowsRow-shown}
 use Rattle.traces.specs.discipline.Knowledge.{going_on}
 use Rattle.tree_law.proofs.shape.{by_equal, put_same, put_other, put_true, slot_some, chain_linked, own_spare, false_if}
 use Rattle.tree_law.proofs.links.Exchanged.{exchanged_alike}

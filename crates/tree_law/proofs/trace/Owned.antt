@@ -4,7 +4,7 @@ use Rattle.tree_law.proofs.Words.{StepOf, Record, slice_get_below, slice_get_kep
 use Rattle.tree_law.proofs.Words.{operation_from, IsUnended}
 use Rattle.traces.proofs.Pushes.{slice_get-append_left}
 pub use Rattle.traces.proofs.Pushes.{pushed_length}
-use Rattle.op_machine.specs.theorem.Operations.{IsOwnEntry}
+use Rattle.linearization.specs.Operations.{IsOwnEntry}
 
 pub same_start : (entries : List Entry) (s t a : ℕ) (c d : Command) → slice_get entries s ≡ Some (Begin a c) → slice_get entries t ≡ Some (Begin a d)
     → IsUnended entries s a → IsUnended entries t a → s ≡ t

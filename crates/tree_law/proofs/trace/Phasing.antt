@@ -8,7 +8,7 @@ use Rattle.tree_law.proofs.Words.{shared_part, slot_in, row_in, IsReadyPage, pha
 use Rattle.tree_law.proofs.shape.{by_key, not_self, slot_some, eqb_true, eqb_apart, by_equal, put_same, put_other, decided}
 use Rattle.bw_model.specs.declared.step.Link.TheVariants as link
 use Rattle.base_page.specs.Pages as pages
-use Rattle.op_machine.specs.theorem.Phases.{owned, fresh, MakesRoot, takes}
+use Rattle.linearization.specs.Phases.{owned, fresh, MakesRoot, takes}
 
 -- whether it is the link of a record in front of a chain
 abbrev is_front : Link → Bool

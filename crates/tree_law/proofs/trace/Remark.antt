@@ -5,8 +5,8 @@ use Rattle.tree_law.proofs.Words.{false, ◌⊎◌, ap, refl, Option, suc, None,
 use Rattle.tree_law.proofs.Words.{slice_get, MatchOption, Update, logged_value, update_of, command_key, Command, Reply, Limits, slice_get_below, command_of, Entry, Begin, Step, same_operation}
 use Rattle.tree_law.proofs.Words.{IsOperation, Operation, Finishes, IsOwnStep, log_at, log_of, IsPoint, IsQuiet, UpdatesAtLinks, Tells, operation_from, IsMarked, []}
 use Rattle.std.proofs.Common.{set}
-use Rattle.op_machine.specs.theorem.Points.{updates_at}
-use Rattle.op_machine.proofs.LogLaws.{log_of-marked, log_at-step}
+use Rattle.linearization.specs.Points.{updates_at}
+use Rattle.linearization.proofs.LogLaws.{log_of-marked, log_at-step}
 use Rattle.tree_law.proofs.shape.Puts.{by_equal}
 
 set_length : {X : Type 0} (xs : List X) (i : ℕ) (x : X) → length (set xs i x) ≡ length xs

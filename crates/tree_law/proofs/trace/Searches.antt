@@ -2,7 +2,7 @@
 use Rattle.tree_law.proofs.Words.{false, ◌⊎◌, ap, refl, Option, suc, None, List, true, inl, length, ◌++◌, ◌≤◌, inr, ◌∷◌, sym, ℕ, ◌≡◌, Bool, zero, ◌∙◌, ◌<◌, arith, Some, slice_get}
 use Rattle.tree_law.proofs.Words.{Command, Reply, Limits, Answer, Number, StepOf, PidBits, RowBits, Record, slice_get_below, memory_at-push, low_in, is_removed, LacksRoom, HoldsBack, after_begin}
 use Rattle.tree_law.proofs.Words.{Knowledge, after_reply, learn, LivePage, Entry, Begin, Step, WasHeldBack, Operation, TakesOwnStep, operation_from, IsSearch, IsUnended, WasRead, []}
-use Rattle.op_machine.specs.theorem.Answered.{FindsNothingFree}
+use Rattle.linearization.specs.Answered.{FindsNothingFree}
 use Rattle.traces.specs.discipline.Knowledge.{Asked}
 use Rattle.tree_law.proofs.shape.Puts.{by_equal}
 use Rattle.tree_law.proofs.links.Exchanged.{exchanged_alike}

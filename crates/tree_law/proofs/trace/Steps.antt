@@ -11,8 +11,8 @@ use Rattle.std.specs.Option.{option_to_list}
 use Rattle.bw_model.specs.declared.command.Command.TheVariants.{Add, Back, Get, Delete, DeleteIf, Page, Tidy}
 use Rattle.bw_model.specs.declared.command.Reply.TheVariants as reply
 use Rattle.bw_model.specs.Numbers.{is_number}
-use Rattle.op_machine.specs.theorem.Answered.{IsTrueReply}
-use Rattle.op_machine.specs.theorem.Points.{updates_by, has_point}
+use Rattle.linearization.specs.Answered.{IsTrueReply}
+use Rattle.linearization.specs.Points.{updates_by, has_point}
 use Rattle.tree_law.specs.Next.{grown, log_at_point as pointed'}
 use Rattle.tree_law.specs.TraceLaws.{StatesAreIndexed, StatesAreLinearized, StatesFreeByRule, StatesKeepPhases, Steps}
 use Rattle.tree_law.proofs.epochs.Freeing.{t1, t2, rows_after, rows_timed, pages_after, pages_timed}

@@ -11,7 +11,8 @@ text_look-requires-clause-has g c =
     let h = c.requires.has.1 in (
       a,
       subst (λ p. g.R.CompactRows.has c.args.rows.now p c.args.row a) (sym c.look-second.ensures.same) h,
-      first_room a (c.requires.spelt a h) c.args.first (c.requires.first a h) c.look-second.result c.words_for.result (c.look-second.ensures.word a h) c.words_for.ensures,
+      first_room a (c.requires.spelt a h) (c.args.first / 65536 % 256) (ap (λ n. n / 65536 % 256) (c.requires.first a h))
+          c.look-second.result c.words_for.result (c.look-second.ensures.word a h) c.words_for.ensures,
     )
 
 pub text_look-requires-2-clause-has : goal.text_look-requires-2-clause-has
@@ -20,7 +21,8 @@ text_look-requires-2-clause-has g c =
     let h = c.requires.has.1 in (
       a,
       subst (λ p. g.R.CompactRows.has c.args.rows.now p c.args.row a) (sym c.look-second.ensures.same) h,
-      second_room a (c.requires.spelt a h) c.args.first (c.requires.first a h) c.look-second.result c.words_for-2.result c.bound_size.result (c.look-second.ensures.word a h)
+      second_room a (c.requires.spelt a h) (c.args.first / 65536 % 256) (ap (λ n. n / 65536 % 256) (c.requires.first a h))
+          c.look-second.result c.words_for-2.result c.bound_size.result (c.look-second.ensures.word a h)
           c.words_for-2.ensures c.bound_size.ensures,
     )
 

@@ -1,5 +1,5 @@
-use Rattle.std.proofs.Common.{◌≡◌, ◌≤◌, ◌*◌, length}
-use Rattle.deltas.specs.Memory.{Memory}
+use Rattle.listing.proofs.Words.{◌≡◌, ◌≤◌, length, Memory}
+use Rattle.std.proofs.Common.{◌*◌}
 use Rattle.listing.proofs.Walking.{HasListed, Pairs}
 use Rattle.listing.proofs.count.count_pairs.Given as goal
 

@@ -1,5 +1,4 @@
-use Rattle.std.proofs.Common.{◌≡◌, ◌≤◌, ◌+◌, drop, length}
-use Rattle.listing.specs.Listed.{pairs_of}
+use Rattle.listing.proofs.Words.{◌≡◌, ◌≤◌, ◌+◌, drop, length, pairs_of}
 use Rattle.listing.proofs.count.count_values.Given as goal
 
 abbrev pub invariant-loop-item : goal.invariant-loop-item

@@ -1,4 +1,4 @@
-use Rattle.std.proofs.Common.{arith}
+use Rattle.listing.proofs.Words.{arith}
 use Rattle.listing.proofs.Finding.{among_stands}
 use Rattle.listing.proofs.leaf_page.first_of.Goals as goal
 

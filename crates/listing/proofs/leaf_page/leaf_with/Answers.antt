@@ -1,4 +1,4 @@
-use Rattle.std.proofs.Common.{inl, inr, arith, subst, sym}
+use Rattle.listing.proofs.Words.{inl, inr, arith, subst, sym}
 use Rattle.listing.proofs.Finding.{IsOnWay, from_first, from_near, way_found, way_more, way_on, way_stands}
 use Rattle.listing.proofs.leaf_page.leaf_with.Goals as goal
 

@@ -1,5 +1,4 @@
-use Rattle.deltas.specs.Memory.{Memory}
-use Rattle.tree_law.specs.Leaves.{HasLeafPages}
+use Rattle.listing.proofs.Words.{Memory, HasLeafPages}
 use Rattle.listing.proofs.Finding.{IsOnWay}
 use Rattle.listing.proofs.leaf_page.leaf_with.Given as goal
 

@@ -1,4 +1,4 @@
-use Rattle.std.proofs.Common.{arith}
+use Rattle.listing.proofs.Words.{arith}
 use Rattle.listing.proofs.Finding.{found_among, found_stands, shows_from}
 use Rattle.listing.proofs.leaf_page.page_from.Goals as goal
 

@@ -1,7 +1,6 @@
-use Rattle.std.proofs.Common.{◌≡◌, ◌∷◌, ◌++◌, ◌+◌, ◌∙◌, [], take, true, false, option_copied, sym, subst}
+use Rattle.listing.proofs.Words.{◌≡◌, ◌∷◌, ◌++◌, ◌+◌, ◌∙◌, [], take, true, false, option_copied, sym, subst, is_in_range}
 use Rattle.std.proofs.lemmas.List.{take_all}
 use Rattle.std.proofs.lemmas.Result.{IfOk-weaker}
-use Rattle.bw_model.specs.Bytes.{is_in_range}
 use Rattle.bw_model.specs.Log.{updated_key}
 use Rattle.listing.proofs.PairLaws.{Says, pairs_of_map, Says-inside, Says-outside, take-grown}
 use Rattle.listing.proofs.log.logged_pairs.Goals.{then-is_inside+in_ok-note, else-is_inside}

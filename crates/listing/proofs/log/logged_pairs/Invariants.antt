@@ -1,6 +1,6 @@
-use Rattle.std.proofs.Common.{◌≡◌, ℕ, List, take, None, if◌then◌else◌, option_copied}
+use Rattle.listing.proofs.Words.{◌≡◌, ℕ, List, take, None, option_copied, key_cmp, is_in_range}
+use Rattle.std.proofs.Common.{if◌then◌else◌}
 use Rattle.std.specs.BTreeMap.{IsOrdered, get}
-use Rattle.bw_model.specs.Bytes.{key_cmp, is_in_range}
 use Rattle.bw_model.specs.Log.{logged_value}
 use Rattle.listing.proofs.log.logged_pairs.Given as goal
 

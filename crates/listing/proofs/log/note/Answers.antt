@@ -1,4 +1,4 @@
-use Rattle.std.proofs.Common.{◌≡◌, ◌∙◌, Some, None, option_copied, subst}
+use Rattle.listing.proofs.Words.{◌≡◌, ◌∙◌, Some, None, option_copied, subst}
 use Rattle.bw_model.specs.Log.{updated_value}
 use Rattle.listing.proofs.PairLaws.{noted}
 use Rattle.listing.proofs.log.note.Goals as goal

@@ -1,4 +1,4 @@
-use Rattle.std.proofs.Common.{◌≡◌, ◌++◌}
+use Rattle.listing.proofs.Words.{◌≡◌, ◌++◌}
 use Rattle.listing.proofs.log.pairs_of.Given as goal
 
 abbrev pub invariant-loop-key : goal.invariant-loop-key

@@ -1,8 +1,4 @@
-use Rattle.std.proofs.Common.{List, drop}
-use Rattle.deltas.specs.Memory.{Memory}
-use Rattle.deltas.specs.declared.record.Record.{Record}
-use Rattle.traces.specs.chain.Fitted.{Makes}
-use Rattle.listing.specs.Listed.{StandsAt}
+use Rattle.listing.proofs.Words.{List, drop, Memory, Record, Makes, StandsAt}
 use Rattle.listing.proofs.page.page_of.Given as goal
 
 abbrev pub invariant-loop-place : goal.invariant-loop-place

@@ -1,5 +1,4 @@
-use Rattle.std.proofs.Common.{◌+◌, ap, arith, length, sym, ◌∙◌}
-use Rattle.std.proofs.lemmas.List.{length-append}
+use Rattle.listing.proofs.Words.{◌+◌, ap, arith, length, sym, ◌∙◌, length-append}
 use Rattle.listing.proofs.Chaining.{all_read, is_left, is_there, none_read, one_read}
 use Rattle.listing.proofs.page.rows_of.Goals as goal
 

@@ -1,7 +1,4 @@
-use Rattle.std.proofs.Common.{◌≡◌, List, length}
-use Rattle.deltas.specs.Memory.{Memory}
-use Rattle.deltas.specs.declared.record.Record.{Record}
-use Rattle.listing.specs.Listed.{StandsAt}
+use Rattle.listing.proofs.Words.{◌≡◌, List, length, Memory, Record, StandsAt}
 use Rattle.listing.proofs.Chaining.{HasRead}
 use Rattle.listing.proofs.page.rows_of.Given as goal
 

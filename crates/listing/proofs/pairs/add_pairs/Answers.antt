@@ -1,5 +1,4 @@
-use Rattle.std.proofs.Common.{◌≡◌, ◌++◌, ◌∙◌, ap, arith, sym}
-use Rattle.listing.specs.Listed.{pairs_of}
+use Rattle.listing.proofs.Words.{◌≡◌, ◌++◌, ◌∙◌, ap, arith, sym, pairs_of}
 use Rattle.listing.proofs.Walking.{is_more, leaf_at, leaf_below, leaf_last, leaf_more, none_listed}
 use Rattle.listing.proofs.pairs.add_pairs.Goals as goal
 

@@ -1,6 +1,6 @@
-use Rattle.std.proofs.Common.{◌≤◌, ◌*◌, length}
+use Rattle.listing.proofs.Words.{◌≤◌, length, Memory}
+use Rattle.std.proofs.Common.{◌*◌}
 use Rattle.std.specs.Vec.{vec_capacity}
-use Rattle.deltas.specs.Memory.{Memory}
 use Rattle.listing.proofs.Walking.{HasListed}
 use Rattle.listing.proofs.pairs.add_pairs.Given as goal
 

@@ -1,6 +1,5 @@
-use Rattle.std.proofs.Common.{◌≡◌, ◌≤◌, ◌+◌, ◌++◌, drop, length}
+use Rattle.listing.proofs.Words.{◌≡◌, ◌≤◌, ◌+◌, ◌++◌, drop, length, pairs_of}
 use Rattle.std.specs.Vec.{vec_capacity}
-use Rattle.listing.specs.Listed.{pairs_of}
 use Rattle.listing.proofs.pairs.add_values.Given as goal
 
 abbrev pub invariant-loop-item : goal.invariant-loop-item

@@ -1,5 +1,4 @@
-use Rattle.std.proofs.Common.{[], refl}
-use Rattle.running_tree.specs.Calls.{calls_of}
+use Rattle.map_laws.proofs.Words.{[], refl, calls_of}
 use Rattle.map_laws.proofs.InOrder.{are_in_order, each_ended}
 use Rattle.map_laws.proofs.Told.{told_call}
 use Rattle.map_laws.proofs.call_laws.calls_are_operations.Goals as goal

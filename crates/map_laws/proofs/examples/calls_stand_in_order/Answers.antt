@@ -1,10 +1,6 @@
-use Rattle.std.proofs.Common.{◌≡◌, ◌<◌, ◌≤◌, ℕ, zero, suc, codes, Some, refl, arith}
-use Rattle.std.specs.Prelude.{slice_get}
-use Rattle.bw_model.specs.declared.command.Command.{Command}
-use Rattle.bw_model.specs.declared.command.Command.TheVariants.{Get}
+use Rattle.map_laws.proofs.Words.{◌≡◌, ◌<◌, ◌≤◌, ℕ, zero, suc, Some, refl, arith, slice_get, Command, Get, Leave, Begin}
+use Rattle.std.proofs.Common.{codes}
 use Rattle.bw_model.specs.declared.step.Answer.TheVariants.{Done}
-use Rattle.bw_model.specs.declared.step.Step.TheVariants.{Leave}
-use Rattle.traces.specs.declared.trace.Entry.TheVariants.{Begin}
 use Rattle.running_tree.specs.Examples.{two_actors}
 use Rattle.map_laws.proofs.examples.calls_stand_in_order.Goals as goal
 

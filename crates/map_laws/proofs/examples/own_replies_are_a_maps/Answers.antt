@@ -1,4 +1,4 @@
-use Rattle.std.proofs.Common.{refl}
+use Rattle.map_laws.proofs.Words.{refl}
 use Rattle.map_laws.proofs.examples.own_replies_are_a_maps.Goals as goal
 
 pub returns-clause-own : goal.returns-clause-own

@@ -1,4 +1,4 @@
-use Rattle.op_machine.proofs.runs.TurningLeft.{empty_anew}
+use Rattle.op_machine.proofs.TurningLeft.{empty_anew}
 use Rattle.op_machine.proofs.examples.empty_slot_begins_anew.Goals as goal
 
 pub returns : goal.returns

@@ -1,4 +1,4 @@
-use Rattle.op_machine.proofs.runs.TurningLeft.{insert_not_anew, insert_turns, lookup_not_anew, lookup_turns}
+use Rattle.op_machine.proofs.TurningLeft.{insert_not_anew, insert_turns, lookup_not_anew, lookup_turns}
 use Rattle.op_machine.proofs.examples.removed_leaf_turns_left.Goals as goal
 
 pub returns-clause-insert : goal.returns-clause-insert

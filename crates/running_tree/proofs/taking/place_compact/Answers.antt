@@ -7,7 +7,7 @@ use Rattle.running_tree.proofs.taking.place_compact.Goals as goal
 
 pub place_row-requires-clause-spelt : goal.place_row-requires-clause-spelt
 place_row-requires-clause-spelt c =
-    let is = c.compact_of-spelt.ensures in
+    let is = c.compact_in.ensures in
     record {
       spelling = record { spellable = is.spellable; short = is.short; are = refl };
       are = large_stored c.args.limits.now c.requires.large c.args.content.now ∙ is.are ∙ sym c.words.ensures.words;
@@ -16,7 +16,7 @@ place_row-requires-clause-spelt c =
 -- the row has room for it
 pub place_row-requires-clause-fits : goal.place_row-requires-clause-fits
 place_row-requires-clause-fits c =
-    let is = c.compact_of-spelt.ensures in
+    let is = c.compact_in.ensures in
     let spelling : HasSpelling c.args.content.now = record { spellable = is.spellable; short = is.short; are = refl } in
     subst (λ (ws : List ℕ). length ws ≤ width_of c.args.limits.now c.args.row)
     (large_stored c.args.limits.now c.requires.large c.args.content.now ∙ is.are ∙ sym c.words.ensures.words)

@@ -1,14 +1,14 @@
-use Rattle.structure_changes.proofs.Words.{◌≡◌, ◌<◌, ◌≤◌, length, true, sym, ap, ◌∙◌, arith, held_count, is_removed, level_in, IsFitted, Makes, page_of, ruled}
+use Rattle.structure_changes.proofs.Words.{◌≡◌, ◌≤◌, length, true, sym, ap, ◌∙◌, arith, held_count, is_removed, level_in, IsFitted, Makes, page_of, ruled}
 use Rattle.structure_changes.proofs.MergeFits.{planned}
 use Rattle.structure_changes.proofs.Places.{from_made, of_made, same_records}
 use Rattle.structure_changes.proofs.Removed.{few_removed}
 use Rattle.structure_changes.proofs.merge.plan_merge.Goals as goal
 
-pub returns-then-item_count-ge-MANY_ITEMS-clause-plan : goal.returns-then-item_count-ge-MANY_ITEMS-clause-plan
-returns-then-item_count-ge-MANY_ITEMS-clause-plan g c = λ can.
+pub returns-then-item_count-gt-MERGE_ITEMS-clause-plan : goal.returns-then-item_count-gt-MERGE_ITEMS-clause-plan
+returns-then-item_count-gt-MERGE_ITEMS-clause-plan g c = λ can.
     let (items, has, few) = can.roomy in
     let count = c.item_count.ensures.count items (rw c.chain-chain.ensures has) in
-    let many = c.if-item_count-ge-MANY_ITEMS.true in
+    let many = c.if-item_count-gt-MERGE_ITEMS.true in
     omega (arith, few, count, many)
 
 pub returns-then-held_count-gt0-clause-plan : goal.returns-then-held_count-gt0-clause-plan
@@ -31,7 +31,7 @@ returns-clause-plan g c =
     let gone : is_removed removed ≡ true = sym (ap is_removed (same_records c.chain-gone.ensures)) ∙ sym c.is_removed-2.ensures ∙ c.if-not-is_removed.false in
     let unheld : held_count merged.items ≡ 0 = (let count = c.held_count.ensures ∙ ap held_count (c.as_slice.ensures.items ∙ c.items.ensures) in let none =
     c.if-held_count-gt0.false in omega (arith, count, none)) in
-    let roomy : length made.items < 16 = (let a = c.item_count.ensures.count made.items (rw c.chain-chain.ensures makes.items) in let d = c.if-item_count-ge-MANY_ITEMS.false in omega (arith, a, d)) in
+    let roomy : length made.items ≤ 16 = (let a = c.item_count.ensures.count made.items (rw c.chain-chain.ensures makes.items) in let d = c.if-item_count-gt-MERGE_ITEMS.false in omega (arith, a, d)) in
     let level : level_in removed ≡ level_in left = rw (← same_records c.chain-chain.ensures, ← same_records c.chain-gone.ensures)
     (let a = c.level.ensures in let b = c.level-2.ensures in let same = c.if-level.false in omega (arith, a, b, same)) in
     planned c.args.left.now c.args.removed.now made merged fitted_removed makes (ruled left made fitted makes) makes_merged
@@ -43,7 +43,7 @@ returns-clause-plan g c =
       few = from_made removed merged (λ items. length items ≤ 4) makes_merged (few_removed removed merged fitted_removed gone makes_merged);
       unheld = from_made removed merged (λ items. held_count items ≡ 0) makes_merged unheld;
       short = rw (← same_records c.chain-chain.ensures) (let a = c.deltas.ensures in let b = c.if-deltas-ge-MANY_DELTAS.false in omega (arith, a, b));
-      roomy = from_made left made (λ items. length items < 16) makes roomy;
+      roomy = from_made left made (λ items. length items ≤ 16) makes roomy;
     })
     _
     (λ i. record {

@@ -7,46 +7,39 @@ use Rattle.base_page.specs.Places.{IsCut}
 use Rattle.base_page.proofs.CutLaws.{IsCut-here, under_here, above_low, content_at-take, content_at-drop, IsPage-lower, IsPage-upper}
 use Rattle.base_page.proofs.page.Page.cut_at.Goals as goal
 
--- the items are cut at the separator
-cut_here : (page : Page) (is : IsPage page) (place : ℕ) (slice : List Item) (item : Item) (key : List ℕ) → slice ≡ page.items → item ≡ get_or slice place item
-    → key ≡ (get_or slice place item).key → place < length page.items
-    → IsCut page.items key place × (is_under key page.high ≡ true)
-cut_here page is place slice item key slice_is here key_is lt =
+-- The place is one of an item, and the items are cut there, at the separator.
+cuts : {page now : Page} {place : ℕ} {slice : List Item} {item : Item} {key : List ℕ} → page ≡ now → (is : IsPage page)
+    → slice ≡ page.items → item ≡ get_or slice place item → key ≡ (get_or slice place item).key → place < length now.items
+    → (place < length page.items) × IsCut page.items key place × (is_under key page.high ≡ true)
+cuts {page} {now} {place} {slice} {item} {key} same is slice_is here key_is below =
+    let lt : place < length page.items = subst (λ (page : Page). place < length page.items) (sym same) below in
     let there : item ≡ get_or page.items place item = here ∙ ap (λ (xs : List Item). get_or xs place item) slice_is in
     let key_there : key ≡ item.key = key_is ∙ ap (λ (x : Item). x.key) (sym here) in
-    (IsCut-here page is place lt item there key key_there, under_here page is place lt item there key key_there)
+    (lt, IsCut-here page is place lt item there key key_there, under_here page is place lt item there key key_there)
 
 pub invariant_of-lower : goal.invariant_of-lower
 invariant_of-lower c =
-    let lt = subst (λ (page : Page). c.args.place < length page.items) (sym c.lower.view_is) c.requires.1 in
-    let cut = cut_here _ c.lower.invariant c.args.place c.as_slice.result.now c.index-as_slice-place.result c.copied-separator.result c.as_slice.ensures.items
-    c.index-as_slice-place.is c.copied-separator.ensures lt in
-    rw c.split_off.ensures.front (IsPage-lower _ c.lower.invariant c.copied-separator.result c.args.place cut.0 c.args.right
-    (above_low _ c.lower.invariant c.copied-separator.result c.args.place c.requires.0 (omega (arith, lt)) cut.0))
+    let (lt, cut, under) = cuts c.lower.view_is c.lower.invariant c.as_slice.ensures.items c.index-as_slice-place.is c.copied-separator.ensures c.requires.1 in
+    rw c.split_off.ensures.front (IsPage-lower _ c.lower.invariant c.copied-separator.result c.args.place cut c.args.right
+    (above_low _ c.lower.invariant c.copied-separator.result c.args.place c.requires.0 (omega (arith, lt)) cut))
 
 pub invariant_of-upper : goal.invariant_of-upper
 invariant_of-upper c =
-    let lt = subst (λ (page : Page). c.args.place < length page.items) (sym c.lower.view_is) c.requires.1 in
-    let cut = cut_here _ c.lower.invariant c.args.place c.as_slice.result.now c.index-as_slice-place.result c.copied-separator.result c.as_slice.ensures.items
-    c.index-as_slice-place.is c.copied-separator.ensures lt in
-    rw (c.split_off.ensures.back, c.take.ensures.value, c.copied.ensures) (IsPage-upper _ c.lower.invariant c.copied-separator.result c.args.place cut.0 cut.1)
+    let (lt, cut, under) = cuts c.lower.view_is c.lower.invariant c.as_slice.ensures.items c.index-as_slice-place.is c.copied-separator.ensures c.requires.1 in
+    rw (c.split_off.ensures.back, c.take.ensures.value, c.copied.ensures) (IsPage-upper _ c.lower.invariant c.copied-separator.result c.args.place cut under)
 
 pub returns-clause-below : goal.returns-clause-below
 returns-clause-below c q =
-    let lt = subst (λ (page : Page). c.args.place < length page.items) (sym c.lower.view_is) c.requires.1 in
-    let cut = cut_here _ c.lower.invariant c.args.place c.as_slice.result.now c.index-as_slice-place.result c.copied-separator.result c.as_slice.ensures.items
-    c.index-as_slice-place.is c.copied-separator.ensures lt in
+    let (lt, cut, under) = cuts c.lower.view_is c.lower.invariant c.as_slice.ensures.items c.index-as_slice-place.is c.copied-separator.ensures c.requires.1 in
     let there : content_at c.split_off.new.self q ≡ (if is_below q c.copied.result then content_at c.lower.inside.items q else None) = rw
-    (c.split_off.ensures.front, c.copied.ensures) (content_at-take c.lower.inside.items c.copied-separator.result c.args.place cut.0 q) in
+    (c.split_off.ensures.front, c.copied.ensures) (content_at-take c.lower.inside.items c.copied-separator.result c.args.place cut q) in
     there ∙ ap (λ (page : Page). if is_below q c.copied.result then content_at page.items q else None) c.lower.view_is
 
 pub returns-clause-above : goal.returns-clause-above
 returns-clause-above c q =
-    let lt = subst (λ (page : Page). c.args.place < length page.items) (sym c.lower.view_is) c.requires.1 in
-    let cut = cut_here _ c.lower.invariant c.args.place c.as_slice.result.now c.index-as_slice-place.result c.copied-separator.result c.as_slice.ensures.items
-    c.index-as_slice-place.is c.copied-separator.ensures lt in
+    let (lt, cut, under) = cuts c.lower.view_is c.lower.invariant c.as_slice.ensures.items c.index-as_slice-place.is c.copied-separator.ensures c.requires.1 in
     let there : content_at c.split_off.result q ≡ (if is_below q c.copied.result then None else content_at c.lower.inside.items q) = rw
-    (c.split_off.ensures.back, c.copied.ensures) (content_at-drop c.lower.inside.items c.copied-separator.result c.args.place cut.0 q) in
+    (c.split_off.ensures.back, c.copied.ensures) (content_at-drop c.lower.inside.items c.copied-separator.result c.args.place cut q) in
     there ∙ ap (λ (page : Page). if is_below q c.copied.result then None else content_at page.items q) c.lower.view_is
 
 pub returns-clause-pages : goal.returns-clause-pages

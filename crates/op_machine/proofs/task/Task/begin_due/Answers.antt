@@ -13,15 +13,15 @@ use Rattle.op_machine.proofs.Tending.{may_tend_on_way}
 use Rattle.op_machine.proofs.Unlinking.{keeps_spare}
 use Rattle.op_machine.proofs.task.Task.begin_due.Goals as goal
 
-pub begin_change-requires : goal.begin_change-requires
-begin_change-requires g c =
+pub begin_due-requires : goal.begin_due-requires
+begin_due-requires g c =
     let (k, r, h) = c.requires.faced in
     let writer = c.args.places.now.writer in
     let there = rw h.round_of.limits at (dues_there h.round k r h.ends.change writer.plan writer.after h.ends.planned h.ends.due) in
-    rw c.take_due-after.ensures.plan (record { target = there.0; spells = there.1; room = h.seeks.spare.room })
+    record { target = there.0; spells = there.1; room = h.seeks.spare.room }
 
 pub returns-clause-stands : goal.returns-clause-stands
-returns-clause-stands g c k r h = c.begin_change.ensures.stands k r (rw (c.take_due-after.ensures.plan, c.take_due-after.ensures.after) (by_change h.ends.change h.ends.planned h.ends.due))
+returns-clause-stands g c k r h = c.begin_due.ensures.begun.stands k r (by_change h.ends.change h.ends.planned h.ends.due)
   where
     begins : (plan : Plan) (after : After) → MayLinkAs c.args.self.now.actor k plan → KeepsSpare plan c.args.spares.now.pid
         → Brings k c.args.self.now.command plan (then.After after) → IsUsefulPlan k plan → IsReadPlan k plan → WasHead r (slot_of plan) (head_of plan)
@@ -65,17 +65,13 @@ returns-clause-stands g c k r h = c.begin_change.ensures.stands k r (rw (c.take_
         (record { chain = removed.chain; read = seen.read; short = d.gone.in_hand.sound.is_chain.short; are = p.1.rows }, p.1.of ∙ ap Some (sym child)) tt tt d.page.recalled)
 
 pub returns-clause-few : goal.returns-clause-few
-returns-clause-few g c = c.begin_change.ensures.few
+returns-clause-few g c = c.begin_due.ensures.begun.few
 
 pub returns-clause-asks : goal.returns-clause-asks
-returns-clause-asks g c = c.begin_change.ensures.asks
+returns-clause-asks g c = c.begin_due.ensures.begun.asks
 
 pub returns-clause-have : goal.returns-clause-have
-returns-clause-have g c = record {
-  reader = rw (c.begin_change.ensures.reader, c.take_due-after.ensures.only) c.requires.have.reader;
-  writer = rw
-      (c.begin_change.ensures.writer, c.take_due-after.ensures.only) c.requires.have.writer;
-}
+returns-clause-have g c = record { reader = rw c.begin_due.ensures.reader c.requires.have.reader; writer = rw c.begin_due.ensures.writer c.requires.have.writer }
 
 pub returns-clause-goes : goal.returns-clause-goes
-returns-clause-goes g c = rw c.take_due-after.ensures.plan at c.begin_change.ensures.begins
+returns-clause-goes g c = c.begin_due.ensures.begun.begins

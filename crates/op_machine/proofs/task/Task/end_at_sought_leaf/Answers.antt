@@ -7,20 +7,20 @@ returns-in-Some-clause-stands g c k r h =
     c.begin_round.ensures.stands c.args.spares.now k r
     (without_errand c.args.self.now c.finish_errand.new.self c.args.spares.now k (rw c.finish_errand.ensures refl) (rw c.finish_errand.ensures refl) h.at.seeks)
 
-pub tend_leaf-requires : goal.tend_leaf-requires
-tend_leaf-requires g c = record { have = c.requires.have; faced = c.requires.faced; last = none_left c.args.self.now.errands (sym c.in-None.ensures) }
+pub end_at_own_leaf-requires : goal.end_at_own_leaf-requires
+end_at_own_leaf-requires g c = record { have = c.requires.have; faced = c.requires.faced; last = none_left c.args.self.now.errands (sym c.in-None.ensures) }
 
 pub begin_round-requires : goal.begin_round-requires
 begin_round-requires g c = record { have = rw c.finish_errand.ensures c.requires.have }
 
 pub returns-in-None-clause-stands : goal.returns-in-None-clause-stands
-returns-in-None-clause-stands g c = c.tend_leaf.ensures.stands
+returns-in-None-clause-stands g c = c.end_at_own_leaf.ensures.stands
 
 pub returns-in-None-clause-few : goal.returns-in-None-clause-few
-returns-in-None-clause-few g c r = errands_same c.args.self.now.limits c.args.self.now.errands _ _ (c.tend_leaf.ensures.few r)
+returns-in-None-clause-few g c r = errands_same c.args.self.now.limits c.args.self.now.errands _ _ (c.end_at_own_leaf.ensures.few r)
 
 pub returns-in-None-clause-asks : goal.returns-in-None-clause-asks
-returns-in-None-clause-asks g c = c.tend_leaf.ensures.asks
+returns-in-None-clause-asks g c = c.end_at_own_leaf.ensures.asks
 
 pub returns-in-None-clause-same : goal.returns-in-None-clause-same
 returns-in-None-clause-same g c = record { limits = refl; actor = refl; command = refl }
@@ -29,7 +29,7 @@ pub returns-in-None-clause-errands : goal.returns-in-None-clause-errands
 returns-in-None-clause-errands g c = let last : c.args.self.now.errands ≡ [] = none_left c.args.self.now.errands (sym c.in-None.ensures) in rw last refl
 
 pub returns-in-None-clause-have : goal.returns-in-None-clause-have
-returns-in-None-clause-have g c = c.tend_leaf.ensures.have
+returns-in-None-clause-have g c = c.end_at_own_leaf.ensures.have
 
 pub returns-in-Some-clause-few : goal.returns-in-Some-clause-few
 returns-in-Some-clause-few g c r =
@@ -48,7 +48,7 @@ pub returns-in-Some-clause-have : goal.returns-in-Some-clause-have
 returns-in-Some-clause-have g c = c.begin_round.ensures.have
 
 pub returns-in-None-clause-goes : goal.returns-in-None-clause-goes
-returns-in-None-clause-goes g c = c.tend_leaf.ensures.goes
+returns-in-None-clause-goes g c = c.end_at_own_leaf.ensures.goes
 
 pub returns-in-Some-clause-goes : goal.returns-in-Some-clause-goes
 returns-in-Some-clause-goes g c =

@@ -1,3 +1,4 @@
+use Rattle.std.specs.Prelude.{not}
 use Rattle.op_machine.proofs.Words.{ap, refl, left_round_of, seen_is_read}
 use Rattle.op_machine.specs.machine.States.{Write}
 use Rattle.op_machine.proofs.Plans.{at_sought_leaf, errands_same, left_is_of}
@@ -64,7 +65,7 @@ pub returns-in-Leaf-clause-have : goal.returns-in-Leaf-clause-have
 returns-in-Leaf-clause-have g c = c.end_at_sought_leaf.ensures.have
 
 pub returns-in-Removed-clause-goes : goal.returns-in-Removed-clause-goes
-returns-in-Removed-clause-goes g c = rw (c.in-Removed.is, c.write_left.ensures.goes) (ap (λ l. Write (record (left_round_of c.args.places.now.writer) { limits = l })) c.requires.have.writer)
+returns-in-Removed-clause-goes g c = rw (c.in-Removed.is, c.write_left.ensures.goes) (ap (λ l. Write (record (left_round_of c.args.places.now.writer) { limits = l; splits = not l.is_large })) c.requires.have.writer)
 
 pub returns-in-Due-clause-goes : goal.returns-in-Due-clause-goes
 returns-in-Due-clause-goes g c = rw c.in-Due.is c.begin_due.ensures.goes

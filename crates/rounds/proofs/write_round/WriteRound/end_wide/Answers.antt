@@ -1,7 +1,6 @@
 use Rattle.std.proofs.Common.{refl, ap, ◌∙◌}
 use Rattle.round_model.specs.WriteEnds as due
 use Rattle.structure_changes.specs.declared.after.After.TheVariants.{Errand}
-use Rattle.structure_changes.specs.declared.plan.Plan.TheVariants.{Split}
 use Rattle.rounds.proofs.write_round.WriteRound.end_wide.Goals as goal
 
 pub returns-clause-treats : goal.returns-clause-treats

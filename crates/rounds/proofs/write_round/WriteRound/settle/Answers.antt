@@ -33,11 +33,25 @@ go_on-requires-clause-fine g c =
     let old = c.args.self.now in
     record {
       short = denied c.is_long.result (IsLong old.round.limits old.round.due old.page.chain) c.is_long.ensures.1 c.if-is_long.false;
-      narrow = λ can. denied c.is_wide.result (HasManyItems old.page.chain) c.is_wide.ensures.wide.1 c.if-is_wide.false can.wide;
+      narrow = λ splits. let on = rw (← c.self.view_is) at splits in let not = c.if-not-self.true in cc;
     }
 
+pub go_on-requires-2-clause-fine : goal.go_on-requires-2-clause-fine
+go_on-requires-2-clause-fine g c =
+    let old = c.args.self.now in
+    record {
+      short = denied c.is_long.result (IsLong old.round.limits old.round.due old.page.chain) c.is_long.ensures.1 c.if-is_long.false;
+      narrow = λ splits can. denied c.is_wide.result (HasManyItems old.page.chain) c.is_wide.ensures.wide.1 c.if-is_wide.false can.wide;
+    }
+
+pub returns-then-not-self-clause-treats : goal.returns-then-not-self-clause-treats
+returns-then-not-self-clause-treats g c = c.go_on.ensures.treats
+
+pub returns-then-not-self-clause-same : goal.returns-then-not-self-clause-same
+returns-then-not-self-clause-same g c = c.go_on.ensures.same
+
 pub returns-clause-treats : goal.returns-clause-treats
-returns-clause-treats g c = c.go_on.ensures.treats
+returns-clause-treats g c = c.go_on-2.ensures.treats
 
 pub returns-clause-same : goal.returns-clause-same
-returns-clause-same g c = c.go_on.ensures.same
+returns-clause-same g c = c.go_on-2.ensures.same

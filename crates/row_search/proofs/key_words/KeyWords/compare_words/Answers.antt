@@ -1,27 +1,28 @@
 use Rattle.std.proofs.Common.{◌+◌, ◌/◌, ℕ, List, length, get_or, ap, sym, ◌∙◌, take, arith}
 use Rattle.row_search.proofs.Words.{nat_cmp, key_cmp, bytes_of, row_words_of}
+use Rattle.row_search.specs.TextsOf.{length_at}
 use Rattle.row_search.proofs.WordByWord.{by_first_other, by_lengths}
 use Rattle.row_search.proofs.key_words.KeyWords.compare_words.Goals as goal
 
 pub returns-then-not-is_eq-clause-other : goal.returns-then-not-is_eq-clause-other
 returns-then-not-is_eq-clause-other g c ne count text is =
-    let v = c.loop-place.invariant in
+    let v = c.loop-at.invariant in
     let key : List ℕ = take c.self.inside.count (bytes_of c.self.inside.words) in
-    let o = c.cmp-order.ensures ∙ ap (λ (w : ℕ). nat_cmp w (get_or c.self.inside.words c.loop-place.place 0)) c.word-word.ensures.word in
+    let o = c.cmp-order.ensures ∙ ap (λ (w : ℕ). nat_cmp w (get_or c.self.inside.words c.loop-at.at 0)) c.text_word-word.ensures.word in
     let s = c.self.invariant.short.short in
     let n = c.self.invariant.counts in
-    by_first_other (row_words_of c.args.row.now) c.args.at count c.self.inside.count c.self.inside.words text key is c.self.invariant
-    c.loop-place.place c.cmp-order.result (omega (arith, c.loop-place-test.true)) v.alike o (sym c.is_eq.ensures ∙ c.if-not-is_eq.true)
+    by_first_other (row_words_of c.args.row.now) (length_at c.args.text + 1) count c.self.inside.count c.self.inside.words text key is c.self.invariant
+    c.loop-at.at c.cmp-order.result (omega (arith, c.loop-at-test.true)) v.alike o (sym c.is_eq.ensures ∙ c.if-not-is_eq.true)
     ∙ ap (key_cmp text) c.self.view_is
 
 pub returns-clause-alike : goal.returns-clause-alike
 returns-clause-alike g c e count text is =
-    let v = c.loop-place.invariant in
+    let v = c.loop-at.invariant in
     let key : List ℕ = take c.self.inside.count (bytes_of c.self.inside.words) in
     let s = c.self.invariant.short.short in
     let n = c.self.invariant.counts in
     ap (λ (k : List ℕ). nat_cmp count (length k)) (sym c.self.view_is)
-    ∙ by_lengths (row_words_of c.args.row.now) c.args.at count c.self.inside.count c.self.inside.words text key is c.self.invariant
+    ∙ by_lengths (row_words_of c.args.row.now) (length_at c.args.text + 1) count c.self.inside.count c.self.inside.words text key is c.self.invariant
     ((c.self.inside.count + 7) / 8) (omega arith) (omega arith)
-    (λ j below. v.alike j (let w = v.within in omega (arith, c.loop-place-test.false)))
+    (λ j below. v.alike j (let w = v.within in omega (arith, c.loop-at-test.false)))
     ∙ ap (key_cmp text) c.self.view_is

@@ -21,8 +21,8 @@ returns-then-level-eq0-clause-child g c d =
     let there = value_there (words_of content) content c.keeps_spelling.ensures c.args.place d within leaf in
     ap (λ (said : Content). child_in (Some said)) there.1.0 ∙ ap (λ (items : List Item). child_in (Some (get_or items c.args.place d).content)) (sym is)
 
-pub item_at-at-requires : goal.item_at-at-requires
-item_at-at-requires g c = subst (λ (items : List Item). c.args.place < length items) (standing c.args.self.now.content (sym c.is_term.ensures ∙ c.if-is_term.false)) c.requires.there
+pub length-page-requires-clause-there : goal.length-page-requires-clause-there
+length-page-requires-clause-there g c = subst (λ (items : List Item). c.args.place < length items) (standing c.args.self.now.content (sym c.is_term.ensures ∙ c.if-is_term.false)) c.requires.there
 
 above : (level result : ℕ) → result ≡ level → (result ≡ 0 → ⊥) → 0 < level
 above zero result e f = absurd (f e)
@@ -34,9 +34,8 @@ overflow_cast-page g c =
     let words = words_of content in
     let within = subst (λ (items : List Item). c.args.place < length items) (standing content (sym c.is_term.ensures ∙ c.if-is_term.false)) c.requires.there in
     let index = above (row_of content).level c.level.result c.level.ensures c.if-level-eq0.false in
-    let same : get_or words (c.item_at-at.result + field_size) 0 ≡ get_or words (items_at + item_size * c.args.place + field_size) 0 = λ i. get_or words (c.item_at-at.ensures.at i + field_size) 0 in
     let few = page_fits words content c.keeps_spelling.ensures c.args.place none within index in
-    let word = c.word-page.ensures.word in
+    let word = c.length-page.ensures.word in
     omega arith
 
 pub returns-clause-child : goal.returns-clause-child
@@ -46,6 +45,6 @@ returns-clause-child g c d =
     let is = standing content (sym c.is_term.ensures ∙ c.if-is_term.false) in
     let within = subst (λ (items : List Item). c.args.place < length items) (standing content (sym c.is_term.ensures ∙ c.if-is_term.false)) c.requires.there in
     let index = above (row_of content).level c.level.result c.level.ensures c.if-level-eq0.false in
-    (λ i. Some (c.word-page.ensures.word i)) ∙ (λ i. Some (get_or words (c.item_at-at.ensures.at i + field_size) 0))
+    (λ i. Some (c.length-page.ensures.word i))
     ∙ ap (λ (said : Content). child_in (Some said)) (child_there words content c.keeps_spelling.ensures c.args.place d within index)
     ∙ ap (λ (items : List Item). child_in (Some (get_or items c.args.place d).content)) (sym is)

@@ -11,5 +11,5 @@ returns-clause-compared g c =
     let words = words_of content in
     let none : Item = record { key = []; content = Child 0 false } in
     let text = key_text words content c.keeps_spelling.ensures 0 none c.requires.some items_at (omega arith) in
-    c.compare_item.ensures.compared (get_or (items_of content) 0 none).key text
+    c.compare_text.ensures.compared (get_or (items_of content) 0 none).key text
     ∙ ap (λ text. key_cmp text c.args.key.now) (first_is (items_of content) none c.requires.some)

@@ -8,11 +8,12 @@ pub returns-then-count-eq-NO_BOUND-clause-compared : goal.returns-then-count-eq-
 returns-then-count-eq-NO_BOUND-clause-compared g c =
     let content = c.args.self.now.content in
     let is = row_spelled (words_of content) content c.keeps_spelling.ensures in
-    ap (option_map (λ bound. key_cmp bound c.args.key.now)) (unbounded (words_of content) (row_of content).second is.is.second is.second (sym c.word-count.ensures.word ∙ c.if-count-eq-NO_BOUND.true))
+    ap (option_map (λ bound. key_cmp bound c.args.key.now)) (unbounded (words_of content) (row_of content).second is.is.second is.second
+    (sym c.length-count.ensures.word ∙ c.if-count-eq-NO_BOUND.true))
 
 pub returns-clause-compared : goal.returns-clause-compared
 returns-clause-compared g c =
     let content = c.args.self.now.content in
     let is = row_spelled (words_of content) content c.keeps_spelling.ensures in
-    second_by c.args.key.now (words_of content) (row_of content).second is.is.second is.second (λ e. c.if-count-eq-NO_BOUND.false (c.word-count.ensures.word ∙ e)) c.compare_at.result
-    (λ text is'. c.compare_at.ensures.compared text (subst (λ (n : ℕ). IsText n (take text_size (drop (suc second_at) (words_of content))) text) (sym c.word-count.ensures.word) is'))
+    second_by c.args.key.now (words_of content) (row_of content).second is.is.second is.second (λ e. c.if-count-eq-NO_BOUND.false (c.length-count.ensures.word ∙ e)) c.compare_of.result
+    (λ text is'. c.compare_of.ensures.compared text (subst (λ (n : ℕ). IsText n (take text_size (drop (suc second_at) (words_of content))) text) (sym c.length-count.ensures.word) is'))

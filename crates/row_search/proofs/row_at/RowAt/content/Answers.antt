@@ -2,7 +2,7 @@ use Rattle.std.proofs.Common.{◌≡◌, ◌<◌, ◌+◌, ◌*◌, List, ℕ, [
 use Rattle.std.specs.Prelude.{false, nat_le}
 use Rattle.row_search.proofs.Words.{Child, Item, field_size, held_mark, item_size, items_at, text_size, row_of, words_of, IsText}
 use Rattle.row_search.proofs.Found.{found_one, unwrapped}
-use Rattle.row_search.proofs.ItemReads.{child_there, marked, page_fits, value_is, value_there}
+use Rattle.row_search.proofs.ItemReads.{child_there, page_fits, value_is, value_there}
 use Rattle.row_search.proofs.row_at.RowAt.content.Goals as goal
 
 none : Item
@@ -13,9 +13,8 @@ overflow_cast-page g c =
     let content = c.args.self.now.content in
     let words = words_of content in
     let above : 0 < (row_of content).level = subst (λ n. 0 < n) c.level.ensures c.if-level-gt0.true in
-    let same : get_or words (c.item_at-at.result + field_size) 0 ≡ get_or words (items_at + item_size * c.args.place + field_size) 0 = λ i. get_or words (c.item_at-at.ensures.at i + field_size) 0 in
     let few = page_fits words content c.keeps_spelling.ensures c.args.place none c.requires.there above in
-    let word = c.word-page.ensures.word in
+    let word = c.length-page.ensures.word in
     omega arith
 
 pub returns-then-level-gt0-clause-content : goal.returns-then-level-gt0-clause-content
@@ -23,8 +22,8 @@ returns-then-level-gt0-clause-content g c d =
     let content = c.args.self.now.content in
     let words = words_of content in
     let above : 0 < (row_of content).level = subst (λ n. 0 < n) c.level.ensures c.if-level-gt0.true in
-    (λ i. Child (c.word-page.ensures.word i) (nat_le held_mark (c.word-held.ensures.word i)))
-    ∙ marked words c.item_at-at.result (items_at + item_size * c.args.place) c.item_at-at.ensures.at ∙ child_there words content c.keeps_spelling.ensures c.args.place d c.requires.there above
+    (λ i. Child (c.length-page.ensures.word i) (nat_le held_mark (c.length-held.ensures.word i)))
+    ∙ child_there words content c.keeps_spelling.ensures c.args.place d c.requires.there above
 
 -- the text behind the count, wherever the item's words are said to begin
 text_from : (words text : List ℕ) (at other count : ℕ) (texts : List ℕ) → at ≡ other → count ≡ get_or words (at + field_size) 0 → texts ≡ take text_size (drop (at + field_size + 1) words)
@@ -45,8 +44,8 @@ unwrap-requires g c =
     let words = words_of content in
     let leaf : (row_of content).level ≡ 0 = sym c.level.ensures ∙ omega (arith, c.if-level-gt0.false) in
     let there = value_there words content c.keeps_spelling.ensures c.args.place none c.requires.there leaf in
-    found_one (λ (text : List ℕ). IsText c.word-count.result c.text-words.result text) c.value_in.result there.0
-    (text_to words there.0 c.item_at-at.result (items_at + item_size * c.args.place) c.word-count.result c.text-words.result c.item_at-at.ensures.at c.word-count.ensures.word
+    found_one (λ (text : List ℕ). IsText c.length-count.result c.text-words.result text) c.value_in.result there.0
+    (text_to words there.0 (items_at + item_size * c.args.place) (items_at + item_size * c.args.place) c.length-count.result c.text-words.result refl c.length-count.ensures.word
     c.text-words.ensures.text there.1.1)
     c.value_in.ensures
 
@@ -56,9 +55,9 @@ returns-clause-content g c d =
     let words = words_of content in
     let leaf : (row_of content).level ≡ 0 = sym c.level.ensures ∙ omega (arith, c.if-level-gt0.false) in
     value_is words content c.keeps_spelling.ensures c.args.place d c.requires.there leaf c.unwrap.result
-    (text_from words c.unwrap.result c.item_at-at.result (items_at + item_size * c.args.place) c.word-count.result c.text-words.result c.item_at-at.ensures.at c.word-count.ensures.word
+    (text_from words c.unwrap.result (items_at + item_size * c.args.place) (items_at + item_size * c.args.place) c.length-count.result c.text-words.result refl c.length-count.ensures.word
     c.text-words.ensures.text
-    (unwrapped (λ (text : List ℕ). IsText c.word-count.result c.text-words.result text) c.value_in.result c.unwrap.result c.unwrap.ensures c.value_in.ensures))
+    (unwrapped (λ (text : List ℕ). IsText c.length-count.result c.text-words.result text) c.value_in.result c.unwrap.result c.unwrap.ensures c.value_in.ensures))
 
 pub text-words-requires-clause-text : goal.text-words-requires-clause-text
 text-words-requires-clause-text g c =
@@ -67,6 +66,6 @@ text-words-requires-clause-text g c =
     let leaf : (row_of content).level ≡ 0 = sym c.level.ensures ∙ omega (arith, c.if-level-gt0.false) in
     let there = value_there words content c.keeps_spelling.ensures c.args.place none c.requires.there leaf in (
       there.0,
-      text_to words there.0 c.item_at-at.result (items_at + item_size * c.args.place) c.word-count.result
-          (take text_size (drop (c.item_at-at.result + field_size + 1) words)) c.item_at-at.ensures.at c.word-count.ensures.word refl there.1.1,
+      text_to words there.0 (items_at + item_size * c.args.place) (items_at + item_size * c.args.place) c.length-count.result
+          (take text_size (drop ((items_at + item_size * c.args.place) + field_size + 1) words)) refl c.length-count.ensures.word refl there.1.1,
     )

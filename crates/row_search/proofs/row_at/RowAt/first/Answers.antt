@@ -9,20 +9,20 @@ use Rattle.row_search.proofs.row_at.RowAt.first.Goals as goal
 pub unwrap-requires : goal.unwrap-requires
 unwrap-requires g c =
     let content = c.args.self.now.content in
-    found_one (λ (text : List ℕ). IsText c.word-count.result c.text-words.result text) c.key_in.result (row_of content).first
-    (at_words (row_of content).first c.word-count.ensures.word c.text-words.ensures.text (first_text (words_of content) content c.keeps_spelling.ensures)) c.key_in.ensures
+    found_one (λ (text : List ℕ). IsText c.length-count.result c.text-words.result text) c.key_in.result (row_of content).first
+    (at_words (row_of content).first c.length-count.ensures.word c.text-words.ensures.text (first_text (words_of content) content c.keeps_spelling.ensures)) c.key_in.ensures
 
 pub returns-clause-first : goal.returns-clause-first
 returns-clause-first g c =
     let content = c.args.self.now.content in
-    text_same c.word-count.result c.text-words.result c.unwrap.result (row_of content).first
-    (unwrapped (λ (text : List ℕ). IsText c.word-count.result c.text-words.result text) c.key_in.result c.unwrap.result c.unwrap.ensures c.key_in.ensures)
-    (at_words (row_of content).first c.word-count.ensures.word c.text-words.ensures.text (first_text (words_of content) content c.keeps_spelling.ensures))
+    text_same c.length-count.result c.text-words.result c.unwrap.result (row_of content).first
+    (unwrapped (λ (text : List ℕ). IsText c.length-count.result c.text-words.result text) c.key_in.result c.unwrap.result c.unwrap.ensures c.key_in.ensures)
+    (at_words (row_of content).first c.length-count.ensures.word c.text-words.ensures.text (first_text (words_of content) content c.keeps_spelling.ensures))
 
 pub text-words-requires-clause-text : goal.text-words-requires-clause-text
 text-words-requires-clause-text g c =
     let content = c.args.self.now.content in (
       (row_of content).first,
-      subst (λ (n : ℕ). IsText n (take text_size (drop (suc first_at) (words_of content))) (row_of content).first) (sym c.word-count.ensures.word)
+      subst (λ (n : ℕ). IsText n (take text_size (drop (suc first_at) (words_of content))) (row_of content).first) (sym c.length-count.ensures.word)
           (first_text (words_of content) content c.keeps_spelling.ensures),
     )

@@ -8,12 +8,12 @@ pub at-requires-clause-text : goal.at-requires-clause-text
 at-requires-clause-text g c =
     let content = c.args.self.now.content in
     let words = words_of content in
-    subst (λ (n : ℕ). IsText n (take text_size (drop (suc first_at) words)) (text_in n (drop (suc first_at) words))) (sym c.word-count.ensures.word)
+    subst (λ (n : ℕ). IsText n (take text_size (drop (suc first_at) words)) (text_in n (drop (suc first_at) words))) (sym c.length-count.ensures.word)
     (text_stands (get_or words first_at 0) (take text_size (drop (suc first_at) words)) (row_of content).first (first_text words content c.keeps_spelling.ensures))
 
 pub returns-clause-key : goal.returns-clause-key
 returns-clause-key g c =
     let content = c.args.self.now.content in
     let words = words_of content in
-    c.at.ensures.key ∙ ap (λ (n : ℕ). text_in n (drop (suc first_at) words)) c.word-count.ensures.word
+    c.at.ensures.key ∙ ap (λ (n : ℕ). text_in n (drop (suc first_at) words)) c.length-count.ensures.word
     ∙ text_is (get_or words first_at 0) (take text_size (drop (suc first_at) words)) (row_of content).first (first_text words content c.keeps_spelling.ensures)

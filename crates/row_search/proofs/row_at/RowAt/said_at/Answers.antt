@@ -1,5 +1,5 @@
-use Rattle.std.proofs.Common.{◌≡◌, ◌<◌, ◌+◌, ◌%◌, false, List, length, get_or, take, drop, sym, subst, ◌∙◌}
-use Rattle.row_search.proofs.Words.{Item, held_mark, text_size, words_of, IsText, is_term}
+use Rattle.std.proofs.Common.{◌≡◌, ◌<◌, ◌+◌, ◌*◌, ◌%◌, ℕ, false, List, length, refl, get_or, take, drop, sym, subst, ◌∙◌}
+use Rattle.row_search.proofs.Words.{Item, held_mark, item_size, items_at, text_size, words_of, IsText, is_term}
 use Rattle.row_search.proofs.ItemReads.{key_text}
 use Rattle.row_search.proofs.SaidItems.{one_text, standing}
 use Rattle.row_search.proofs.row_at.RowAt.said_at.Goals as goal
@@ -7,20 +7,20 @@ use Rattle.row_search.proofs.row_at.RowAt.said_at.Goals as goal
 pub returns-then-is_term-clause-text : goal.returns-then-is_term-clause-text
 returns-then-is_term-clause-text g c d =
     let content = c.args.self.now.content in
-    one_text content (sym c.is_term.ensures ∙ c.if-is_term.true) (words_of content) c.keeps_spelling.ensures c.args.place d c.requires.there
+    one_text content (sym c.is_term.ensures ∙ c.if-is_term.true) (words_of content) c.keeps_spelling.ensures c.args.item d c.requires.there
 
-pub item_at-requires : goal.item_at-requires
-item_at-requires g c =
+pub returns-clause-there : goal.returns-clause-there
+returns-clause-there g c =
     let content = c.args.self.now.content in
     let no : is_term content ≡ false = sym c.is_term.ensures ∙ c.if-is_term.false in
-    subst (λ (items : List Item). c.args.place < length items) (standing content no) c.requires.there
+    subst (λ (items : List Item). c.args.item < length items) (standing content no) c.requires.there
 
 pub returns-clause-text : goal.returns-clause-text
 returns-clause-text g c d =
     let content = c.args.self.now.content in
     let words = words_of content in
-    let at = c.item_at.result in
+    let at : ℕ = items_at + item_size * c.args.item in
     let no : is_term content ≡ false = sym c.is_term.ensures ∙ c.if-is_term.false in
-    let within = subst (λ (items : List Item). c.args.place < length items) (standing content no) c.requires.there in
-    subst (λ (items : List Item). IsText (get_or words at 0 % held_mark) (take text_size (drop (at + 1) words)) (get_or items c.args.place d).key) (sym (standing content no))
-    (key_text words content c.keeps_spelling.ensures c.args.place d within at c.item_at.ensures.at)
+    let within = subst (λ (items : List Item). c.args.item < length items) (standing content no) c.requires.there in
+    subst (λ (items : List Item). IsText (get_or words at 0 % held_mark) (take text_size (drop (at + 1) words)) (get_or items c.args.item d).key) (sym (standing content no))
+    (key_text words content c.keeps_spelling.ensures c.args.item d within at refl)

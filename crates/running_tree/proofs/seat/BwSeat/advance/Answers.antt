@@ -91,13 +91,13 @@ pub take-taken-requires-clause-may : goal.take-taken-requires-clause-may
 take-taken-requires-clause-may g c other = may_go c.laws_of_runs.ensures _ _ _ _ c.self.invariant.seated (busy_of _ _ c.self.view_is c.requires.busy)
     (step_of_loan c.wanted.result) c.wanted.ensures other
 
-pub of-record-requires-clause-spelt : goal.of-record-requires-clause-spelt
-of-record-requires-clause-spelt g c =
+pub begun-record-requires-clause-spelt : goal.begun-record-requires-clause-spelt
+begun-record-requires-clause-spelt g c =
     let told = first_taken c.in-First.is c.take-taken.ensures.took in
     spelt_there c.laws_of_runs.ensures _ _ _ _ c.take-taken.new.place.me _ told.1
 
-pub of-record-requires-clause-first : goal.of-record-requires-clause-first
-of-record-requires-clause-first g c =
+pub begun-record-requires-clause-first : goal.begun-record-requires-clause-first
+begun-record-requires-clause-first g c =
     let told = first_taken c.in-First.is c.take-taken.ensures.took in
     first_there c.laws_of_runs.ensures _ _ _ _ c.take-taken.new.place.me _ told.1
 
@@ -105,12 +105,12 @@ pub take_record-requires-clause-asked : goal.take_record-requires-clause-asked
 take_record-requires-clause-asked g c =
     let told = first_taken c.in-First.is c.take-taken.ensures.took in
     c.wanted.ensures ∙ ap Some told.0 ∙ ap (λ (placed : PlacedRecord). Some (Row placed.row))
-    (sym {b = record { row = c.in-First.row; content = read_by c.take-taken.new.place.me c.self.inside.desk.number c.in-First.row }} c.of-record.ensures)
+    (sym {b = record { row = c.in-First.row; content = read_by c.take-taken.new.place.me c.self.inside.desk.number c.in-First.row }} c.begun-record.ensures)
 
 pub take_record-requires-clause-told : goal.take_record-requires-clause-told
 take_record-requires-clause-told g c =
     let told = first_taken c.in-First.is c.take-taken.ensures.took in
-    let took = took_of told.0 (ap (λ (placed : PlacedRecord). placed.content) c.of-record.ensures) (took_there c.laws_of_runs.ensures _ _ _ _ c.take-taken.new.place.me _ told.1) in
+    let took = took_of told.0 (ap (λ (placed : PlacedRecord). placed.content) c.begun-record.ensures) (took_there c.laws_of_runs.ensures _ _ _ _ c.take-taken.new.place.me _ told.1) in
     told_there c.laws_of_runs.ensures _ _ _ _ c.self.invariant.seated (busy_of _ _ c.self.view_is c.requires.busy) (step_of_loan c.wanted.result) c.wanted.ensures _ _
     took _
     (all_there c.laws_of_runs.ensures _ _ _ _ _ _ _ c.take-taken.new.place.me c.self.view_is c.requires.own c.take-taken.ensures.same took.kept c.take-taken.ensures.seat)
@@ -118,7 +118,7 @@ take_record-requires-clause-told g c =
 pub invariant_of-self-in-First : goal.invariant_of-self-in-First
 invariant_of-self-in-First g c =
     let told = first_taken c.in-First.is c.take-taken.ensures.took in
-    let took = took_of told.0 (ap (λ (placed : PlacedRecord). placed.content) c.of-record.ensures) (took_there c.laws_of_runs.ensures _ _ _ _ c.take-taken.new.place.me _ told.1) in
+    let took = took_of told.0 (ap (λ (placed : PlacedRecord). placed.content) c.begun-record.ensures) (took_there c.laws_of_runs.ensures _ _ _ _ c.take-taken.new.place.me _ told.1) in
     subst (λ (desk : Desk). IsSeat c.self.inside.limits desk.number desk.place.me c.take_record.new.self) (sym c.take_record.ensures.same)
     record {
       there = c.self.invariant.there;
@@ -154,7 +154,7 @@ returns-in-First-clause-same g c =
 pub returns-in-First-clause-advances : goal.returns-in-First-clause-advances
 returns-in-First-clause-advances g c =
     let told = first_taken c.in-First.is c.take-taken.ensures.took in
-    let took = took_of told.0 (ap (λ (placed : PlacedRecord). placed.content) c.of-record.ensures) (took_there c.laws_of_runs.ensures _ _ _ _ c.take-taken.new.place.me _ told.1) in
+    let took = took_of told.0 (ap (λ (placed : PlacedRecord). placed.content) c.begun-record.ensures) (took_there c.laws_of_runs.ensures _ _ _ _ c.take-taken.new.place.me _ told.1) in
     subst (λ (desk : Desk). Advances c.args.self.now None (seat_of desk.place.table_id c.self.inside.limits desk.number (seen_of desk.place.me))) (sym c.take_record.ensures.same)
     (advances_of _ _ _ _ c.self.view_is
     (advances_on c.laws_of_runs.ensures _ _ _ _ c.self.invariant.seated (busy_of _ _ c.self.view_is c.requires.busy) (step_of_loan c.wanted.result) c.wanted.ensures _ _

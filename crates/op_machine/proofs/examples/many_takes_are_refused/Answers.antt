@@ -1,5 +1,0 @@
-use Rattle.op_machine.proofs.runs.Foreign.{not_so_many}
-use Rattle.op_machine.proofs.examples.many_takes_are_refused.Goals as goal
-
-pub returns : goal.returns
-returns c = not_so_many

@@ -1,5 +1,0 @@
-use Rattle.op_machine.proofs.LogLaws.{log_of-push}
-use Rattle.op_machine.proofs.log_laws.log_grows.Goals as goal
-
-pub returns : goal.returns
-returns c = log_of-push

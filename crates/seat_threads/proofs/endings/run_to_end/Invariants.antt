@@ -1,5 +1,0 @@
-use Rattle.seat_threads.proofs.Going.{IsUnderWay}
-use Rattle.seat_threads.proofs.endings.run_to_end.Given as goal
-
-abbrev pub invariant-loop : goal.invariant-loop
-invariant-loop g l = IsUnderWay l.fn.seat l.fn.command l.seat
