@@ -3,6 +3,8 @@ use Rattle.std.proofs.Common.{◌≡◌, ◌<◌, ◌≤◌, ◌+◌, ◌*◌, s
 use Rattle.std.proofs.Math.Nat.{mul-le-mul_left, mul-suc}
 use Rattle.std.proofs.lemmas.List.{length-append, length-take}
 use Rattle.std.specs.Option.{ForSome}
+use Rattle.std.specs.Prelude.{◌==◌}
+use Rattle.traces.specs.chain.Chains.{level_in}
 use Rattle.op_machine.proofs.Words.{nat_lt, slice_get, if◌then◌else◌, Limits, next_row, IsSpellablePage, Record, IsFitted, Knowledge, Recalled, IsAlive, Spares, PlacedWrite, Version}
 use Rattle.op_machine.proofs.Words.{few_changes, one_round, with_errands, FacesWritten, IsAtLeafBelow, left_round_of, IsRoundOf, Seeks, Task}
 use Rattle.base_page.specs.Pages.{Page}
@@ -24,12 +26,13 @@ pub over_page : (limits : Limits) (k : Knowledge) (r : Recalled) (page : Version
 over_page limits k r page content alive e = place_of limits k r page content alive (λ next is. let same : next ≡ page.head = cc in rw same alive.in_hand.row)
 
 -- a page is consolidated at one delta or more
-some_many : (limits : Limits) → 0 < many_of limits
-some_many limits = by_test limits.is_large
+some_many : (limits : Limits) (level : ℕ) → 0 < many_of limits level
+some_many limits level = by_test limits.is_large (level == 0)
   where
-    by_test : (large : Bool) → 0 < (if large then 2 else 8)
-    by_test true = omega arith
-    by_test false = omega arith
+    by_test : (large leaf : Bool) → 0 < (if large then (if leaf then 2 else 1) else 8)
+    by_test true true = omega arith
+    by_test true false = omega arith
+    by_test false leaf = omega arith
 
 -- a base that fits by itself can be spelled
 pub spells_base : (page : Page) → IsFitted (kind.Base page ∷ []) → IsSpellablePage page
@@ -38,7 +41,7 @@ spells_base page h = let is = h.1 in let same : page ≡ h.0 = cc in rw same h.2
 -- a page that is consolidated has deltas
 pub long_chain : (round : WriteRound) (k : Knowledge) (r : Recalled) (page : Version) (base : Page) → 0 < round.due → IsLongEnd round k r page base → 1 < length page.chain
 long_chain round k r page base some ends = elim ends.long [
-  | inl many ↦ let more = some_many round.limits in omega (arith, many, more)
+  | inl many ↦ let more = some_many round.limits (level_in page.chain) in omega (arith, many, more)
   | inr leaf ↦ let longer = leaf.1 in omega (arith, longer, some)
 ]
 

@@ -140,7 +140,7 @@ impl Task {
     {
         match (&self.command, self.errands.newest()) {
             (Command::Tidy(_), None) => 1,
-            _ => many_deltas(&self.limits),
+            _ => many_deltas(&self.limits, 0),
         }
     }
 

@@ -86,7 +86,10 @@ module _ (old : WriteRound) (k now : Knowledge) (r : Recalled) (version : Versio
   keeps_on alive pid level low names (Unterm parent left) seeks passing by = absurd seeks
 
   few_deltas : ¬ IsLong old.limits old.due version.chain → length version.chain ≤ 8
-  few_deltas short = let few = few_many old.limits in let most = lt_of_not-le (λ (many : suc (many_of old.limits) ≤ length version.chain). short (inl many)) in omega (arith, few, most)
+  few_deltas short =
+      let few = few_many old.limits (level_in version.chain) in
+      let most = lt_of_not-le (λ (many : suc (many_of old.limits (level_in version.chain)) ≤ length version.chain). short (inl many)) in
+      omega (arith, few, most)
 
   few_items : is_removed version.chain ≡ false → length version.chain ≤ 8 → ¬ CanSplit version → HasFewItems version.chain
   few_items alive short narrow =

@@ -207,7 +207,7 @@ Shows round k r = ShowsState round k r round.state
 
 -- The page has many deltas, or a leaf those that are due.
 abbrev pub IsLong : Limits → ℕ → List Record → Type 0
-IsLong limits due chain = (many_of limits < length chain) ⊎ ((level_in chain ≡ 0) × (due < length chain))
+IsLong limits due chain = (many_of limits (level_in chain) < length chain) ⊎ ((level_in chain ≡ 0) × (due < length chain))
 
 -- The page is to be consolidated.
 pub record IsLongEnd (round : WriteRound) (k : Knowledge) (r : Recalled) (version : Version) (base : PageOf) : Type 0 where

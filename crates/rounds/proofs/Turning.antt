@@ -4,7 +4,7 @@ use Rattle.std.proofs.Math.Nat.{lt_of_not-le}
 use Rattle.tree_limits.specs.declared.limits.Limits.{Limits}
 use Rattle.base_page.specs.declared.item.Item.{Item}
 use Rattle.deltas.specs.declared.record.Record.{Record}
-use Rattle.traces.specs.chain.Chains.{IsItemsOf}
+use Rattle.traces.specs.chain.Chains.{IsItemsOf, level_in}
 use Rattle.traces.specs.chain.Fitted.{IsFitted}
 use Rattle.structure_changes.specs.Sizes.{HasFewDeltas, HasManyItems, HasMergeRoom, many_of}
 use Rattle.structure_changes.proofs.Few.{few_many}
@@ -18,7 +18,8 @@ denied b P tells off h = let on = tells h in cc
 
 -- a page that isn't long has few deltas
 pub few_deltas : (limits : Limits) (due : ℕ) (chain : List Record) → ¬ IsLong limits due chain → HasFewDeltas chain
-few_deltas limits due chain short = let few = few_many limits in let most = lt_of_not-le (λ (many : suc (many_of limits) ≤ length chain). short (inl many)) in omega (arith, few, most)
+few_deltas limits due chain short =
+    let few = few_many limits (level_in chain) in let most = lt_of_not-le (λ (many : suc (many_of limits (level_in chain)) ≤ length chain). short (inl many)) in omega (arith, few, most)
 
 -- how many items a chain has says whether they are many
 module _ (chain : List Record) (count : ℕ) (counted : (items : List Item) → IsItemsOf chain items → count ≡ length items) where

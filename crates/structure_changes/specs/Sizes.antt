@@ -1,14 +1,15 @@
 -- How many deltas and items a page's chain has.
-use Rattle.std.specs.Prelude.{◌≡◌, ◌≤◌, ◌<◌, ℕ, if◌then◌else◌, List, length}
+use Rattle.std.specs.Prelude.{◌≡◌, ◌==◌, ◌≤◌, ◌<◌, ℕ, if◌then◌else◌, List, length}
 use Rattle.tree_limits.specs.declared.limits.Limits.{Limits}
 use Rattle.base_page.specs.declared.item.Item.{Item}
 use Rattle.base_page.specs.Rules.{held_count}
 use Rattle.deltas.specs.declared.record.Record.{Record}
 use Rattle.traces.specs.chain.Chains.{IsItemsOf}
 
--- At how many deltas a page is consolidated: in a large tree at few, so that its chains keep few rows.
-abbrev pub many_of : Limits → ℕ
-many_of limits = if limits.is_large then 2 else 8
+-- At how many deltas a page of a level is consolidated: in a large tree at few, so that its chains keep few rows, and an index page, which many lookups
+-- pass, at one.
+abbrev pub many_of : Limits → ℕ → ℕ
+many_of limits level = if limits.is_large then (if level == 0 then 2 else 1) else 8
 
 -- fewer than 8 deltas over the base
 abbrev pub HasFewDeltas : List Record → Type 0

@@ -7,8 +7,11 @@ use bw_model::Limits;
 /// A page with this many deltas or more is consolidated before it gets another one.
 pub const MANY_DELTAS: usize = 8;
 
-/// A page of a large tree with this many deltas or more is consolidated before it gets another one.
+/// A leaf of a large tree with this many deltas or more is consolidated before it gets another one.
 const FEW_DELTAS: usize = 2;
+
+/// So is an index page of a large tree, which many lookups pass, with this many.
+const INDEX_DELTAS: usize = 1;
 
 /// A page with this many items or more is split before it gets another one.
 pub const MANY_ITEMS: usize = 16;
@@ -22,15 +25,17 @@ pub const MERGE_ITEMS: usize = 16;
 /// The highest level of a page.
 pub const TOP_LEVEL: u8 = 15;
 
-/// At how many deltas a page is consolidated.
-pub fn many_deltas(limits: &Limits) -> usize
-    ensures many { result ≡ many_of limits.now }
+/// At how many deltas a page of a level is consolidated.
+pub fn many_deltas(limits: &Limits, level: u8) -> usize
+    ensures many { result ≡ many_of limits.now level }
     ensures some { 0 < result }
     ensures few { result ≤ 8 }
 {
-    if limits.is_large {
+    if !limits.is_large {
+        MANY_DELTAS
+    } else if level == 0 {
         FEW_DELTAS
     } else {
-        MANY_DELTAS
+        INDEX_DELTAS
     }
 }

@@ -61,7 +61,8 @@ in_whole_lines words = (words + 7) / 8 * 8
 abbrev pub narrow_words_for : ℕ → ℕ → ℕ
 narrow_words_for key value = in_whole_lines (4 + tail_words_for key + text_words_for value)
 
--- A row for bases has room for 19 such pairs, with two bounds of such keys: a page with 16 isn't merged with another one, which has 4 at most.
+-- A row for bases has room for 19 such pairs, with two bounds of such keys. A base has no more, but for one of 20 that the merge of a page of 16 with
+-- one of 4 makes, which may take a wide row.
 abbrev pub page_words_for : ℕ → ℕ → ℕ
 page_words_for key value = in_whole_lines (2 + 2 * text_words_for key + 19 * (2 + tail_words_for key + text_words_for value))
 

@@ -38,8 +38,8 @@ const LARGE_SEAT_CHAINS: u64 = 80;
 /// For so many pages of a large tree there is a wide row.
 const PAGES_TO_A_WIDE_ROW: u64 = 64;
 
-/// How many items a row for a page has room for: as many as a base gets at most. Only a page with fewer than 16 is merged, and with one that has
-/// 4 at most.
+/// How many items a row for a page has room for. A base has no more, but for one of 20 that the merge of a page of 16 with one of 4 makes: where
+/// its pairs are as long as the limits are proposed for, it may take a wide row.
 const PAGE_ITEMS: u64 = 19;
 
 /// How many bytes a key has at most, and a value.

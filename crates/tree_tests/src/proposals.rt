@@ -180,7 +180,7 @@ fn most_keys_have_limits(rt: HostRuntime) {
 
 /// Whether the rows are enough for the longest chain of each PID, and for the spare rows of each seat.
 fn suffices(limits: Limits) -> bool {
-    let chain = many_deltas(&limits) as u64 + 1;
+    let chain = many_deltas(&limits, 0) as u64 + 1;
     let spare = limits.actors.saturating_mul(MAX_SPARES as u64);
     limits.rows >= chain.saturating_mul(limits.pids).saturating_add(spare)
 }

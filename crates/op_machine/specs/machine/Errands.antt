@@ -18,16 +18,16 @@ way_key errands command = unwrap_or (slice_get errands (length errands - 1)) (co
 -- At how many deltas a round consolidates the leaf that it looks for: at the leaf of its own key a tidying does at one.
 abbrev pub due_of : Limits → List (List ℕ) → Command → ℕ
 due_of limits [] (Tidy key) = 1
-due_of limits [] (Get key) = many_of limits
-due_of limits [] (Insert key value) = many_of limits
-due_of limits [] (Upsert key value) = many_of limits
-due_of limits [] (Delete key) = many_of limits
-due_of limits [] (DeleteIf key expected) = many_of limits
-due_of limits [] (Swap key expected value) = many_of limits
-due_of limits [] (Add key number) = many_of limits
-due_of limits [] (Page key) = many_of limits
-due_of limits [] (Back key) = many_of limits
-due_of limits (key ∷ errands) command = many_of limits
+due_of limits [] (Get key) = many_of limits 0
+due_of limits [] (Insert key value) = many_of limits 0
+due_of limits [] (Upsert key value) = many_of limits 0
+due_of limits [] (Delete key) = many_of limits 0
+due_of limits [] (DeleteIf key expected) = many_of limits 0
+due_of limits [] (Swap key expected value) = many_of limits 0
+due_of limits [] (Add key number) = many_of limits 0
+due_of limits [] (Page key) = many_of limits 0
+due_of limits [] (Back key) = many_of limits 0
+due_of limits (key ∷ errands) command = many_of limits 0
 
 -- Whether a round holds and removes small index pages on its way: that of a deletion or a tidying for its own key does.
 abbrev pub tends_of : List (List ℕ) → Command → Bool

@@ -39,7 +39,8 @@ one_less few rest owes some less one = omega (arith, some, less, one)
 
 -- a page at which nothing is due has few deltas
 pub short_of : (limits : Limits) (due : ℕ) (splits : Bool) (version : Version) → IsFine limits due splits version → HasFewDeltas version.chain
-short_of limits due splits version fine = let many = few_many limits in by_cases (length version.chain) (many_of limits) many (λ long. fine.short (inl long))
+short_of limits due splits version fine =
+    let many = few_many limits (level_in version.chain) in by_cases (length version.chain) (many_of limits (level_in version.chain)) many (λ long. fine.short (inl long))
   where
     by_cases : (n m : ℕ) → m ≤ 8 → (m < n → ⊥) → n ≤ 8
     by_cases n m few none = elim (cases_lt m n) [ inl lt ↦ absurd (none lt) | inr le ↦ omega (arith, le, few) ]

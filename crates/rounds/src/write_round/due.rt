@@ -57,7 +57,8 @@ impl<R: Rows, A: Allocator> WriteRound<R, A> {
         let chain = self.page().chain();
         chain.was_read(rows, pass);
         let deltas = chain.deltas();
-        deltas >= many_deltas(self.descent.limits()) || chain.level() == 0 && deltas >= self.due
+        deltas >= many_deltas(self.descent.limits(), chain.level())
+            || chain.level() == 0 && deltas >= self.due
     }
 
     /// Whether the page has many items. Most pages are told by how many items their records have; where those may be many, they are counted.
