@@ -2,7 +2,7 @@
 use Rattle.op_machine.proofs.Words.{refl, one_round, Spares, Plan}
 use Rattle.change_machine.specs.Begun.{HasBegun}
 use Rattle.change_machine.specs.Changes.{Change as ChangeOf}
-use Rattle.op_machine.specs.declared.then.Then.{Then}
+use Rattle.op_parts.specs.declared.then.Then.{Then}
 use Rattle.op_machine.specs.machine.Begun.{HasBegunPlan}
 use Rattle.op_machine.specs.machine.States as at
 use Rattle.op_machine.specs.machine.Tasks.{Task}

@@ -12,11 +12,11 @@ use Rattle.structure_changes.specs.declared.plan.Plan.TheVariants.{Install, Spli
 use Rattle.op_machine.proofs.Replying.{not_full}
 use Rattle.op_machine.proofs.Worth.{enough}
 use Rattle.op_machine.specs.machine.Brings.{Brings, IsReadPlan, IsUpdateOf, IsUsefulOver, IsUsefulPlan}
-use Rattle.op_machine.specs.machine.Hands.{AreRowsOf, IsTakenBy}
+use Rattle.op_parts.specs.Hands.{AreRowsOf, IsTakenBy}
 use Rattle.op_machine.specs.machine.Outcomes as outcome
 use Rattle.op_machine.specs.machine.Outcomes.{FacesChanged}
 use Rattle.op_machine.specs.machine.Tasks.{IsBetweenChanges, IsUnreadPid, Seeks, Task}
-use Rattle.op_machine.specs.declared.then.Then.TheVariants.{After, Reply}
+use Rattle.op_parts.specs.declared.then.Then.TheVariants.{After, Reply}
 use Rattle.structure_changes.specs.declared.after.After.TheVariants.{Round, Limbo, Errand}
 
 -- a PID that is taken is of no page that was read

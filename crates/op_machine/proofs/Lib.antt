@@ -22,7 +22,6 @@ pub mod Reading
 pub mod Replying
 pub mod Rounds
 pub mod RowsRead
-pub mod Showing
 pub mod Stepping
 pub mod SweepMoves
 pub mod Takes

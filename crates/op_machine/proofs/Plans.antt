@@ -13,7 +13,7 @@ use Rattle.round_model.specs.WriteEnds as end
 use Rattle.round_model.specs.WriteRounds.{IsLongEnd, WriteRound}
 use Rattle.change_machine.specs.Changes as change
 use Rattle.structure_changes.specs.Sizes.{many_of}
-use Rattle.op_machine.specs.machine.Errands.{with_errand}
+use Rattle.op_parts.specs.Errands.{with_errand}
 
 -- a page in hand is a place for a record
 pub place_of : (limits : Limits) (k : Knowledge) (r : Recalled) (page : Version) (content : Record) → IsAlive limits k r page

@@ -1,16 +1,13 @@
 -- What a change has taken out of the tree once it has ended.
-use Rattle.op_machine.proofs.Words.{◌≡◌, ◌<◌, ◌≤◌, ℕ, List, length, Option, Some, None, refl, MatchOption, Command, Limits, Record, replaced_at, IsChainFrom, chain_rows, linked_by, End, Won}
-use Rattle.op_machine.proofs.Words.{Lost, Full, Plan, Brings, Then, Unlinked, AreKept}
+use Rattle.op_machine.proofs.Words.{◌≡◌, ℕ, Some, None, refl, Command, Limits, Record, linked_by, End, Won}
+use Rattle.op_machine.proofs.Words.{Lost, Full, Plan, Brings, Then, Unlinked}
 use Rattle.deltas.specs.declared.record.Record.TheVariants as kind
-use Rattle.traces.specs.discipline.Fitting.{AreOutOfLimbo}
-use Rattle.traces.specs.discipline.Knowledge.{Absent, Unstamped, Knowledge, Limbos, taken_out}
-use Rattle.epochs.specs.Limbo.{Limbo as LimboSeen}
+use Rattle.traces.specs.discipline.Knowledge.{Knowledge, Limbos}
 use Rattle.change_machine.specs.Outs.{TakesFresh, limbo_after, limbo_over}
 use Rattle.structure_changes.specs.declared.plan.Plan.TheVariants.{Install, Split, Root, Unlink}
-use Rattle.op_machine.specs.machine.Hands.{IsPageOut, IsTakenBy, GoesToLimbo, TakesNothing, Unlinks}
-use Rattle.op_machine.specs.declared.then.Then.TheVariants.{After, Reply}
+use Rattle.op_parts.specs.Hands.{IsTakenBy, GoesToLimbo, TakesNothing, Unlinks}
+use Rattle.op_parts.specs.declared.then.Then.TheVariants.{After, Reply}
 use Rattle.structure_changes.specs.declared.after.After.TheVariants.{Round, Limbo, Errand}
-use Rattle.sweep.specs.Taken.{IsTakenOut}
 
 -- a plan that takes nothing out leaves the limbo as it is
 takes_nothing : (plan : Plan) (k : Knowledge) → TakesNothing plan → limbo_after plan (Some Won) k ≡ k.limbo
@@ -72,27 +69,3 @@ module _ (limits : Limits) (k : Knowledge) (command : Command) (plan : Plan) whe
   unlinks Won then after brings is fresh = rw is (won then brings fresh)
   unlinks Lost then after brings is fresh = is
   unlinks (Full kind) then after brings is fresh = is
-
--- what has gone out where a change has won
-pub gone : (limits : Limits) (k : Knowledge) (end : End) (then : Then) (unlinked : Unlinked) (after : Limbos) → end ≡ Won → then ≡ After (Limbo unlinked)
-    → Unlinks limits k end then after → GoesToLimbo limits k unlinked after
-gone limits k end then unlinked after won is h = rw (won, is) at h
-
--- What a change has taken out of the tree may come into limbo, by the laws of chains that go there.
-module _ (limits : Limits) (actor : ℕ) (limbo : LimboSeen) (k : Knowledge) (kept : AreKept limits actor limbo k.limbo)
-    (rows : (limits : Limits) (actor head : ℕ) (limbo : LimboSeen) (k : Knowledge) (chain : List Record) → AreKept limits actor limbo k.limbo → AreOutOfLimbo
-    limits k head → IsChainFrom k.read.seen head chain → length chain ≤ 13
-    → IsTakenOut limits actor limbo (chain_rows head chain) None (record k.limbo { rows = taken_out k.read.seen head k.limbo.rows }))
-    (page : (limits : Limits) (actor head page : ℕ) (limbo : LimboSeen) (k : Knowledge) (chain : List Record) → AreKept limits actor limbo k.limbo →
-    AreOutOfLimbo limits k head → IsChainFrom k.read.seen head chain → length chain ≤ 13
-    → 0 < page → page < limits.pids → k.limbo.pids page ≡ Absent
-    → IsTakenOut limits actor limbo (chain_rows head chain) (Some page) (record k.limbo { rows = taken_out k.read.seen head k.limbo.rows; pids = replaced_at page Unstamped k.limbo.pids })) where
-  pub taken : (unlinked : Unlinked) (after : Limbos) → GoesToLimbo limits k unlinked after → IsTakenOut limits actor limbo unlinked.rows.items unlinked.pid after
-  taken unlinked after out = by unlinked.pid out.page
-    where
-      by : (pid : Option ℕ)
-          → MatchOption pid (after ≡ record k.limbo { rows = taken_out k.read.seen out.head k.limbo.rows })
-          (IsPageOut limits k.limbo (record k.limbo { rows = taken_out k.read.seen out.head k.limbo.rows }) after)
-          → IsTakenOut limits actor limbo unlinked.rows.items pid after
-      by None is = rw (out.rows_of.are, is) (rows limits actor out.head limbo k out.rows_of.chain kept out.absent out.rows_of.read out.rows_of.short)
-      by (Some pid) is = rw (out.rows_of.are, is.is) (page limits actor out.head pid limbo k out.rows_of.chain kept out.absent out.rows_of.read out.rows_of.short is.some is.below is.absent)

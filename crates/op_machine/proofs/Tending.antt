@@ -13,7 +13,7 @@ use Rattle.structure_changes.specs.Upkeep.{IsUpkeep}
 use Rattle.op_machine.specs.machine.Errands.{tends_of}
 use Rattle.op_machine.specs.machine.RoundSteps.{IsOverLeaf}
 use Rattle.op_machine.specs.machine.Upkeep.{IsUpkeepFor, tidies}
-use Rattle.op_machine.specs.declared.then.Then.TheVariants.{After}
+use Rattle.op_parts.specs.declared.then.Then.TheVariants.{After}
 use Rattle.structure_changes.specs.declared.after.After.TheVariants.{Round}
 use Rattle.op_machine.proofs.Plans.{over_page}
 

@@ -79,12 +79,12 @@ pub use Rattle.traces.specs.discipline.Useful.{IsUseful}
 pub use Rattle.traces.specs.trace.Run.{MayPlace, IsRun}
 pub use Rattle.traces.specs.trace.Trace.{memory_of, Happens, IsStep, memory_at, TakesStep, turn_of}
 pub use Rattle.tree_limits.specs.declared.limits.Limits.{Limits}
-pub use Rattle.op_machine.specs.declared.then.Then.{Then}
+pub use Rattle.op_parts.specs.declared.then.Then.{Then}
 pub use Rattle.op_machine.specs.machine.Actors.{IsActorWith, wanted_by}
 pub use Rattle.op_machine.specs.machine.Bounded.{IsSpentLast, LeavesFor, left_at, with_errands, one_round, few_changes, left_round, left_for}
 pub use Rattle.op_machine.specs.machine.Brings.{IsUsefulOver, IsUsefulPlan, Brings, IsReadPlan, update_over}
 pub use Rattle.op_machine.specs.machine.GoesLeft.{GoesLeft}
-pub use Rattle.op_machine.specs.machine.Hands.{Hand}
+pub use Rattle.op_parts.specs.Hands.{Hand}
 pub use Rattle.op_machine.specs.machine.Ops.{Op, asked_by, wanted_of, Goes, HoldsLimbo, IsToldOp, Obeys, Shows, IsToldOpThere}
 pub use Rattle.op_machine.specs.machine.Outcomes.{IsAtLeafBelow, Entered, is_changing, FacesWritten, has_begun, is_leaving}
 pub use Rattle.op_machine.specs.machine.Places.{left_round_of, ended_with, OpPlaces, state_of}

@@ -2,7 +2,6 @@ pub mod Tasks
 pub mod Errands
 pub mod Brings
 pub mod States
-pub mod ShortReplies
 pub mod Wants
 pub mod Lacks
 pub mod Shows
@@ -13,7 +12,6 @@ pub mod Ops
 pub mod Begun
 pub mod Bounded
 pub mod Upkeep
-pub mod Hands
 pub mod Works
 pub mod Spending
 pub mod Sweeping

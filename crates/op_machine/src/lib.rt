@@ -47,19 +47,14 @@
 #![tactic(auto)]
 
 mod actor;
-mod errands;
 mod examples;
-mod hand;
 mod operation;
 mod places;
 mod read_ends;
-mod short_reply;
 mod task;
-mod then;
 mod write_ends;
 
 pub use actor::{Actor, idle_actors_rest};
-pub use errands::MAX_ERRANDS;
 pub use examples::{empty_slot_begins_anew, removed_leaf_turns_left};
-pub use hand::Hand;
+pub use op_parts::{Hand, MAX_ERRANDS};
 pub use operation::Operation;

@@ -1,43 +1,35 @@
 //! One operation as a machine that stays in its place, apart from the memory: it is told an answer, and then wants one step.
-ghost use Rattle.std.specs.Prelude.{◌≡◌, ◌<◌, ◌≤◌, ◌^◌, [], IfOk, IfSome, IsSome, None, Some, false, is_some, length, true};
+ghost use Rattle.std.specs.Prelude.{◌≡◌, ◌<◌, ◌≤◌, ◌^◌, [], IfOk, IsSome, None, Some, false, is_some, length, true};
 ghost use Rattle.bw_model.specs.Answers.{answer_of};
 ghost use Rattle.bw_model.specs.Lent.{step_of_loan};
 ghost use Rattle.bw_model.specs.declared.step.Answer.{Answer as AnswerOf};
 ghost use Rattle.bw_model.specs.declared.step.Answer.TheVariants.{Content};
 ghost use Rattle.bw_model.specs.declared.step.Step.TheVariants.{Row};
-ghost use Rattle.traces.specs.discipline.Discipline.{May, MayFree};
-ghost use Rattle.traces.specs.discipline.Knowledge.{Knowledge, after_begin, learn};
+ghost use Rattle.traces.specs.discipline.Knowledge.{Knowledge, after_begin};
 ghost use Rattle.traces.specs.discipline.Recalled.{Recalled, blank, cause_worth};
-ghost use Rattle.traces.specs.discipline.Useful.{IsUseful};
-ghost use Rattle.linearization.specs.Halves.{IsHalved};
-ghost use Rattle.traces.specs.trace.Within.{IsWithin};
 ghost use Rattle.deltas.specs.declared.record.Record.{Record as RecordOf};
 ghost use Rattle.change_machine.specs.Changes.{EndsByDeciding};
-ghost use Rattle.epochs.specs.Limbo.{Limbo as LimboSeen};
-ghost use Rattle.op_machine.specs.machine.Hands.{Hand as HandSeen};
+ghost use Rattle.op_parts.specs.Hands.{Hand as HandSeen};
 ghost use Rattle.op_machine.specs.machine.InPlace.{IsOpShown, Takes, Wants};
 ghost use Rattle.op_machine.specs.machine.Ops.{EndsAtLeave, IsAtRestWith, IsToldOp, IsToldOpThere, Obeys, Shows, wanted_of};
 ghost use Rattle.op_machine.specs.machine.Outcomes.{change_out, has_machine, is_changing, is_leaving, is_reading, is_writing, lacks_at};
 ghost use Rattle.op_machine.specs.machine.Places.{ended_with, state_of};
 ghost use Rattle.op_machine.specs.machine.Shows.{FitsLast, ShowsState, learn_last, wanted_at};
 ghost use Rattle.op_machine.specs.machine.Spending.{steps_left};
-ghost use Rattle.op_machine.specs.machine.Sweeping.{FollowsSweep, HasFewer, IsSameWork, IsToldSweep, MovesSweep};
+ghost use Rattle.op_machine.specs.machine.Sweeping.{HasFewer, IsSameWork, IsToldSweep, MovesSweep};
 ghost use Rattle.op_machine.specs.machine.Tasks.{Task as TaskSeen};
 ghost use Rattle.op_machine.specs.machine.Works.{AsksOn, IsToldChange, IsToldOn, IsToldOnThere, IsToldWith, KeepsLimbo, TurnsInto, asked_of};
 ghost use Rattle.op_machine.specs.machine.Wants as Want;
 ghost use Rattle.op_machine.specs.machine.States as State;
 ghost use Rattle.sweep.specs.Kept.{AreKept};
-ghost use Rattle.sweep.specs.Bounded.{steps_left as steps_of};
-ghost use Rattle.sweep.specs.Sweeps.{IsSoundSweep, FitsSweep as IsToldSweepAlone, Shows as ShowsSweep, wanted_step as sweep_wants};
-ghost use Rattle.traces.specs.discipline.Fitting.{Fits};
 
-use crate::hand::Hand;
 use crate::places::{Places, StateKind};
 use crate::task::Task;
 use bw_model::{Command, Key, Limits, Reply, Step, Told};
 use change_machine::{End, Kind, Spares};
 use deltas::Record;
 use epochs::Limbo;
+use op_parts::{Hand, sweeping, swept};
 use row_search::{RowAt, Rows};
 use std::alloc::{AllocError, Allocator, Global};
 use std::marker::Model;
@@ -362,43 +354,5 @@ fn ended<R: Rows, A: Allocator>(
             hand.unlink(end, places.then());
             Some(end)
         }
-    }
-}
-
-/// The step that a sweep wants, among steps that lend the record that they place.
-#[inline(never)]
-fn sweeping<'a>(sweep: &Sweep) -> Step<&'a Record>
-    ensures wanted { step_of_loan result ≡ sweep_wants sweep.now }
-    ensures within { IsWithin sweep.now.limits (step_of_loan result) }
-    ensures may { (limbo : LimboSeen) (k : Knowledge) → ShowsSweep sweep.now limbo k → May sweep.now.actor k (step_of_loan result) }
-    ensures frees { (limbo : LimboSeen) (k : Knowledge) → ShowsSweep sweep.now limbo k → MayFree sweep.now.limits sweep.now.actor k (step_of_loan result) }
-    ensures useful { (k : Knowledge) → IsUseful k (step_of_loan result) }
-    ensures halved { (k : Knowledge) → IsHalved k (step_of_loan result) }
-{
-    match sweep.step() {
-        Step::Epoch => Step::Epoch,
-        Step::Retire(epoch) => Step::Retire(epoch),
-        Step::Announce(actor) => Step::Announce(actor),
-        Step::ReuseRows(word, bits) => Step::ReuseRows(word, bits),
-        Step::ReusePids(word, bits) => Step::ReusePids(word, bits),
-        _ => unreachable!(),
-    }
-}
-
-/// The sweep after an answer, if it goes on.
-fn swept<A: Allocator>(sweep: Sweep, limbo: &mut Limbo<A>, told: Told) -> Option<Sweep>
-    requires sound { IsSoundSweep sweep limbo.old }
-    requires told { IsToldSweepAlone sweep (answer_of told) }
-    ensures follows { (k : Knowledge) → ShowsSweep sweep limbo.old k → Fits sweep.limits k (sweep_wants sweep) (answer_of told)
-        → FollowsSweep k (learn k (sweep_wants sweep) (answer_of told)) sweep result limbo.new }
-    ensures sound { IfSome result (λ next. IsSoundSweep next limbo.new) }
-    ensures few { IfSome result (λ next. steps_of sweep.limits next.state < steps_of sweep.limits sweep.state) }
-    ensures same { IfSome result (λ next. (next.limits ≡ sweep.limits) × (next.actor ≡ sweep.actor)) }
-{
-    let mut sweep = sweep;
-    if sweep.next(limbo, told) {
-        Some(sweep)
-    } else {
-        None
     }
 }

@@ -22,10 +22,10 @@ ghost use Rattle.rounds.specs.ReadRounds.{ended_read};
 ghost use Rattle.structure_changes.specs.Reads.{chain_of};
 
 use crate::places::Places;
-use crate::short_reply::ShortReply;
 use crate::task::Task;
 use base_page::Direction;
 use bw_model::Command;
+use op_parts::ShortReply;
 use round_model::read_leaves_stood;
 use rounds::ReadEndKind;
 use row_search::{KeyWords, Rows};

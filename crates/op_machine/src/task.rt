@@ -3,16 +3,17 @@ ghost use Rattle.std.specs.Prelude.{◌≡◌, ◌≤◌, ◌+◌, ◌<◌, ◌-
 ghost use Rattle.traces.specs.discipline.Knowledge.{Knowledge};
 ghost use Rattle.bw_model.specs.Replies.{is_writer, update_of};
 ghost use Rattle.op_machine.specs.machine.Brings.{update_over};
-ghost use Rattle.op_machine.specs.machine.Errands.{due_of, splits_of, tends_of, way_key, with_errand};
+ghost use Rattle.op_machine.specs.machine.Errands.{due_of, splits_of, tends_of, way_key};
+ghost use Rattle.op_parts.specs.Errands.{with_errand};
 ghost use Rattle.sweep.specs.Bounded.{most_steps, steps_left as steps_of};
 ghost use Rattle.sweep.specs.Kept.{IsLimboOf};
 ghost use Rattle.sweep.specs.Moves.{IsEmpty};
 ghost use Rattle.sweep.specs.Sweeps.{IsSoundSweep, IsKeptOutside, Shows as ShowsSweep};
 
-use crate::errands::Errands;
 use base_page::Page;
 use bw_model::{Command, Key, Limits, Value};
 use epochs::Limbo;
+use op_parts::Errands;
 use std::alloc::Allocator;
 use std::marker::Model;
 use structure_changes::{UpdateRecord, many_deltas};

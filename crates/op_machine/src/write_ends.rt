@@ -22,11 +22,10 @@ ghost use Rattle.structure_changes.specs.Splits.{CanSplit};
 ghost use Rattle.structure_changes.specs.Versions.{Version};
 
 use crate::places::Places;
-use crate::short_reply::{ShortReply, Which};
 use crate::task::Task;
-use crate::then::Then;
 use bw_model::{Command, Value};
 use change_machine::{End, Spares, plans_may_be_linked};
+use op_parts::{ShortReply, Then, Which};
 use rounds::{WriteEndKind, WriteRound};
 use row_search::{KeyWords, Rows};
 use std::alloc::Allocator;

@@ -29,7 +29,7 @@ pub use Rattle.deltas.specs.declared.record.Record.{Record}
 pub use Rattle.linearization.proofs.LogLaws.{take-one}
 pub use Rattle.op_machine.specs.machine.Actors.{IsActorWith, command_at, wanted_by}
 pub use Rattle.op_machine.specs.machine.GoesLeft.{first_read, read_left_of}
-pub use Rattle.op_machine.specs.machine.Hands.{Hand}
+pub use Rattle.op_parts.specs.Hands.{Hand}
 pub use Rattle.op_machine.specs.machine.Outcomes.{is_leaving, is_reading}
 pub use Rattle.op_machine.specs.machine.RoundSteps.{AfterReading, StepsReading}
 pub use Rattle.op_machine.specs.machine.States.{State, Begun, Epoch, Enter, Read, Write, Change, Leave}

@@ -27,7 +27,7 @@ pub use Rattle.deltas.specs.declared.record.Record.{Record}
 pub use Rattle.deltas.specs.declared.record.Record.TheVariants.{Remove}
 pub use Rattle.listing.specs.Listed.{IsListing}
 pub use Rattle.op_machine.specs.machine.Actors.{Actor, IsActor, IsActorWith, IsToldActor, command_left, knows_then, running_command, wanted_by, command_at}
-pub use Rattle.op_machine.specs.machine.Hands.{Hand}
+pub use Rattle.op_parts.specs.Hands.{Hand}
 pub use Rattle.op_machine.specs.machine.Ops.{IsAtRestWith}
 pub use Rattle.op_machine.specs.machine.UnderWay.{UnderWay, steps_due}
 pub use Rattle.linearization.specs.Answered.{IsAnswered}

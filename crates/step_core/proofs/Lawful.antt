@@ -15,7 +15,7 @@ use Rattle.core_memory.specs.Tables.{CoreTable, IsWithinTable, memory_in}
 use Rattle.round_model.specs.Machines.{AreThere}
 use Rattle.traces.specs.trace.Trace.{memory_of}
 use Rattle.traces.specs.trace.Within.{IsWithin}
-use Rattle.op_machine.specs.machine.Hands.{Hand}
+use Rattle.op_parts.specs.Hands.{Hand}
 use Rattle.tree_law.specs.Own.{RowsAreApart}
 use Rattle.tree_law.specs.State.{IsState}
 use Rattle.tree_law.specs.TraceLaws.{AnswersFit, HeadsStand}

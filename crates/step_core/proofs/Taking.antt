@@ -31,7 +31,7 @@ use Rattle.traces.specs.discipline.Recalled.{Recalled}
 use Rattle.traces.specs.trace.Steps.{IsAnswer}
 use Rattle.change_machine.specs.Spares.{Spares}
 use Rattle.change_machine.specs.declared.taking.Kind.{Kind}
-use Rattle.op_machine.specs.machine.Hands.{Hand}
+use Rattle.op_parts.specs.Hands.{Hand}
 use Rattle.op_machine.specs.machine.Shows.{ShowsState}
 use Rattle.op_machine.specs.machine.Tasks.{Task}
 use Rattle.op_machine.specs.machine.States.{State, Begun, Epoch, Enter, Read, Write, Change, Leave}

@@ -14,7 +14,7 @@ use Rattle.round_model.specs.Machines.{AreThere}
 use Rattle.change_machine.specs.declared.taking.Kind.{Kind}
 use Rattle.linearization.specs.Halves.{IsHalved}
 use Rattle.linearization.specs.Readers.{IsOfUse}
-use Rattle.op_machine.specs.machine.Hands.{Hand, empty_hand}
+use Rattle.op_parts.specs.Hands.{Hand, empty_hand}
 use Rattle.op_machine.specs.machine.Lacks.{HasLack}
 use Rattle.op_machine.specs.machine.Ops.{Goes, IsAtRestWith}
 use Rattle.op_machine.specs.machine.UnderWay.{UnderWay}

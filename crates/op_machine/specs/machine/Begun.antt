@@ -4,7 +4,7 @@ use Rattle.traces.specs.discipline.Knowledge.{Knowledge}
 use Rattle.traces.specs.discipline.Recalled.{Recalled}
 use Rattle.structure_changes.specs.declared.plan.Plan.{Plan}
 use Rattle.change_machine.specs.Spares.{Spares}
-use Rattle.op_machine.specs.declared.then.Then.{Then}
+use Rattle.op_parts.specs.declared.then.Then.{Then}
 use Rattle.op_machine.specs.machine.Bounded.{few_changes, left_at}
 use Rattle.op_machine.specs.machine.RoundSteps.{BeginsPlan}
 use Rattle.op_machine.specs.machine.Shows.{MayBegin, ShowsState, wanted_at}

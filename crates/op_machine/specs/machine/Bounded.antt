@@ -16,7 +16,7 @@ use Rattle.op_machine.specs.machine.Outcomes.{Outcome, Begun, Epoch, Entered, Re
 use Rattle.op_machine.specs.machine.Shows.{recall_last}
 use Rattle.op_machine.specs.machine.States.{State}
 use Rattle.op_machine.specs.machine.States as at
-use Rattle.op_machine.specs.declared.then.Then.TheVariants.{After, Reply}
+use Rattle.op_parts.specs.declared.then.Then.TheVariants.{After, Reply}
 use Rattle.structure_changes.specs.declared.after.After.TheVariants.{Round, Limbo, Errand}
 
 -- how many steps a change takes at most

@@ -20,11 +20,11 @@ use Rattle.structure_changes.specs.declared.after.After.TheVariants.{Round, Limb
 use Rattle.structure_changes.specs.declared.split.SplitPlan.{SplitPlan}
 use Rattle.structure_changes.specs.Sizes.{HasFewItems}
 use Rattle.linearization.specs.Halves.{AreHalves}
-use Rattle.op_machine.specs.machine.Errands.{with_errand}
-use Rattle.op_machine.specs.machine.Hands.{IsTakenBy, TakesNothing}
+use Rattle.op_parts.specs.Errands.{with_errand}
+use Rattle.op_parts.specs.Hands.{IsTakenBy, TakesNothing}
 use Rattle.op_machine.specs.machine.Upkeep.{IsTidying}
-use Rattle.op_machine.specs.declared.then.Then.{Then}
-use Rattle.op_machine.specs.declared.then.Then.TheVariants.{After, Reply}
+use Rattle.op_parts.specs.declared.then.Then.{Then}
+use Rattle.op_parts.specs.declared.then.Then.TheVariants.{After, Reply}
 
 -- The plan links the command's update over a leaf as it was read, where no consolidation is due, nor, if the update adds an item, a split; and this
 -- is the reply over that leaf.

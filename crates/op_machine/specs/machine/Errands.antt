@@ -1,15 +1,11 @@
 -- For which key an operation's rounds look, and what is due there.
-use Rattle.std.specs.Prelude.{◌∷◌, [], ◌++◌, ◌-◌, ℕ, List, Bool, false, true, length, nat_lt, not, if◌then◌else◌, slice_get, unwrap_or}
+use Rattle.std.specs.Prelude.{◌∷◌, [], ◌-◌, ℕ, List, Bool, false, true, length, not, slice_get, unwrap_or}
 use Rattle.tree_limits.specs.declared.limits.Limits.{Limits}
 use Rattle.bw_model.specs.declared.command.Command.{Command}
 use Rattle.bw_model.specs.declared.command.Command.TheVariants.{Add, Back, Delete, DeleteIf, Get, Insert, Page, Swap, Tidy, Upsert}
 use Rattle.bw_model.specs.Replies.{command_key}
 use Rattle.structure_changes.specs.Sizes.{many_of}
 use Rattle.op_machine.specs.machine.Upkeep.{tidies}
-
--- at most 16 errands are kept
-abbrev pub with_errand : List ℕ → List (List ℕ) → List (List ℕ)
-with_errand key errands = if nat_lt (length errands) 16 then errands ++ key ∷ [] else errands
 
 -- the newest errand's key, or the command's
 abbrev pub way_key : List (List ℕ) → Command → List ℕ

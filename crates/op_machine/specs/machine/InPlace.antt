@@ -6,7 +6,7 @@ use Rattle.deltas.specs.declared.record.Record.{Record}
 use Rattle.traces.specs.discipline.Knowledge.{Knowledge}
 use Rattle.traces.specs.discipline.Recalled.{Recalled}
 use Rattle.op_machine.specs.machine.GoesLeft.{GoesLeft}
-use Rattle.op_machine.specs.machine.Hands.{Hand}
+use Rattle.op_parts.specs.Hands.{Hand}
 use Rattle.op_machine.specs.machine.Ops.{Goes, Obeys, Op, Shows, wanted_of}
 use Rattle.op_machine.specs.machine.RoundSteps.{StepsInRound}
 use Rattle.op_machine.specs.machine.Shows.{FitsLast, learn_last, recall_last}

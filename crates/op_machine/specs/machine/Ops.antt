@@ -11,7 +11,7 @@ use Rattle.traces.specs.discipline.Knowledge.{Knowledge}
 use Rattle.traces.specs.discipline.Recalled.{Recalled}
 use Rattle.round_model.specs.Machines.{AreThere}
 use Rattle.epochs.specs.Limbo.{Limbo}
-use Rattle.op_machine.specs.machine.Hands.{Hand}
+use Rattle.op_parts.specs.Hands.{Hand}
 use Rattle.op_machine.specs.machine.Outcomes.{HasLeft}
 use Rattle.op_machine.specs.machine.Shows.{FitsLast, MayStep, ShowsState, learn_last, recall_last, wanted_at}
 use Rattle.op_machine.specs.machine.Tasks.{IsAtRest, Task}

@@ -27,13 +27,13 @@ use Rattle.structure_changes.specs.Sizes.{HasFewItems}
 use Rattle.structure_changes.specs.Versions.{Version}
 use Rattle.bw_model.specs.Replies.{command_key, is_writer}
 use Rattle.op_machine.specs.machine.Errands.{due_of, splits_of, way_key}
-use Rattle.op_machine.specs.machine.Hands.{Unlinks}
+use Rattle.op_parts.specs.Hands.{Unlinks}
 use Rattle.op_machine.specs.machine.Shows.{FitsLast, IsRoundOf, ShowsState, learn_last, recall_last, wanted_at}
 use Rattle.op_machine.specs.machine.Tasks.{IsBetweenChanges, IsAtRest, Seeks, Task, Waits}
 use Rattle.op_machine.specs.machine.States.{State, Change, Leave}
 use Rattle.op_machine.specs.machine.States as at
-use Rattle.op_machine.specs.declared.then.Then.{Then}
-use Rattle.op_machine.specs.declared.then.Then.TheVariants.{After, Reply}
+use Rattle.op_parts.specs.declared.then.Then.{Then}
+use Rattle.op_parts.specs.declared.then.Then.TheVariants.{After, Reply}
 
 -- what an operation has come to, where it goes from one state to another: it begins, has read the epoch, has entered, or
 -- a round or a change has ended

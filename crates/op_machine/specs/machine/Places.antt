@@ -23,7 +23,7 @@ use Rattle.op_machine.specs.declared.places.StateKind.{StateKind}
 use Rattle.op_machine.specs.declared.places.StateKind.TheVariants.{Begun, Epoch, Enter, Read, Write, Change, Leave}
 use Rattle.op_machine.specs.machine.States.{State}
 use Rattle.op_machine.specs.machine.States as at
-use Rattle.op_machine.specs.declared.then.Then.{Then}
+use Rattle.op_parts.specs.declared.then.Then.{Then}
 
 -- Where the operation stands, the rounds and the change, what comes after the change, and the reply with what ran out, each in its place.
 pub record OpPlaces : Type 0 where

@@ -19,7 +19,7 @@ use Rattle.round_model.specs.WriteResponses.{writing}
 use Rattle.round_model.specs.WriteRounds.{WriteRound}
 use Rattle.op_machine.specs.machine.GoesLeft.{first_read, first_write, read_left_of, write_left_of}
 use Rattle.op_machine.specs.machine.Outcomes.{is_entering, is_leaving}
-use Rattle.op_machine.specs.declared.then.Then.{Then}
+use Rattle.op_parts.specs.declared.then.Then.{Then}
 use Rattle.op_machine.specs.machine.States.{State, Change, Epoch, Enter, Read, Write}
 use Rattle.op_machine.specs.machine.Tasks.{Task}
 

@@ -27,7 +27,7 @@ use Rattle.op_machine.specs.machine.Lacks.{TellsLack}
 use Rattle.op_machine.specs.machine.Errands.{due_of, splits_of, tends_of, way_key}
 use Rattle.op_machine.specs.machine.Tasks.{IsAsked, IsBetweenChanges, IsUnreadPid, Seeks, Task, Waits}
 use Rattle.op_machine.specs.machine.States.{State, Begun, Epoch, Enter, Read, Write, Change, Leave}
-use Rattle.op_machine.specs.declared.then.Then.{Then}
+use Rattle.op_parts.specs.declared.then.Then.{Then}
 
 -- A reader's round is under way, for the command's key.
 pub record IsInReadRound (task : Task) (spares : Spares) (k : Knowledge) (r : Recalled) (round : read.ReadRound) : Type 0 where

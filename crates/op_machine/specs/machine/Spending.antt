@@ -6,7 +6,7 @@ use Rattle.deltas.specs.declared.record.Record.{Record}
 use Rattle.traces.specs.discipline.Knowledge.{Knowledge}
 use Rattle.traces.specs.discipline.Recalled.{Recalled}
 use Rattle.op_machine.specs.machine.Bounded.{IsSpentLast, left_at, with_errands}
-use Rattle.op_machine.specs.machine.Hands.{Hand}
+use Rattle.op_parts.specs.Hands.{Hand}
 use Rattle.op_machine.specs.machine.Ops.{Op, Shows, wanted_of}
 use Rattle.op_machine.specs.machine.Shows.{FitsLast, recall_last}
 use Rattle.op_machine.specs.machine.Wants.{Want, Step, Done}

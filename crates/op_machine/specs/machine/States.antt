@@ -5,7 +5,7 @@ use Rattle.round_model.specs.ReadRounds.{ReadRound}
 use Rattle.round_model.specs.WriteRounds.{WriteRound}
 use Rattle.change_machine.specs.Changes.{Change as ChangeOf}
 use Rattle.change_machine.specs.declared.taking.Kind.{Kind}
-use Rattle.op_machine.specs.declared.then.Then.{Then}
+use Rattle.op_parts.specs.declared.then.Then.{Then}
 
 pub data State : Type 0 where
   Begun : State

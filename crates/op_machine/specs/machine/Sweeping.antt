@@ -7,7 +7,7 @@ use Rattle.traces.specs.discipline.Knowledge.{Knowledge}
 use Rattle.traces.specs.discipline.Recalled.{Recalled}
 use Rattle.epochs.specs.Limbo.{Limbo}
 use Rattle.change_machine.specs.Spares.{Spares}
-use Rattle.op_machine.specs.machine.Hands.{Hand}
+use Rattle.op_parts.specs.Hands.{Hand}
 use Rattle.op_machine.specs.machine.Ops.{Goes, IsToldOp, Op, Shows, asked_by}
 use Rattle.op_machine.specs.machine.Shows.{FitsLast, learn_last, recall_last}
 use Rattle.op_machine.specs.machine.Spending.{sweep_left}
@@ -37,11 +37,6 @@ ObeysSweep old had told new has want = (k : Knowledge) (r : Recalled) (spares : 
     → MatchOption want
     ((new.sweep ≡ None) × Shows new (with_limbo spares has) (learn_last k (swept_by old) told) (recall_last r (swept_by old) told))
     (λ asked. Goes (learn_last k (swept_by old) told) (recall_last r (swept_by old) told) new (with_limbo spares has) asked)
-
--- A sweep that goes on is shown, and one that has ended leaves its actor at rest; nothing is learnt but of the limbo.
-pub record FollowsSweep (k now : Knowledge) (old : Sweep) (next : Option Sweep) (limbo : Limbo) : Type 0 where
-  pub only : now ≡ record k { limbo = now.limbo }
-  pub then : MatchOption next (IsKeptOutside old.limits old.actor limbo now) (λ sweep. ShowsSweep sweep limbo now)
 
 -- A sweep that goes on has fewer steps left.
 abbrev pub HasFewer : Op → Op → Type 0

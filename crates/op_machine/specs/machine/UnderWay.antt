@@ -6,7 +6,7 @@ use Rattle.bw_model.specs.declared.step.Step.{Step as StepOf}
 use Rattle.deltas.specs.declared.record.Record.{Record}
 use Rattle.traces.specs.discipline.Recalled.{Recalled, IsStepSpent, recall}
 use Rattle.op_machine.specs.machine.GoesLeft.{GoesLeft}
-use Rattle.op_machine.specs.machine.Hands.{Hand}
+use Rattle.op_parts.specs.Hands.{Hand}
 use Rattle.op_machine.specs.machine.Ops.{Op, wanted_of}
 use Rattle.op_machine.specs.machine.RoundSteps.{StepsInRound}
 use Rattle.op_machine.specs.machine.Spending.{steps_left}

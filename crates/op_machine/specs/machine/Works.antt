@@ -8,7 +8,7 @@ use Rattle.traces.specs.discipline.Recalled.{Recalled}
 use Rattle.round_model.specs.Machines.{AreThere}
 use Rattle.change_machine.specs.Spares.{Spares}
 use Rattle.op_machine.specs.machine.Bounded.{IsSpentLast, LeavesFor, left_at, left_for, with_errands}
-use Rattle.op_machine.specs.machine.Hands.{Hand}
+use Rattle.op_parts.specs.Hands.{Hand}
 use Rattle.op_machine.specs.machine.Ops.{Op}
 use Rattle.op_machine.specs.machine.RoundSteps.{StepsInRound}
 use Rattle.op_machine.specs.machine.Outcomes.{Comes, Faces, IsToldAt, Outcome, lacks_at}

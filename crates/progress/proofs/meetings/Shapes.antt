@@ -18,7 +18,7 @@ use Rattle.change_machine.specs.declared.taking.Taking.{Taking}
 use Rattle.change_machine.specs.declared.taking.Taking.TheVariants.{Bits, Take}
 use Rattle.change_machine.proofs.Following.{record_is}
 use Rattle.op_machine.specs.machine.Shows.{IsInChange}
-use Rattle.op_machine.specs.declared.then.Then.{Then}
+use Rattle.op_parts.specs.declared.then.Then.{Then}
 use Rattle.progress.specs.WritersAmong.{Decides, meets}
 
 -- what an exchange is told that it has to win

@@ -16,7 +16,7 @@ use Rattle.op_machine.specs.machine.GoesLeft.{first_write, write_left_of}
 use Rattle.op_machine.specs.machine.RoundSteps as op
 use Rattle.op_machine.specs.machine.RoundSteps.{StepsChanging, StepsWriting}
 use Rattle.op_machine.specs.machine.Shows.{IsInChange}
-use Rattle.op_machine.specs.declared.then.Then.{Then}
+use Rattle.op_parts.specs.declared.then.Then.{Then}
 use Rattle.progress.specs.WritersAmong.{AfterRound, AtChange, BeginsRound, HasDecided, InRound, StepsOn, WriterState, meets}
 use Rattle.progress.proofs.meetings.Shapes.{calm, decides}
 

@@ -5,7 +5,7 @@ use Rattle.round_model.specs.WriteEnds as due
 use Rattle.change_machine.specs.Changes.{KeepsSpare, MayLinkAs}
 use Rattle.structure_changes.specs.Plans.{head_of, slot_of}
 use Rattle.structure_changes.specs.declared.after.After.{After}
-use Rattle.op_machine.specs.declared.then.Then.TheVariants as then
+use Rattle.op_parts.specs.declared.then.Then.TheVariants as then
 use Rattle.op_machine.proofs.Dues.{dues_there}
 use Rattle.op_machine.proofs.Halves.{halves}
 use Rattle.op_machine.proofs.Plans.{long_chain}

@@ -1,7 +1,7 @@
 use Rattle.op_machine.proofs.Words.{◌≡◌, ◌≤◌, inl, inr, refl, ap, subst, arith, rules, Limits, Knowledge, Errand, Kind, left_at, one_round, state_of, Task}
 use Rattle.traces.specs.discipline.Discipline.{LacksRoom}
 use Rattle.change_machine.specs.Taking.{AllFull}
-use Rattle.op_machine.specs.declared.then.Then.TheVariants.{After}
+use Rattle.op_parts.specs.declared.then.Then.TheVariants.{After}
 use Rattle.op_machine.specs.machine.RoundSteps.{BeginsAnew}
 use Rattle.change_machine.specs.declared.change.End.TheVariants.{Lost, Won}
 use Rattle.change_machine.specs.declared.taking.Kind.TheVariants.{Pid, Row}

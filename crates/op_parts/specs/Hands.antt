@@ -13,8 +13,8 @@ use Rattle.change_machine.specs.declared.change.End.{End}
 use Rattle.change_machine.specs.declared.change.End.TheVariants.{Won}
 use Rattle.structure_changes.specs.declared.plan.Plan.{Plan}
 use Rattle.structure_changes.specs.declared.plan.Plan.TheVariants.{Install, Unlink}
-use Rattle.op_machine.specs.declared.then.Then.{Then}
-use Rattle.op_machine.specs.declared.then.Then.TheVariants as then
+use Rattle.op_parts.specs.declared.then.Then.{Then}
+use Rattle.op_parts.specs.declared.then.Then.TheVariants as then
 use Rattle.structure_changes.specs.declared.after.After.TheVariants as next
 use Rattle.structure_changes.specs.declared.unlinked.Unlinked.{Unlinked}
 use Rattle.sweep.specs.Kept.{empty_limbo}

@@ -1,8 +1,9 @@
-use Rattle.op_machine.proofs.Words.{◌≡◌, ap, rules, Hand}
+use Rattle.std.proofs.Common.{◌≡◌, ap, rules}
 use Rattle.structure_changes.specs.declared.after.After.TheVariants.{Limbo}
-use Rattle.op_machine.specs.declared.then.Then.TheVariants.{After}
-use Rattle.op_machine.proofs.TakingOut.{gone, taken}
-use Rattle.op_machine.proofs.hand.Hand.unlink.Goals as goal
+use Rattle.op_parts.specs.declared.then.Then.TheVariants.{After}
+use Rattle.op_parts.specs.Hands.{Hand}
+use Rattle.op_parts.proofs.GoingOut.{gone, taken}
+use Rattle.op_parts.proofs.hand.Hand.unlink.Goals as goal
 
 pub take_out-requires : goal.take_out-requires
 take_out-requires g c =

@@ -1,7 +1,7 @@
 use Rattle.std.proofs.Common.{subst}
 use Rattle.bw_model.specs.Bytes.{IsShort}
-use Rattle.op_machine.proofs.Showing.{shows_chain}
-use Rattle.op_machine.proofs.short_reply.ReplyPlace.put_page.Goals as goal
+use Rattle.op_parts.proofs.Showing.{shows_chain}
+use Rattle.op_parts.proofs.short_reply.ReplyPlace.put_page.Goals as goal
 
 pub returns-clause-page : goal.returns-clause-page
 returns-clause-page g c = rw c.copied-self-inside.ensures (

@@ -10,7 +10,7 @@ use Rattle.base_page.specs.declared.page.shows.Direction.TheVariants.{Forward, B
 use Rattle.deltas.specs.declared.record.Record.{Record}
 use Rattle.traces.specs.chain.Fitted.{Makes}
 use Rattle.row_chain.proofs.PairLaws.{pairs_in, pairs_upto}
-use Rattle.op_machine.specs.machine.ShortReplies.{ShowsChain, page_shown}
+use Rattle.op_parts.specs.ShortReplies.{ShowsChain, page_shown}
 
 pub shows_chain : (d : Direction) (chain : List Record) (bound : List ℕ) (page : Page) → Makes chain page → IsPage page → IsShort page.low
     → ShowsChain chain d bound (page_shown d bound page)

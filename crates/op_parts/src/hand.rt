@@ -2,7 +2,7 @@
 ghost use Rattle.std.specs.Prelude.{◌≡◌, ℕ, IfErr, IfOk};
 ghost use Rattle.tree_limits.specs.declared.limits.Limits.{Limits as LimitsSeen};
 ghost use Rattle.traces.specs.discipline.Knowledge.{Knowledge, Limbos};
-ghost use Rattle.op_machine.specs.machine.Hands.{Unlinks, empty_hand};
+ghost use Rattle.op_parts.specs.Hands.{Unlinks, empty_hand};
 ghost use Rattle.sweep.specs.Kept.{AreKept};
 
 use crate::then::Then;
@@ -17,8 +17,8 @@ use sweep::{chains_go_to_limbo, take_out};
 /// What an actor keeps between operations: the rows and the PID that it took and never linked, and what it took out of the tree and
 /// has not freed.
 pub struct Hand<A: Allocator = Global> {
-    pub(crate) spares: Spares,
-    pub(crate) limbo: Limbo<A>,
+    pub spares: Spares,
+    pub limbo: Limbo<A>,
 }
 
 impl<A: Allocator> Drop for Hand<A> {
@@ -31,7 +31,7 @@ impl<A: Allocator> Drop for Hand<A> {
 }
 
 impl<A: Allocator> Model for Hand<A> {
-    ghost use Rattle.op_machine.specs.machine.Hands.{Hand};
+    ghost use Rattle.op_parts.specs.Hands.{Hand};
 
     ghost Value = { Hand };
 
@@ -68,7 +68,7 @@ impl<A: Allocator> Hand<A> {
     }
 
     /// What a change has taken out of the tree, if it has won, comes into limbo.
-    pub(crate) fn unlink(&mut self, end: End, then: &Then)
+    pub fn unlink(&mut self, end: End, then: &Then)
         requires due { (limits : LimitsSeen) × (actor : ℕ) × (k : Knowledge) × (after : Limbos) × AreKept limits actor self.old.limbo k.limbo × Unlinks limits k end then.now after }
         ensures keeps { (limits : LimitsSeen) (actor : ℕ) (k : Knowledge) (after : Limbos) → AreKept limits actor self.old.limbo k.limbo
             → Unlinks limits k end then.now after → AreKept limits actor self.new.limbo after }

@@ -1,6 +1,6 @@
 //! What an operation is still to visit for the splits that it has linked.
 ghost use Rattle.std.specs.Prelude.{◌≡◌, ◌≤◌, ◌-◌, [], length, option_copied, slice_get, take};
-ghost use Rattle.op_machine.specs.machine.Errands.{with_errand};
+ghost use Rattle.op_parts.specs.Errands.{with_errand};
 
 use arrayvec::ArrayVec;
 use bw_model::Key;
@@ -12,7 +12,7 @@ pub const MAX_ERRANDS: usize = 16;
 /// The separators of the splits that an operation has linked, and has not looked for since, the newest last: on the way to one
 /// its term is posted.
 #[derive(Drop)]
-pub(crate) struct Errands {
+pub struct Errands {
     keys: ArrayVec<Key, MAX_ERRANDS>,
 }
 
@@ -26,7 +26,7 @@ impl Model for Errands {
 
 impl Errands {
     /// No errands.
-    pub(crate) fn new() -> Errands
+    pub fn new() -> Errands
         ensures { result ≡ [] }
     {
         Errands {
@@ -35,7 +35,7 @@ impl Errands {
     }
 
     /// All of them, the newest last: at most `MAX_ERRANDS`.
-    pub(crate) fn keys(&self) -> &[Key]
+    pub fn keys(&self) -> &[Key]
         ensures keys { result.now ≡ self.now }
         ensures few { length self.now ≤ 16 }
     {
@@ -43,14 +43,14 @@ impl Errands {
     }
 
     /// The newest one.
-    pub(crate) fn newest(&self) -> Option<&Key>
+    pub fn newest(&self) -> Option<&Key>
         ensures { option_copied result ≡ slice_get self.now (length self.now - 1) }
     {
         self.keys.as_slice().last()
     }
 
     /// Adds one, if there is room.
-    pub(crate) fn add(&mut self, key: Key)
+    pub fn add(&mut self, key: Key)
         ensures { self.new ≡ with_errand key self.old }
     {
         if self.keys.len() < MAX_ERRANDS {
@@ -59,14 +59,14 @@ impl Errands {
     }
 
     /// Takes all off.
-    pub(crate) fn clear(&mut self)
+    pub fn clear(&mut self)
         ensures { self.new ≡ [] }
     {
         self.keys.clear();
     }
 
     /// Takes the newest one off.
-    pub(crate) fn finish(&mut self)
+    pub fn finish(&mut self)
         ensures { self.new ≡ take (length self.old - 1) self.old }
     {
         let _ = self.keys.pop();

@@ -4,7 +4,7 @@ ghost use Rattle.bw_model.specs.Replies.{reply_of};
 ghost use Rattle.bw_model.specs.declared.command.Reply.TheVariants as replied;
 ghost use Rattle.base_page.specs.Shown.{next_shown, pairs_shown};
 ghost use Rattle.row_chain.specs.Placed.{IsReadChain};
-ghost use Rattle.op_machine.specs.machine.ShortReplies.{ShowsChain, page_shown, reply_with};
+ghost use Rattle.op_parts.specs.ShortReplies.{ShowsChain, page_shown, reply_with};
 
 use base_page::{Direction, Page};
 use bw_model::{Command, Key, Pairs, Reply, Value};
@@ -15,7 +15,7 @@ use std::marker::Model;
 
 /// Which reply it is, but for a cursor page.
 #[derive(Clone, Copy)]
-pub(crate) enum Which {
+pub enum Which {
     Value,
     None,
     Inserted,
@@ -32,14 +32,14 @@ pub(crate) enum Which {
 
 /// A reply but for a cursor page, in 66 bytes: which one it is, and the value that it tells, or any where it tells none.
 #[derive(Drop)]
-pub(crate) struct ShortReply {
+pub struct ShortReply {
     which: Which,
     value: Value,
 }
 
 impl Model for ShortReply {
     ghost use Rattle.bw_model.specs.declared.command.Reply.{Reply};
-    ghost use Rattle.op_machine.specs.machine.ShortReplies.{ShowsChain, page_shown, reply_with};
+    ghost use Rattle.op_parts.specs.ShortReplies.{ShowsChain, page_shown, reply_with};
 
     ghost Value = { Reply };
 
@@ -49,7 +49,7 @@ impl Model for ShortReply {
 impl ShortReply {
     /// The reply of a command where its key has the value `old`, or none; no reply of a page of either direction or a tidying, which
     /// go by more than one value.
-    pub(crate) fn of(command: &Command, old: Option<&Value>) -> Option<ShortReply>
+    pub fn of(command: &Command, old: Option<&Value>) -> Option<ShortReply>
         ensures { result ≡ reply_of command.now (option_copied old.entry) }
     {
         match (command, old) {
@@ -92,7 +92,7 @@ impl ShortReply {
     }
 
     /// A reply that tells no value.
-    pub(crate) fn bare(which: Which) -> ShortReply
+    pub fn bare(which: Which) -> ShortReply
         ensures { result ≡ reply_with which [] }
     {
         ShortReply {
@@ -102,7 +102,7 @@ impl ShortReply {
     }
 
     /// A reply that tells a value.
-    pub(crate) fn with(which: Which, value: &Value) -> ShortReply
+    pub fn with(which: Which, value: &Value) -> ShortReply
         ensures { result ≡ reply_with which value.now }
     {
         ShortReply {
@@ -112,7 +112,7 @@ impl ShortReply {
     }
 
     /// A copy of the reply; it allocates nothing.
-    pub(crate) fn copied(&self) -> ShortReply
+    pub fn copied(&self) -> ShortReply
         ensures { result ≡ self.now }
     {
         ShortReply {
@@ -169,7 +169,7 @@ impl ShortReply {
 /// The place of the reply with which an operation leaves: a cursor page of a direction, which is the pairs of a leaf's page from a key
 /// on or up to it, or any other reply.
 #[derive(Drop)]
-pub(crate) struct ReplyPlace {
+pub struct ReplyPlace {
     shown: Option<Direction>,
     short: ShortReply,
     bound: Key,
@@ -178,7 +178,7 @@ pub(crate) struct ReplyPlace {
 
 impl Model for ReplyPlace {
     ghost use Rattle.bw_model.specs.declared.command.Reply.{Reply};
-    ghost use Rattle.op_machine.specs.machine.ShortReplies.{reply_in};
+    ghost use Rattle.op_parts.specs.ShortReplies.{reply_in};
 
     ghost Value = { Reply };
 
@@ -187,7 +187,7 @@ impl Model for ReplyPlace {
 
 impl ReplyPlace {
     /// A place in which no reply was put yet.
-    pub(crate) fn new() -> ReplyPlace
+    pub fn new() -> ReplyPlace
         ensures { result ≡ replied.None }
     {
         ReplyPlace {
@@ -199,7 +199,7 @@ impl ReplyPlace {
     }
 
     /// Puts a reply there.
-    pub(crate) fn put(&mut self, reply: ShortReply)
+    pub fn put(&mut self, reply: ShortReply)
         ensures { self.new ≡ reply }
     {
         self.shown = None;
@@ -207,7 +207,7 @@ impl ReplyPlace {
     }
 
     /// Puts the cursor page of a leaf there, from a key on or up to it.
-    pub(crate) fn put_page<R: Rows, A: Allocator>(
+    pub fn put_page<R: Rows, A: Allocator>(
         &mut self,
         leaf: &Chain<R, A>,
         direction: Direction,
@@ -226,7 +226,7 @@ impl ReplyPlace {
     }
 
     /// Tells the reply that is there in another place.
-    pub(crate) fn tell(&self, reply: &mut Reply)
+    pub fn tell(&self, reply: &mut Reply)
         ensures { reply.new ≡ self.now }
     {
         let Some(direction) = self.shown else {

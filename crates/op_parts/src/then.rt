@@ -5,7 +5,7 @@ use structure_changes::After;
 
 /// What comes once a change has won.
 #[derive(Drop)]
-pub(crate) enum Then {
+pub enum Then {
     /// What follows a change of the tree's structure.
     After(After),
     /// The reply.

@@ -12,8 +12,8 @@ use Rattle.bw_model.specs.declared.command.Reply.TheVariants as reply
 use Rattle.deltas.specs.declared.record.Record.{Record}
 use Rattle.traces.specs.chain.Chains.{high_in, low_in}
 use Rattle.traces.specs.discipline.Discipline.{chain_value}
-use Rattle.op_machine.specs.declared.short_reply.Which.{Which}
-use Rattle.op_machine.specs.declared.short_reply.Which.TheVariants as which
+use Rattle.op_parts.specs.declared.short_reply.Which.{Which}
+use Rattle.op_parts.specs.declared.short_reply.Which.TheVariants as which
 
 -- the reply of the kind, with the value where it tells one
 abbrev pub reply_with : Which → List ℕ → Reply

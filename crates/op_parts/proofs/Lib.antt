@@ -1,0 +1,2 @@
+pub mod GoingOut
+pub mod Showing

@@ -1,0 +1,4 @@
+pub mod Errands
+pub mod ShortReplies
+pub mod Hands
+pub mod Sweeping
