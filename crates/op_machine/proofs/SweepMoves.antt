@@ -5,9 +5,10 @@ use Rattle.bw_model.specs.declared.step.Step.{Step}
 use Rattle.traces.specs.trace.Within.{IsWithin}
 use Rattle.epochs.specs.Limbo.{Limbo}
 use Rattle.op_machine.specs.machine.Ops.{Goes, HoldsLimbo, IsSweeping, Op, Shows, asked_by}
-use Rattle.op_machine.specs.machine.Sweeping.{FollowsSweep, with_limbo}
+use Rattle.op_machine.specs.machine.Sweeping.{with_limbo}
 use Rattle.op_machine.specs.machine.Tasks.{Task, Waits}
 use Rattle.op_machine.specs.machine.States.{State, Begun}
+use Rattle.op_parts.specs.Sweeping.{FollowsSweep}
 use Rattle.sweep.specs.Sweeps.{IsSoundSweep, IsKeptOutside, Sweep, wanted_step, Shows as ShowsSweep}
 
 module _ (task : Task) (spares : Spares) where

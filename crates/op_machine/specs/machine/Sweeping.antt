@@ -12,8 +12,6 @@ use Rattle.op_machine.specs.machine.Ops.{Goes, IsToldOp, Op, Shows, asked_by}
 use Rattle.op_machine.specs.machine.Shows.{FitsLast, learn_last, recall_last}
 use Rattle.op_machine.specs.machine.Spending.{sweep_left}
 use Rattle.sweep.specs.Bounded.{steps_left}
-use Rattle.sweep.specs.Sweeps.{IsKeptOutside, Sweep}
-use Rattle.sweep.specs.Sweeps.{Shows as ShowsSweep}
 
 abbrev pub with_limbo : Spares → Limbo → Hand
 with_limbo spares limbo = record { spares = spares; limbo = limbo }
