@@ -16,11 +16,30 @@ use crate::tests::caller::Caller;
 use bw_model::{Command, Key};
 use seats::called;
 use std::alloc::Global;
+use std::process::Abort;
 use std::test::Fail;
 
 mod caller;
 mod limits;
 mod two_callers;
+
+/// What a call answers, and what it is to answer.
+#[derive(Clone, Copy, Debug)]
+struct Answer {
+    found: u32,
+    expected: u32,
+}
+
+fn told(found: u32, expected: u32) -> Answer {
+    Answer { found, expected }
+}
+
+/// Asserts that each call answers what it is to.
+fn check(rt: &impl Abort, answers: &[Answer]) {
+    for (place, answer) in answers.iter().enumerate() {
+        assert!(rt; answer.found == answer.expected, "call {place}: {answer:?}");
+    }
+}
 
 /// No bytes.
 fn no_bytes() -> Bytes {
@@ -114,131 +133,134 @@ fn all_authors(alloc: Global) -> Option<Caller>
 }
 
 /// What openings and closings answer.
-fn told_of_handles(alloc: Global) -> [u32; 14] {
+fn told_of_handles(alloc: Global) -> [Answer; 14] {
     let mut caller = Caller::unopened();
     let mut limits = no_limits();
     let mut old = no_bytes();
     [
-        caller.get(0, b"a", &mut old),
-        caller.open(alloc, &limits),
-        bwtree_raw_limits_for_keys(17, 100, &mut limits),
-        bwtree_raw_limits_for_keys(2, 100, &mut limits),
-        caller.open(alloc, &limits),
-        caller.open(alloc, &limits),
-        caller.vacate(),
-        caller.close(),
-        caller.close(),
-        caller.get(0, b"a", &mut old),
-        caller.open(alloc, &limits),
-        caller.vacate(),
-        caller.vacate(),
-        caller.open(alloc, &limits),
+        told(caller.get(0, b"a", &mut old), CLOSED),
+        told(caller.open(alloc, &limits), BAD_LIMITS),
+        told(bwtree_raw_limits_for_keys(17, 100, &mut limits), BAD_LIMITS),
+        told(bwtree_raw_limits_for_keys(2, 100, &mut limits), OK),
+        told(caller.open(alloc, &limits), OK),
+        told(caller.open(alloc, &limits), OPEN),
+        told(caller.vacate(), OPEN),
+        told(caller.close(), OK),
+        told(caller.close(), CLOSED),
+        told(caller.get(0, b"a", &mut old), CLOSED),
+        told(caller.open(alloc, &limits), OPEN),
+        told(caller.vacate(), OK),
+        told(caller.vacate(), OK),
+        told(caller.open(alloc, &limits), OK),
     ]
 }
 
 /// What calls in few steps answer: with none nothing is begun, and one doesn't suffice.
-fn told_within(alloc: Global) -> [u32; 6] {
+fn told_within(alloc: Global) -> [Answer; 6] {
     let mut caller = two_seats(alloc);
     let mut old = no_bytes();
     let mut page = no_page();
     [
-        caller.upsert_within(0, 0, b"a", b"x", &mut old),
-        caller.is_idle(0),
-        caller.upsert_within(0, 1, b"a", b"x", &mut old),
-        caller.get_within(0, 9, b"a", &mut old),
-        caller.resume(0, 65536, &mut old, &mut page),
-        caller.get_within(0, 1000, b"a", &mut old),
+        told(caller.upsert_within(0, 0, b"a", b"x", &mut old), SPENT),
+        told(caller.is_idle(0), OK),
+        told(caller.upsert_within(0, 1, b"a", b"x", &mut old), SPENT),
+        told(caller.get_within(0, 9, b"a", &mut old), UNFINISHED),
+        told(caller.resume(0, 65536, &mut old, &mut page), OK),
+        told(caller.get_within(0, 1000, b"a", &mut old), OK),
     ]
 }
 
 #[test]
 fn calls_take_so_many_steps(rt: HostRuntime) {
-    let wanted = [SPENT, OK, SPENT, UNFINISHED, OK, OK];
-    assert!(rt; told_within(rt.alloc()) == wanted);
+    check(&rt, &told_within(rt.alloc()));
 }
 
 #[test]
 fn handles_are_opened_and_closed(rt: HostRuntime) {
-    let wanted = [
-        CLOSED, BAD_LIMITS, BAD_LIMITS, OK, OK, OPEN, OPEN, OK, CLOSED, CLOSED, OPEN, OK, OK, OK,
-    ];
-    assert!(rt; told_of_handles(rt.alloc()) == wanted);
+    check(&rt, &told_of_handles(rt.alloc()));
 }
 
 /// What calls on both seats answer.
-fn told_of_calls(caller: &mut Caller) -> [u32; 12]
+fn told_of_calls(caller: &mut Caller) -> [Answer; 12]
     requires { MayCallOn caller.old.tree.kept.value caller.old.since }
 {
     let mut old = no_bytes();
     [
-        caller.insert(0, b"a", b"x", &mut old),
-        caller.insert(1, b"a", b"y", &mut old),
-        caller.upsert(1, b"a", b"y", &mut old),
-        caller.swap(0, b"a", b"x", b"z", &mut old),
-        caller.swap(0, b"a", b"y", b"z", &mut old),
-        caller.get(0, b"a", &mut old),
-        caller.delete(1, b"a", &mut old),
-        caller.get(0, b"a", &mut old),
-        caller.tidy(0, b"a"),
-        caller.get(2, b"a", &mut old),
-        caller.get(0, &[0; 65], &mut old),
-        caller.insert(0, b"a", &[0; 65], &mut old),
+        told(caller.insert(0, b"a", b"x", &mut old), OK),
+        told(caller.insert(1, b"a", b"y", &mut old), EXISTS),
+        told(caller.upsert(1, b"a", b"y", &mut old), REPLACED),
+        told(caller.swap(0, b"a", b"x", b"z", &mut old), DIFFERS),
+        told(caller.swap(0, b"a", b"y", b"z", &mut old), OK),
+        told(caller.get(0, b"a", &mut old), OK),
+        told(caller.delete(1, b"a", &mut old), OK),
+        told(caller.get(0, b"a", &mut old), ABSENT),
+        told(caller.tidy(0, b"a"), OK),
+        told(caller.get(2, b"a", &mut old), NO_SEAT),
+        told(caller.get(0, &[0; 65], &mut old), TOO_LONG),
+        told(caller.insert(0, b"a", &[0; 65], &mut old), TOO_LONG),
     ]
 }
 
 #[test]
 fn calls_are_told(rt: HostRuntime) {
-    let wanted = [
-        OK, EXISTS, REPLACED, DIFFERS, OK, OK, OK, ABSENT, OK, NO_SEAT, TOO_LONG, TOO_LONG,
-    ];
-    assert!(rt; told_of_calls(&mut two_seats(rt.alloc())) == wanted);
+    check(&rt, &told_of_calls(&mut two_seats(rt.alloc())));
 }
 
 /// What deletions by value answer.
-fn told_of_deletions(caller: &mut Caller) -> [u32; 7]
+fn told_of_deletions(caller: &mut Caller) -> [Answer; 7]
     requires { MayCallOn caller.old.tree.kept.value caller.old.since }
 {
     let mut old = no_bytes();
     [
-        caller.delete_if(0, b"a", b"x", &mut old),
-        caller.insert(0, b"a", b"x", &mut old),
-        caller.delete_if(1, b"a", b"y", &mut old),
-        caller.delete_if(1, b"a", b"x", &mut old),
-        caller.get(0, b"a", &mut old),
-        caller.delete_if(2, b"a", b"x", &mut old),
-        caller.delete_if(0, b"a", &[0; 65], &mut old),
+        told(caller.delete_if(0, b"a", b"x", &mut old), ABSENT),
+        told(caller.insert(0, b"a", b"x", &mut old), OK),
+        told(caller.delete_if(1, b"a", b"y", &mut old), DIFFERS),
+        told(caller.delete_if(1, b"a", b"x", &mut old), OK),
+        told(caller.get(0, b"a", &mut old), ABSENT),
+        told(caller.delete_if(2, b"a", b"x", &mut old), NO_SEAT),
+        told(caller.delete_if(0, b"a", &[0; 65], &mut old), TOO_LONG),
     ]
 }
 
 #[test]
 fn values_are_deleted(rt: HostRuntime) {
-    let wanted = [ABSENT, OK, DIFFERS, OK, ABSENT, NO_SEAT, TOO_LONG];
-    assert!(rt; told_of_deletions(&mut two_seats(rt.alloc())) == wanted);
+    check(&rt, &told_of_deletions(&mut two_seats(rt.alloc())));
 }
 
 /// What additions answer, and the sum.
-fn told_of_additions(caller: &mut Caller) -> ([u32; 7], Bytes)
+struct Additions {
+    answers: [Answer; 7],
+    sum: Bytes,
+}
+
+/// Adds numbers.
+fn told_of_additions(caller: &mut Caller) -> Additions
     requires { MayCallOn caller.old.tree.kept.value caller.old.since }
 {
     let mut old = no_bytes();
     let mut sum = no_bytes();
-    let told = [
-        caller.add(0, b"a", 254, &mut old),
-        caller.add(1, b"a", 3, &mut old),
-        caller.insert(0, b"b", b"x", &mut old),
-        caller.add(0, b"b", 1, &mut old),
-        caller.get(0, b"a", &mut sum),
-        caller.add(2, b"a", 1, &mut old),
-        caller.add(0, &[0; 65], 1, &mut old),
+    let answers = [
+        told(caller.add(0, b"a", 254, &mut old), OK),
+        told(caller.add(1, b"a", 3, &mut old), REPLACED),
+        told(caller.insert(0, b"b", b"x", &mut old), OK),
+        told(caller.add(0, b"b", 1, &mut old), DIFFERS),
+        told(caller.get(0, b"a", &mut sum), OK),
+        told(caller.add(2, b"a", 1, &mut old), NO_SEAT),
+        told(caller.add(0, &[0; 65], 1, &mut old), TOO_LONG),
     ];
-    (told, sum)
+    Additions { answers, sum }
 }
 
 #[test]
 fn numbers_are_added(rt: HostRuntime) {
-    let (told, sum) = told_of_additions(&mut two_seats(rt.alloc()));
-    assert!(rt; told == [OK, REPLACED, OK, DIFFERS, OK, NO_SEAT, TOO_LONG]);
-    assert!(rt; sum.length == 8 && sum.bytes.starts_with(&[0, 0, 0, 0, 0, 0, 1, 1]));
+    let Additions { answers, sum } = told_of_additions(&mut two_seats(rt.alloc()));
+    check(&rt, &answers);
+    assert_eq!(rt; sum.length, 8, "the sum's length");
+    assert!(rt;
+        sum.bytes.starts_with(&[0, 0, 0, 0, 0, 0, 1, 1]),
+        "{:?}",
+        sum.bytes
+    );
 }
 
 /// Whether a page backward shows the lower two of three pairs, and that it is the last one.
@@ -265,7 +287,10 @@ fn shows_two_pairs(caller: &mut Caller) -> bool
 
 #[test]
 fn pages_backward_are_shown(rt: HostRuntime) {
-    assert!(rt; shows_two_pairs(&mut two_seats(rt.alloc())));
+    assert!(rt;
+        shows_two_pairs(&mut two_seats(rt.alloc())),
+        "the lower two of three pairs"
+    );
 }
 
 /// Whether a page backward that is begun with one step is shown where it is resumed.
@@ -299,7 +324,10 @@ fn resumes_a_page(caller: &mut Caller) -> Option<bool>
 #[test]
 fn pages_backward_are_resumed(rt: HostRuntime) -> Result<(), Fail> {
     let mut caller = two_seats(rt.alloc());
-    assert!(rt; resumes_a_page(&mut caller).ok_or("no seat")?);
+    assert!(rt;
+        resumes_a_page(&mut caller).ok_or("no seat")?,
+        "a page of one pair"
+    );
     Ok(())
 }
 
@@ -330,7 +358,10 @@ fn shows_one_pair(caller: &mut Caller) -> bool
 
 #[test]
 fn pages_and_room_are_shown(rt: HostRuntime) {
-    assert!(rt; shows_one_pair(&mut two_seats(rt.alloc())));
+    assert!(rt;
+        shows_one_pair(&mut two_seats(rt.alloc())),
+        "one pair, and free room"
+    );
 }
 
 /// A pair of a key and a value of one byte each.
@@ -342,7 +373,7 @@ fn short_pair(key: u8, value: u8) -> Pair {
 }
 
 /// What openings with pairs answer in turn, and lookups in the tree that is opened.
-fn told_of_loads(alloc: Global) -> [u32; 8] {
+fn told_of_loads(alloc: Global) -> [Answer; 8] {
     let mut limits = no_limits();
     let mut old = no_bytes();
     let mut caller = Caller::unopened();
@@ -351,75 +382,92 @@ fn told_of_loads(alloc: Global) -> [u32; 8] {
     let pairs = [short_pair(b'a', b'x'), short_pair(b'b', b'y'), long];
     let turned = [short_pair(b'b', b'y'), short_pair(b'a', b'x')];
     let bad = caller.open_from(alloc, &limits, &pairs);
-    let told = bwtree_raw_limits_for_keys(2, 10, &mut limits);
+    let made = bwtree_raw_limits_for_keys(2, 10, &mut limits);
     [
-        bad,
-        told,
-        caller.open_from(alloc, &limits, &pairs),
-        caller.open_from(alloc, &limits, &turned),
-        caller.open_from(alloc, &limits, &pairs[..2]),
-        caller.open_from(alloc, &limits, &pairs[..1]),
-        caller.get(1, b"b", &mut old),
-        caller.insert(0, b"a", b"z", &mut old),
+        told(bad, BAD_LIMITS),
+        told(made, OK),
+        told(caller.open_from(alloc, &limits, &pairs), TOO_LONG),
+        told(caller.open_from(alloc, &limits, &turned), BAD_ORDER),
+        told(caller.open_from(alloc, &limits, &pairs[..2]), OK),
+        told(caller.open_from(alloc, &limits, &pairs[..1]), OPEN),
+        told(caller.get(1, b"b", &mut old), OK),
+        told(caller.insert(0, b"a", b"z", &mut old), EXISTS),
     ]
 }
 
 #[test]
 fn trees_are_opened_with_pairs(rt: HostRuntime) {
-    let wanted = [BAD_LIMITS, OK, TOO_LONG, BAD_ORDER, OK, OPEN, OK, EXISTS];
-    assert!(rt; told_of_loads(rt.alloc()) == wanted);
+    check(&rt, &told_of_loads(rt.alloc()));
 }
 
 /// What a closing with pairs answers for which there is no room, what comes then, and how many pairs there are.
-fn told_of_pairs(alloc: Global, caller: &mut Caller, pairs: &mut [Pair]) -> ([u32; 9], u64)
+struct Closings {
+    answers: [Answer; 9],
+    count: u64,
+}
+
+/// Closes a tree with its pairs.
+fn told_of_pairs(alloc: Global, caller: &mut Caller, pairs: &mut [Pair]) -> Closings
     requires { MayCallOn caller.old.tree.kept.value caller.old.since }
 {
     let mut old = no_bytes();
     let mut count = 0;
-    let told = [
-        Caller::unopened().close_pairs(alloc, pairs, &mut count),
-        caller.insert(0, b"b", b"x", &mut old),
-        caller.insert(1, b"a", b"y", &mut old),
-        caller.close_pairs(alloc, &mut [], &mut count),
-        caller.get(0, b"a", &mut old),
-        caller.vacate(),
-        caller.close_pairs(alloc, pairs, &mut count),
-        caller.close_pairs(alloc, pairs, &mut count),
-        caller.vacate(),
+    let answers = [
+        told(
+            Caller::unopened().close_pairs(alloc, pairs, &mut count),
+            CLOSED,
+        ),
+        told(caller.insert(0, b"b", b"x", &mut old), OK),
+        told(caller.insert(1, b"a", b"y", &mut old), OK),
+        told(caller.close_pairs(alloc, &mut [], &mut count), NO_ROOM),
+        told(caller.get(0, b"a", &mut old), CLOSED),
+        told(caller.vacate(), OPEN),
+        told(caller.close_pairs(alloc, pairs, &mut count), OK),
+        told(caller.close_pairs(alloc, pairs, &mut count), CLOSED),
+        told(caller.vacate(), OK),
     ];
-    (told, count)
+    Closings { answers, count }
 }
 
 #[test]
 fn trees_are_closed_with_their_pairs(rt: HostRuntime) {
     let mut caller = two_seats(rt.alloc());
     let mut pairs = [no_pair(), no_pair(), short_pair(b'c', b'z')];
-    let (told, count) = told_of_pairs(rt.alloc(), &mut caller, &mut pairs);
-    assert!(rt; told == [CLOSED, OK, OK, NO_ROOM, CLOSED, OPEN, OK, CLOSED, OK] && count == 2);
-    assert!(rt; pairs[0].key.bytes[0] == b'a' && pairs[0].value.bytes[0] == b'y');
-    assert!(rt; pairs[1].key.bytes[0] == b'b' && pairs[1].value.length == 1);
-    assert!(rt; pairs[2].key.bytes[0] == b'c');
+    let Closings { answers, count } = told_of_pairs(rt.alloc(), &mut caller, &mut pairs);
+    check(&rt, &answers);
+    assert_eq!(rt; count, 2, "pairs");
+    assert!(rt;
+        pairs[0].key.bytes[0] == b'a' && pairs[0].value.bytes[0] == b'y',
+        "a and y"
+    );
+    assert!(rt;
+        pairs[1].key.bytes[0] == b'b' && pairs[1].value.length == 1,
+        "b and its value"
+    );
+    assert!(rt; pairs[2].key.bytes[0] == b'c', "the third place as it was");
 }
 
 /// What closings of pairs that wait answer.
-fn told_of_dropped_pairs(alloc: Global, caller: &mut Caller) -> [u32; 5]
+fn told_of_dropped_pairs(alloc: Global, caller: &mut Caller) -> [Answer; 5]
     requires { MayCallOn caller.old.tree.kept.value caller.old.since }
 {
     let mut old = no_bytes();
     let mut count = 0;
     [
-        caller.insert(0, b"a", b"x", &mut old),
-        caller.close_pairs(alloc, &mut [], &mut count),
-        caller.close(),
-        caller.close(),
-        caller.vacate(),
+        told(caller.insert(0, b"a", b"x", &mut old), OK),
+        told(caller.close_pairs(alloc, &mut [], &mut count), NO_ROOM),
+        told(caller.close(), OK),
+        told(caller.close(), CLOSED),
+        told(caller.vacate(), OK),
     ]
 }
 
 #[test]
 fn pairs_that_wait_are_dropped(rt: HostRuntime) {
-    let told = told_of_dropped_pairs(rt.alloc(), &mut two_seats(rt.alloc()));
-    assert!(rt; told == [OK, NO_ROOM, OK, CLOSED, OK]);
+    check(
+        &rt,
+        &told_of_dropped_pairs(rt.alloc(), &mut two_seats(rt.alloc())),
+    );
 }
 
 /// Begins a command on an idle seat, with a budget of one step.
@@ -430,7 +478,7 @@ fn begins(place: &mut Place, command: Command) -> bool
 }
 
 /// What calls answer while another call is inside seat 0, and after that.
-fn told_of_seats(alloc: Global) -> Option<[u32; 13]> {
+fn told_of_seats(alloc: Global) -> Option<[Answer; 13]> {
     let mut old = no_bytes();
     let mut page = no_page();
     let mut count = 0;
@@ -444,11 +492,11 @@ fn told_of_seats(alloc: Global) -> Option<[u32; 13]> {
         Err(_) => return None,
     };
     let inside = [
-        caller.get(0, b"a", &mut old),
-        caller.is_idle(0),
-        caller.close(),
-        caller.close_pairs(alloc, &mut [], &mut count),
-        caller.is_idle(1),
+        told(caller.get(0, b"a", &mut old), BUSY),
+        told(caller.is_idle(0), BUSY),
+        told(caller.close(), BUSY),
+        told(caller.close_pairs(alloc, &mut [], &mut count), BUSY),
+        told(caller.is_idle(1), OK),
     ];
     let is_begun = begins(&mut place, Command::Get(Key::default()));
     finish(shared, 0, hand, place, OK);
@@ -462,22 +510,20 @@ fn told_of_seats(alloc: Global) -> Option<[u32; 13]> {
         third,
         fourth,
         fifth,
-        caller.close_pairs(alloc, &mut [], &mut count),
-        caller.get(0, b"a", &mut old),
-        caller.is_idle(0),
-        caller.resume(0, 0, &mut old, &mut page),
-        caller.resume(0, 65536, &mut old, &mut page),
-        caller.resume(0, 1, &mut old, &mut page),
-        caller.is_idle(0),
-        caller.close(),
+        told(caller.close_pairs(alloc, &mut [], &mut count), UNFINISHED),
+        told(caller.get(0, b"a", &mut old), UNFINISHED),
+        told(caller.is_idle(0), UNFINISHED),
+        told(caller.resume(0, 0, &mut old, &mut page), SPENT),
+        told(caller.resume(0, 65536, &mut old, &mut page), ABSENT),
+        told(caller.resume(0, 1, &mut old, &mut page), IDLE),
+        told(caller.is_idle(0), OK),
+        told(caller.close(), OK),
     ])
 }
 
 #[test]
 fn seats_are_busy_and_unfinished(rt: HostRuntime) -> Result<(), Fail> {
-    let wanted = [
-        BUSY, BUSY, BUSY, BUSY, OK, UNFINISHED, UNFINISHED, UNFINISHED, SPENT, ABSENT, IDLE, OK, OK,
-    ];
-    assert!(rt; told_of_seats(rt.alloc()).ok_or("no seat")? == wanted);
+    let answers = told_of_seats(rt.alloc()).ok_or("no seat")?;
+    check(&rt, &answers);
     Ok(())
 }
