@@ -46,7 +46,7 @@ fn few_pairs_take_little(rt: HostRuntime) {
         Ok(pairs) => is_listed_in_little(alloc, pairs.as_slice()),
         Err(_) => None,
     };
-    assert!(rt; listed == Some(true));
+    assert!(rt; listed == Some(true), "{listed:?}");
 }
 
 /// Whether a closed tree whose listing wants one growth, which is refused, lists its pairs when it is asked again.
@@ -68,7 +68,7 @@ fn a_refused_listing_leaves_the_tree(rt: HostRuntime) {
         Ok(pairs) => is_listed_again(alloc, &heap, pairs.as_slice()),
         Err(_) => None,
     };
-    assert!(rt; listed == Some(true));
+    assert!(rt; listed == Some(true), "{listed:?}");
 }
 
 /// The pairs from a key on, page by page, by at most so many pages; none where there are more.
@@ -115,5 +115,5 @@ fn pages_have_all_pairs(rt: HostRuntime) {
         Ok(pairs) => are_paged(alloc, pairs.as_slice()),
         Err(_) => None,
     };
-    assert!(rt; paged == Some(true));
+    assert!(rt; paged == Some(true), "{paged:?}");
 }

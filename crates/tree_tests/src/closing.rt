@@ -105,7 +105,7 @@ fn growths_of_pairs(alloc: Global) -> Option<u64> {
 fn each_growth_of_a_closing_is_refused(rt: HostRuntime) -> Result<(), Fail> {
     let count = growths_of_pairs(rt.alloc());
     println!(rt; "closing: {count:?} growths")?;
-    assert!(rt; count > Some(0));
+    assert!(rt; count > Some(0), "{count:?} growths");
     Ok(())
 }
 
@@ -122,7 +122,10 @@ fn a_seat_that_stays_holds_up(alloc: Global) -> bool {
 
 #[test]
 fn a_seat_that_stays_keeps_rows(rt: HostRuntime) {
-    assert!(rt; a_seat_that_stays_holds_up(rt.alloc()));
+    assert!(rt;
+        a_seat_that_stays_holds_up(rt.alloc()),
+        "a lookup that stays"
+    );
 }
 
 /// Lets the seat go that is the last but one of a list.
@@ -137,8 +140,15 @@ fn lets_one_go(tree: &Tree, seats: &mut Vec<BwSeat>) -> bool
     give_back(tree, seats, last)
 }
 
-/// Why a tree isn't closed without one of its seats, where another one isn't idle and there is no memory, and how many seats come back.
-fn closed_without(alloc: Global, heap: Heap<'_>) -> Option<(CloseRefusal, usize)> {
+/// Why a tree isn't closed, and how many seats come back.
+#[derive(Clone, Copy, Debug, PartialEq)]
+struct Refused {
+    refusal: CloseRefusal,
+    seats: usize,
+}
+
+/// How a tree isn't closed without one of its seats, where another one isn't idle and there is no memory.
+fn closed_without(alloc: Global, heap: Heap<'_>) -> Option<Refused> {
     let Ok(limits) = Limits::new(2, 64, 64, 1) else {
         return None;
     };
@@ -148,7 +158,10 @@ fn closed_without(alloc: Global, heap: Heap<'_>) -> Option<(CloseRefusal, usize)
     let well = runs(&tree, &mut seats, Run::Stays) && lets_one_go(&tree, &mut seats);
     heap.set(0);
     match tree.close(heap, seats) {
-        Err(error) if well => Some((error.refusal, error.seats.len())),
+        Err(error) if well => Some(Refused {
+            refusal: error.refusal,
+            seats: error.seats.len(),
+        }),
         _ => None,
     }
 }
@@ -157,5 +170,10 @@ fn closed_without(alloc: Global, heap: Heap<'_>) -> Option<(CloseRefusal, usize)
 #[test]
 fn refusals_come_in_order(rt: HostRuntime) {
     let heap = Refusing::new(rt.alloc());
-    assert!(rt; closed_without(rt.alloc(), &heap) == Some((CloseRefusal::Seats, 1)));
+    let refused = closed_without(rt.alloc(), &heap);
+    let expected = Refused {
+        refusal: CloseRefusal::Seats,
+        seats: 1,
+    };
+    assert!(rt; refused == Some(expected), "{refused:?}");
 }

@@ -184,7 +184,15 @@ fn few_pids() -> Result<Limits, BadLimits> {
 }
 
 /// How many keys each thread had there in all, how many updates and deletions of these were refused, and how many pairs are left.
-fn by_threads<R: Threads + Sync>(rt: &R, alloc: Global) -> Option<(Vec<u32>, u32, usize)> {
+#[derive(Debug, Drop)]
+struct Outcome {
+    taken: Vec<u32>,
+    refused: u32,
+    left: usize,
+}
+
+/// What comes of the threads.
+fn by_threads<R: Threads + Sync>(rt: &R, alloc: Global) -> Option<Outcome> {
     let mut works = Vec::new(alloc);
     for first in 0..THREADS {
         let there = Vec::new(alloc);
@@ -203,14 +211,18 @@ fn by_threads<R: Threads + Sync>(rt: &R, alloc: Global) -> Option<(Vec<u32>, u32
         taken.push(work.taken).ok()?;
         refused = refused.saturating_add(work.refused);
     }
-    Some((taken, refused, pairs.len()))
+    Some(Outcome {
+        taken,
+        refused,
+        left: pairs.len(),
+    })
 }
 
 #[test]
 fn four_threads_empty_a_full_tree(rt: HostRuntime) {
-    let told = by_threads(&rt, rt.alloc());
-    let right = told.as_ref().is_some_and(|told| told.0.iter().all(|taken| *taken > 0)
-        && told.1 == 0
-        && told.2 == 0);
-    assert!(rt; right, "{told:?}");
+    let outcome = by_threads(&rt, rt.alloc());
+    let right = outcome.as_ref().is_some_and(|found| {
+        found.taken.iter().all(|taken| *taken > 0) && found.refused == 0 && found.left == 0
+    });
+    assert!(rt; right, "{outcome:?}");
 }

@@ -56,18 +56,27 @@ fn two_threads_share_a_tree(rt: HostRuntime) -> Result<(), Fail> {
     let insert = Command::Insert(city.copied(), country.copied());
     let asks = vec![in rt.alloc(); ask(insert), ask(Command::Get(city.copied()))]?;
     let Some((asks, pairs)) = share(&rt, rt.alloc(), asks) else {
-        assert!(rt; false);
+        assert!(rt; false, "no memory");
         return Ok(());
     };
     let [inserted, found] = asks.as_slice() else {
-        assert!(rt; false);
+        assert!(rt; false, "{} answers", asks.len());
         return Ok(());
     };
-    assert!(rt; inserted.told == Some(Ok(Reply::Inserted)));
+    assert!(rt;
+        inserted.told == Some(Ok(Reply::Inserted)),
+        "{:?}",
+        inserted.told
+    );
     assert!(rt;
         found.told == Some(Ok(Reply::None))
-            || found.told == Some(Ok(Reply::Value(country.copied())))
+            || found.told == Some(Ok(Reply::Value(country.copied()))),
+        "{:?}",
+        found.told
     );
-    assert!(rt; pairs.as_slice() == [(city, country)].as_slice());
+    assert!(rt;
+        pairs.as_slice() == [(city, country)].as_slice(),
+        "{pairs:?}"
+    );
     Ok(())
 }

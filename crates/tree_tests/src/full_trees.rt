@@ -43,20 +43,27 @@ fn moved(
     }
 }
 
-/// How many keys a tree takes, and how many one of the other limits has that begins with these and takes the others.
-fn filled_and_moved(alloc: Global, small: Limits, larger: Limits) -> Option<(u32, usize)> {
+/// How many keys a tree takes, and how many pairs another one has that begins with these and takes the others.
+#[derive(Clone, Copy, Debug)]
+struct Filled {
+    keys: u32,
+    pairs: usize,
+}
+
+/// How many a tree takes, and one of the other limits.
+fn filled_and_moved(alloc: Global, small: Limits, larger: Limits) -> Option<Filled> {
     let Ok((tree, mut seats)) = opened(alloc, small) else {
         return None;
     };
-    let count = insert_from(&tree, &mut seats, 0);
+    let keys = insert_from(&tree, &mut seats, 0);
     let (tree, mut seats) = moved(alloc, tree, seats, larger)?;
-    insert_from(&tree, &mut seats, count);
-    let pairs = tree.close(alloc, seats).ok()?;
-    Some((count, pairs.len()))
+    insert_from(&tree, &mut seats, keys);
+    let pairs = tree.close(alloc, seats).ok()?.len();
+    Some(Filled { keys, pairs })
 }
 
-/// How many keys a small tree takes, and how many a larger one that begins with these.
-fn small_and_larger(alloc: Global) -> Option<(u32, usize)> {
+/// How many a small tree takes, and a larger one.
+fn small_and_larger(alloc: Global) -> Option<Filled> {
     let small = Limits::new(1, 64, 64, 1).ok()?;
     let larger = Limits::for_keys(1, u64::from(KEYS)).ok()?;
     filled_and_moved(alloc, small, larger)
@@ -64,15 +71,15 @@ fn small_and_larger(alloc: Global) -> Option<(u32, usize)> {
 
 #[test]
 fn a_full_tree_is_moved(rt: HostRuntime) {
-    let Some((before, after)) = small_and_larger(rt.alloc()) else {
-        assert!(rt; false);
-        return;
-    };
-    assert!(rt; before < KEYS && after == KEYS as usize);
+    let filled = small_and_larger(rt.alloc());
+    assert!(rt;
+        filled.is_some_and(|filled| filled.keys < KEYS && filled.pairs == KEYS as usize),
+        "{filled:?}"
+    );
 }
 
-/// How many keys a tree takes that has so many narrow rows, rows for pages, and wide ones, and how many one that is proposed for such pairs.
-fn three_widths_and_larger(alloc: Global, [narrow, pages, wide]: [u64; 3]) -> Option<(u32, usize)> {
+/// How many a tree takes that has so many narrow rows, rows for pages, and wide ones, and one that is proposed for such pairs.
+fn three_widths_and_larger(alloc: Global, [narrow, pages, wide]: [u64; 3]) -> Option<Filled> {
     let wide_from = narrow.checked_add(pages)?;
     let widths = Widths {
         narrow_rows: narrow,
@@ -89,13 +96,10 @@ fn three_widths_and_larger(alloc: Global, [narrow, pages, wide]: [u64; 3]) -> Op
 #[test]
 fn a_full_tree_of_three_widths_is_moved(rt: HostRuntime) {
     for rows in [[64, 64, 64], [512, 64, 64], [64, 512, 64], [64, 64, 512]] {
-        let Some((before, after)) = three_widths_and_larger(rt.alloc(), rows) else {
-            assert!(rt; false, "{rows:?}");
-            continue;
-        };
+        let filled = three_widths_and_larger(rt.alloc(), rows);
         assert!(rt;
-            before < KEYS && after == KEYS as usize,
-            "{rows:?} {before} {after}"
+            filled.is_some_and(|filled| filled.keys < KEYS && filled.pairs == KEYS as usize),
+            "{rows:?}: {filled:?}"
         );
     }
 }
@@ -123,9 +127,15 @@ fn works_alone(tree: &Tree, seats: &mut Vec<BwSeat>, work: Work, first: u32, cou
     count
 }
 
-/// One seat takes a chain out of the tree and is idle; the other one inserts until it is refused, and again after a tidying of the first. Tells
-/// how often it was done each time.
-fn one_holds_back(tree: &Tree, seats: &mut Vec<BwSeat>) -> (u32, u32)
+/// How many keys a seat inserts until it is refused: at first, and again after a tidying of another one.
+#[derive(Clone, Copy, Debug)]
+struct Inserted {
+    before: u32,
+    after: u32,
+}
+
+/// One seat takes a chain out of the tree and is idle; the other one inserts, and again after a tidying of the first.
+fn one_holds_back(tree: &Tree, seats: &mut Vec<BwSeat>) -> Inserted
     requires own { AreSeatsOf tree.now seats.old.items }
     ensures own { AreSeatsOf tree.now seats.new.items }
 {
@@ -136,23 +146,23 @@ fn one_holds_back(tree: &Tree, seats: &mut Vec<BwSeat>) -> (u32, u32)
     works_alone(tree, seats, Work::Tidy, 0, 1);
     other_reads(tree, seats);
     let after = works_alone(tree, seats, Work::Insert, before.saturating_add(9), KEYS);
-    (before, after)
+    Inserted { before, after }
 }
 
-/// How often it was done each time, in a small tree with two seats.
-fn held_back(alloc: Global) -> Option<(u32, u32)> {
+/// How many it inserts in a small tree with two seats.
+fn held_back(alloc: Global) -> Option<Inserted> {
     let (tree, mut seats) = new_tree(alloc, Limits::new(2, 64, 64, 1).ok())?;
-    let counts = one_holds_back(&tree, &mut seats);
+    let inserted = one_holds_back(&tree, &mut seats);
     tree.close(alloc, seats).ok()?;
-    Some(counts)
+    Some(inserted)
 }
 
 #[test]
 fn a_tidying_gives_rows_back(rt: HostRuntime) {
-    let Some((before, after)) = held_back(rt.alloc()) else {
-        assert!(rt; false);
-        return;
-    };
-    assert!(rt; 0 < before && before < KEYS);
-    assert!(rt; 0 < after && after < KEYS);
+    let inserted = held_back(rt.alloc());
+    let some = |count| 0 < count && count < KEYS;
+    assert!(rt;
+        inserted.is_some_and(|inserted| some(inserted.before) && some(inserted.after)),
+        "{inserted:?}"
+    );
 }

@@ -95,7 +95,8 @@ fn all_is_done<R: Threads + Wait + Sync>(rt: &R, alloc: Global) -> Option<bool> 
 
 #[test]
 fn what_is_refused_comes_back(rt: HostRuntime) {
-    assert!(rt; all_is_done(&rt, rt.alloc()) == Some(true));
+    let done = all_is_done(&rt, rt.alloc());
+    assert!(rt; done == Some(true), "{done:?}");
 }
 
 /// Runs a command to its end on the only seat of a tree.
@@ -110,5 +111,6 @@ fn runs_to_end<R: Wait>(rt: &R, alloc: Global) -> Option<bool> {
 
 #[test]
 fn a_command_runs_to_its_end(rt: HostRuntime) {
-    assert!(rt; runs_to_end(&rt, rt.alloc()) == Some(true));
+    let ran = runs_to_end(&rt, rt.alloc());
+    assert!(rt; ran == Some(true), "{ran:?}");
 }

@@ -159,7 +159,7 @@ fn seats_share_jobs(rt: HostRuntime) {
         (2, 3, 0),
     ] {
         let right = are_counted(&rt, rt.alloc(), (seats, (0, count), each));
-        assert!(rt; right, "{seats} {count} {each}");
+        assert!(rt; right, "{seats} seats, {count} jobs of {each}");
     }
 }
 
@@ -211,5 +211,6 @@ fn jobs_run_at_once(rt: HostRuntime) {
         late: AtomicBool::new(false),
     };
     let ran = are_run(&rt, rt.alloc(), 256, (2, (1, 3), 2), &gate);
-    assert!(rt; ran && !gate.late.load(Ordering::SeqCst));
+    let late = gate.late.load(Ordering::SeqCst);
+    assert!(rt; ran && !late, "ran: {ran}, late: {late}");
 }

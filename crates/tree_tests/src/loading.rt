@@ -5,6 +5,7 @@ use crate::trees::closed;
 use bw_model::{Key, Limits, Value};
 use running_tree::LoadError;
 use std::alloc::{AllocError, Global};
+use std::test::Fail;
 use workers::opened_from;
 
 /// Whether the pairs of a tree that is opened with these, and closed, are the same.
@@ -43,20 +44,14 @@ fn first_refused(alloc: Global, limits: Limits, count: u32) -> Option<LoadError>
     }
 }
 
-/// No pair, and 64 pairs in a tree of 64 rows; and then too many for the rows.
-fn are_moved_if_they_fit(alloc: Global) -> bool {
-    let Ok(limits) = Limits::new(1, 64, 64, 1) else {
-        return false;
-    };
-    for count in [0, 1, 64] {
-        if !first_are_moved(alloc, limits, count) {
-            return false;
-        }
-    }
-    first_refused(alloc, limits, 4000) == Some(LoadError::Full)
-}
-
+// No pair, and 64 pairs in a tree of 64 rows; and then too many for the rows.
 #[test]
-fn pairs_are_moved_if_they_fit(rt: HostRuntime) {
-    assert!(rt; are_moved_if_they_fit(rt.alloc()));
+fn pairs_are_moved_if_they_fit(rt: HostRuntime) -> Result<(), Fail> {
+    let limits = Limits::new(1, 64, 64, 1)?;
+    for count in [0, 1, 64] {
+        assert!(rt; first_are_moved(rt.alloc(), limits, count), "{count} pairs");
+    }
+    let refused = first_refused(rt.alloc(), limits, 4000);
+    assert!(rt; refused == Some(LoadError::Full), "{refused:?}");
+    Ok(())
 }

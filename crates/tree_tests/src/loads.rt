@@ -74,7 +74,8 @@ fn are_in_any_order(alloc: Global) -> Option<bool> {
 
 #[test]
 fn pairs_are_loaded_in_any_order(rt: HostRuntime) {
-    assert!(rt; are_in_any_order(rt.alloc()) == Some(true));
+    let loaded = are_in_any_order(rt.alloc());
+    assert!(rt; loaded == Some(true), "{loaded:?}");
 }
 
 // What came before a stop stays, and an empty list is loaded into a full tree.
@@ -89,5 +90,6 @@ fn stop_at_a_pair(alloc: Global) -> Option<bool> {
 
 #[test]
 fn a_full_tree_keeps_what_was_loaded(rt: HostRuntime) {
-    assert!(rt; stop_at_a_pair(rt.alloc()) == Some(true));
+    let stopped = stop_at_a_pair(rt.alloc());
+    assert!(rt; stopped == Some(true), "{stopped:?}");
 }

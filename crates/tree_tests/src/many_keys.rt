@@ -43,17 +43,31 @@ fn are_all(pairs: &[(Key, Value)]) -> bool {
     left.next().is_none()
 }
 
-/// For how many keys each work is done on a new tree, and whether it lists all of them as it is closed.
-fn held(alloc: Global) -> Option<([u32; 3], bool)> {
+/// For how many keys each work is done, and whether the tree lists all of them as it is closed.
+#[derive(Clone, Copy, Debug, PartialEq)]
+struct Outcome {
+    counts: [u32; 3],
+    lists_all: bool,
+}
+
+/// What comes of the works on a new tree.
+fn held(alloc: Global) -> Option<Outcome> {
     let limits = without_stops(Limits::for_many_keys(SEATS, u64::from(KEYS)));
     let (tree, mut seats) = new_tree(alloc, limits)?;
     let counts = counts(alloc, &tree, &mut seats);
     let pairs = tree.close(alloc, seats).ok()?;
-    Some((counts.ok()?, are_all(pairs.as_slice())))
+    Some(Outcome {
+        counts: counts.ok()?,
+        lists_all: are_all(pairs.as_slice()),
+    })
 }
 
 #[test]
 fn a_hundred_thousand_keys_come_again(rt: HostRuntime) {
     let held = held(rt.alloc());
-    assert!(rt; held == Some(([KEYS; 3], true)), "{held:?}");
+    let expected = Outcome {
+        counts: [KEYS; 3],
+        lists_all: true,
+    };
+    assert!(rt; held == Some(expected), "{held:?}");
 }

@@ -72,17 +72,29 @@ impl workers::Work for Share {
 }
 
 /// How many replies were wrong, and how many pairs are left.
-fn moved<R: Threads + Sync>(rt: &R, alloc: Global) -> Option<(u32, usize)> {
+#[derive(Clone, Copy, Debug, PartialEq)]
+struct Outcome {
+    wrong: u32,
+    left: usize,
+}
+
+/// What comes of the four threads.
+fn moved<R: Threads + Sync>(rt: &R, alloc: Global) -> Option<Outcome> {
     let limits = Limits::new(4, 512, 8_192, 1).ok()?;
     let shares = vec![in alloc; Share::new(0), Share::new(1), Share::new(2), Share::new(3)].ok()?;
     let (shares, pairs) = done_at_once(rt, alloc, limits, shares)?;
     let all = shares.iter();
     let wrong = all.fold(0u32, |sum, share| sum.saturating_add(share.wrong));
-    Some((wrong, pairs.len()))
+    let left = pairs.len();
+    Some(Outcome { wrong, left })
 }
 
 #[test]
 fn four_threads_move_a_window(rt: HostRuntime) {
     let moved = moved(&rt, rt.alloc());
-    assert!(rt; moved == Some((0, 4 * KEYS as usize)), "{moved:?}");
+    let expected = Outcome {
+        wrong: 0,
+        left: 4 * KEYS as usize,
+    };
+    assert!(rt; moved == Some(expected), "{moved:?}");
 }

@@ -28,10 +28,8 @@ fn limits_are_proposed(rt: HostRuntime) {
         (1, u64::MAX, None),
         (u64::MAX, u64::MAX, None),
     ] {
-        assert!(rt;
-            numbers(Limits::for_keys(actors, keys)) == limits,
-            "{actors} {keys}"
-        );
+        let found = numbers(Limits::for_keys(actors, keys));
+        assert!(rt; found == limits, "{actors} actors, {keys} keys: {found:?}");
     }
 }
 
@@ -58,22 +56,28 @@ fn limits_of_large_trees_are_proposed(rt: HostRuntime) {
         (1, u64::MAX, None),
         (u64::MAX, u64::MAX, None),
     ] {
-        assert!(rt;
-            numbers(Limits::for_many_keys(actors, keys)) == limits,
-            "{actors} {keys}"
-        );
+        let found = numbers(Limits::for_many_keys(actors, keys));
+        assert!(rt; found == limits, "{actors} actors, {keys} keys: {found:?}");
     }
 }
 
 /// How many rows are narrow, for pages, and wide, and how many words a narrow one and one for a page have.
-fn widths(limits: Result<Limits, BadLimits>) -> Option<([u64; 3], [u64; 2])> {
+#[derive(Clone, Copy, Debug, PartialEq)]
+struct Rows {
+    counts: [u64; 3],
+    words: [u64; 2],
+}
+
+/// The rows of limits.
+fn rows_of(limits: Result<Limits, BadLimits>) -> Option<Rows> {
     let limits = limits.ok()?;
-    let rows = [
+    let counts = [
         limits.narrow_rows,
         limits.wide_from.checked_sub(limits.narrow_rows)?,
         limits.rows.checked_sub(limits.wide_from)?,
     ];
-    Some((rows, [limits.narrow_words, limits.page_words]))
+    let words = [limits.narrow_words, limits.page_words];
+    Some(Rows { counts, words })
 }
 
 #[test]
@@ -92,24 +96,32 @@ fn limits_by_width_are_proposed(rt: HostRuntime) {
         (16, 65, None),
         (u64::MAX, 0, None),
     ] {
-        let proposed = Limits::for_pairs(4, 1_000_000, key, value);
-        let wanted = words.map(|words| (million, words));
-        assert!(rt; widths(proposed) == wanted, "{key} {value}");
+        let found = rows_of(Limits::for_pairs(4, 1_000_000, key, value));
+        let expected = words.map(|words| Rows {
+            counts: million,
+            words,
+        });
+        assert!(rt; found == expected, "{key} and {value} bytes: {found:?}");
     }
-    for (actors, keys, rows) in [
+    for (actors, keys, counts) in [
         (1, 0, [320, 192, 64]),
         (63, 1_000, [29_568, 14_784, 192]),
         (4, 1_000_000, million),
         (1, 27_068_967, [8_388_800, 4_194_432, 65_536]),
     ] {
-        let proposed = Limits::for_many_keys(actors, keys);
+        let found = rows_of(Limits::for_many_keys(actors, keys));
+        let words = [24, 344];
         assert!(rt;
-            widths(proposed) == Some((rows, [24, 344])),
-            "{actors} {keys}"
+            found == Some(Rows { counts, words }),
+            "{actors} actors, {keys} keys: {found:?}"
         );
     }
-    let large = Limits::large(1, 64, 64, 1);
-    assert!(rt; widths(large) == Some(([0, 0, 64], [512, 512])));
+    let found = rows_of(Limits::large(1, 64, 64, 1));
+    let expected = Rows {
+        counts: [0, 0, 64],
+        words: [512, 512],
+    };
+    assert!(rt; found == Some(expected), "a large tree: {found:?}");
 }
 
 /// PIDs and rows, and whether they are limits, and limits of a large tree.
@@ -140,7 +152,7 @@ fn limits_have_borders(rt: HostRuntime) {
             Limits::large(1, pids, rows, 1),
         ]
         .map(|limits| numbers(limits) == Some((pids, rows)));
-        assert!(rt; taken == are, "{pids} {rows}");
+        assert!(rt; taken == are, "{pids} PIDs, {rows} rows: {taken:?}");
     }
 }
 
@@ -160,7 +172,7 @@ fn actors_have_borders(rt: HostRuntime) {
             Limits::large(actors, 64, 64, 1),
         ]
         .map(|limits| numbers(limits) == Some((64, 64)));
-        assert!(rt; taken == are, "{actors}");
+        assert!(rt; taken == are, "{actors} actors: {taken:?}");
     }
 }
 
@@ -174,7 +186,8 @@ fn most_keys_have_limits(rt: HostRuntime) {
         (17, None),
         (u64::MAX, None),
     ] {
-        assert!(rt; Limits::most_keys(actors) == most, "{actors}");
+        let found = Limits::most_keys(actors);
+        assert!(rt; found == most, "{actors} actors: {found:?}");
     }
 }
 
@@ -195,7 +208,10 @@ fn all_suffice(actors: u64, keys: u64) -> bool {
 fn rows_suffice_for_the_longest_chains(rt: HostRuntime) {
     for actors in 1..=63u64 {
         for step in 0..100u64 {
-            assert!(rt; all_suffice(actors, 96 * step), "{actors} {step}");
+            assert!(rt;
+                all_suffice(actors, 96 * step),
+                "{actors} actors, {step} steps of 96 keys"
+            );
         }
     }
 }

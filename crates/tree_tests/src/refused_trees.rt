@@ -151,7 +151,7 @@ fn growths_of_pairs(alloc: Global) -> Option<u64> {
 fn each_growth_of_a_loading_is_refused(rt: HostRuntime) -> Result<(), Fail> {
     let count = growths_of_pairs(rt.alloc());
     println!(rt; "loading: {count:?} growths")?;
-    assert!(rt; count > Some(0));
+    assert!(rt; count > Some(0), "{count:?} growths");
     Ok(())
 }
 
@@ -185,6 +185,6 @@ const ORDERS: [((u32, u32), [Option<LoadError>; 2]); 3] = [
 #[test]
 fn keys_that_do_not_ascend_are_refused(rt: HostRuntime) {
     for (keys, errors) in ORDERS {
-        assert!(rt; has_order_errors(rt.alloc(), keys, errors));
+        assert!(rt; has_order_errors(rt.alloc(), keys, errors), "{keys:?}");
     }
 }

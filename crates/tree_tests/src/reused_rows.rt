@@ -115,5 +115,6 @@ fn first_wrong(alloc: Global) -> Option<u32> {
 
 #[test]
 fn rows_are_used_again(rt: HostRuntime) {
-    assert!(rt; first_wrong(rt.alloc()).is_none());
+    let wrong = first_wrong(rt.alloc());
+    assert!(rt; wrong.is_none(), "after {wrong:?} operations");
 }

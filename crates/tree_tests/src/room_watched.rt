@@ -35,7 +35,7 @@ fn works(tree: &Tree, seat: &mut BwSeat, work: Work, first: u32, count: u32) -> 
 }
 
 /// What two idle seats in turn say is free, where they say the same.
-fn free(tree: &Tree, one: &mut BwSeat, other: &mut BwSeat) -> Option<(u32, u32)>
+fn free(tree: &Tree, one: &mut BwSeat, other: &mut BwSeat) -> Option<Room>
     requires own { IsSeatOf tree.now one.old }
     requires own_other { IsSeatOf tree.now other.old }
     ensures own { IsSeatOf tree.now one.new }
@@ -45,16 +45,26 @@ fn free(tree: &Tree, one: &mut BwSeat, other: &mut BwSeat) -> Option<(u32, u32)>
     if tree.room(other) != room {
         return None;
     }
-    let Room {
-        free_pids,
-        free_rows,
-    } = room;
-    Some((free_pids, free_rows))
+    Some(room)
 }
 
-/// How many PIDs and rows are free in a tree of two seats: at the opening; once one has inserted nine keys, which takes a chain out of the tree; once the
-/// other one has inserted until it was refused; and once the first one has tidied.
-fn filled(tree: &Tree, one: &mut BwSeat, other: &mut BwSeat) -> Option<[(u32, u32); 4]>
+/// What is free in a tree of two seats.
+#[derive(Clone, Copy, Debug, PartialEq)]
+struct Stages {
+    /// At the opening.
+    opening: Room,
+    /// Once one has inserted nine keys, which takes a chain out of the tree.
+    begun: Room,
+    /// Once the other one has inserted until it was refused.
+    full: Room,
+    /// Once the first one has tidied.
+    tidied: Room,
+    /// Once the other one has deleted the keys, as far as it wasn't refused, and both have tidied at each of them, twice.
+    emptied: Room,
+}
+
+/// What is free while the tree fills and empties.
+fn watched(tree: &Tree, one: &mut BwSeat, other: &mut BwSeat) -> Option<Stages>
     requires own { IsSeatOf tree.now one.old }
     requires own_other { IsSeatOf tree.now other.old }
     ensures own { IsSeatOf tree.now one.new }
@@ -67,11 +77,18 @@ fn filled(tree: &Tree, one: &mut BwSeat, other: &mut BwSeat) -> Option<[(u32, u3
     let full = free(tree, one, other)?;
     works(tree, one, Work::Tidy, 0, 1);
     let tidied = free(tree, one, other)?;
-    Some([opening, begun, full, tidied])
+    let emptied = emptied(tree, one, other)?;
+    Some(Stages {
+        opening,
+        begun,
+        full,
+        tidied,
+        emptied,
+    })
 }
 
-/// How many PIDs and rows are free once one seat has deleted the keys, as far as it wasn't refused, and both have tidied at each of them, twice.
-fn emptied(tree: &Tree, one: &mut BwSeat, other: &mut BwSeat) -> Option<(u32, u32)>
+/// What is free once one seat has deleted the keys, as far as it wasn't refused, and both have tidied at each of them, twice.
+fn emptied(tree: &Tree, one: &mut BwSeat, other: &mut BwSeat) -> Option<Room>
     requires own { IsSeatOf tree.now one.old }
     requires own_other { IsSeatOf tree.now other.old }
     ensures own { IsSeatOf tree.now one.new }
@@ -85,40 +102,61 @@ fn emptied(tree: &Tree, one: &mut BwSeat, other: &mut BwSeat) -> Option<(u32, u3
     free(tree, one, other)
 }
 
-/// Whether so many PIDs and rows are free in a tree of this size each time, and in the end.
-fn are_free(
-    alloc: Global,
-    size: (u64, u64),
-    filling: [(u32, u32); 4],
-    end: (u32, u32),
-) -> Option<bool> {
-    let limits = Limits::new(2, size.0, size.1, 1).ok();
-    let (tree, mut seats) = new_tree(alloc, limits)?;
+/// What is free in a new tree of so many PIDs and rows.
+fn watched_anew(alloc: Global, pids: u64, rows: u64) -> Option<Stages> {
+    let (tree, mut seats) = new_tree(alloc, Limits::new(2, pids, rows, 1).ok())?;
     let mut one = take_seat(&tree, &mut seats)?;
     let mut other = take_seat(&tree, &mut seats)?;
-    let right = filled(&tree, &mut one, &mut other)? == filling;
-    Some(right && emptied(&tree, &mut one, &mut other)? == end)
+    watched(&tree, &mut one, &mut other)
+}
+
+fn room(free_pids: u32, free_rows: u32) -> Room {
+    Room {
+        free_pids,
+        free_rows,
+    }
 }
 
 // The deletions are refused in the end, too.
 #[test]
 fn no_row_is_free_where_rows_ran_out(rt: HostRuntime) {
-    let filling = [(62, 62), (62, 52), (42, 0), (42, 8)];
-    assert!(rt; are_free(rt.alloc(), (64, 64), filling, (43, 40)) == Some(true));
+    let stages = watched_anew(rt.alloc(), 64, 64);
+    let expected = Stages {
+        opening: room(62, 62),
+        begun: room(62, 52),
+        full: room(42, 0),
+        tidied: room(42, 8),
+        emptied: room(43, 40),
+    };
+    assert!(rt; stages == Some(expected), "{stages:?}");
 }
 
 // All pages but the root and its leaf come back; of the rows, all but those of these two and what the seats hold back.
 #[test]
 fn no_pid_is_free_where_pids_ran_out(rt: HostRuntime) {
-    let filling = [(62, 1022), (62, 1012), (0, 863), (0, 871)];
-    assert!(rt; are_free(rt.alloc(), (64, 1024), filling, (60, 1016)) == Some(true));
+    let stages = watched_anew(rt.alloc(), 64, 1024);
+    let expected = Stages {
+        opening: room(62, 1022),
+        begun: room(62, 1012),
+        full: room(0, 863),
+        tidied: room(0, 871),
+        emptied: room(60, 1016),
+    };
+    assert!(rt; stages == Some(expected), "{stages:?}");
 }
 
 // The second of two words of PIDs and the last of 32 of rows are counted, too.
 #[test]
 fn all_words_are_counted(rt: HostRuntime) {
-    let filling = [(126, 2046), (126, 2036), (0, 1768), (0, 1776)];
-    assert!(rt; are_free(rt.alloc(), (128, 2048), filling, (124, 2033)) == Some(true));
+    let stages = watched_anew(rt.alloc(), 128, 2048);
+    let expected = Stages {
+        opening: room(126, 2046),
+        begun: room(126, 2036),
+        full: room(0, 1768),
+        tidied: room(0, 1776),
+        emptied: room(124, 2033),
+    };
+    assert!(rt; stages == Some(expected), "{stages:?}");
 }
 
 /// Whether a seat may ask in the midst of a lookup, which then goes on to its end.
@@ -134,7 +172,8 @@ fn asks_when_busy(alloc: Global) -> Option<bool> {
 
 #[test]
 fn a_busy_seat_asks(rt: HostRuntime) {
-    assert!(rt; asks_when_busy(rt.alloc()) == Some(true));
+    let asked = asks_when_busy(rt.alloc());
+    assert!(rt; asked == Some(true), "{asked:?}");
 }
 
 /// What a seat says that it holds back, if it is idle.
@@ -171,32 +210,37 @@ fn rows_in_limbo(limbo_rows: usize) -> Held {
 // The ninth insert finds a chain of nine rows, a base under eight deltas, and puts a base in its place.
 #[test]
 fn a_chain_waits_for_its_seat(rt: HostRuntime) {
+    let held = holds(rt.alloc());
     let expected = [rows_in_limbo(0), rows_in_limbo(9), rows_in_limbo(2)];
-    assert!(rt; holds(rt.alloc()) == Some(expected));
+    assert!(rt; held == Some(expected), "{held:?}");
 }
 
-/// How many PIDs and rows are free in a large tree of this size once a seat has inserted until it was refused; none where it wasn't.
-fn free_in_large(alloc: Global, (pids, rows): (u64, u64)) -> Option<(u32, u32)> {
+/// What is free in a large tree of so many PIDs and rows once a seat has inserted until it was refused; none where it wasn't.
+fn free_in_large(alloc: Global, (pids, rows): (u64, u64)) -> Option<Room> {
     let limits = Limits::large(1, pids, rows, 1).ok()?;
     let (tree, mut seats) = opened(alloc, limits).ok()?;
     let mut seat = take_seat(&tree, &mut seats)?;
     if works(&tree, &mut seat, Work::Insert, 0, MANY) == MANY {
         return None;
     }
-    let room = tree.room(&mut seat);
-    Some((room.free_pids, room.free_rows))
+    Some(tree.room(&mut seat))
 }
 
 // Whichever word a taking begins at, the last free row is taken, and the last PID.
 #[test]
 fn all_numbers_of_a_large_tree_are_taken(rt: HostRuntime) {
-    let rows = [(64, 64), (256, 192)].map(|size| free_in_large(rt.alloc(), size));
-    let pids = [(64, 1_024), (256, 4_096)].map(|size| free_in_large(rt.alloc(), size));
-    let right = rows
-        .iter()
-        .all(|free| free.is_some_and(|(_, rows)| rows == 0))
-        && pids
-            .iter()
-            .all(|free| free.is_some_and(|(pids, _)| pids == 0));
-    assert!(rt; right, "{rows:?} {pids:?}");
+    for size in [(64, 64), (256, 192)] {
+        let free = free_in_large(rt.alloc(), size);
+        assert!(rt;
+            free.is_some_and(|room| room.free_rows == 0),
+            "{size:?}: {free:?}"
+        );
+    }
+    for size in [(64, 1_024), (256, 4_096)] {
+        let free = free_in_large(rt.alloc(), size);
+        assert!(rt;
+            free.is_some_and(|room| room.free_pids == 0),
+            "{size:?}: {free:?}"
+        );
+    }
 }

@@ -80,7 +80,8 @@ fn rows_run_out_for_ever(rt: HostRuntime) {
             order,
             updates: false,
         };
-        assert!(rt; trial.leaves_pairs(rt.alloc()) == Some(stay), "{rows}");
+        let left = trial.leaves_pairs(rt.alloc());
+        assert!(rt; left == Some(stay), "{trial:?}: {left:?}");
     }
 }
 
@@ -94,7 +95,8 @@ fn updates_take_nine_rows_for_each_page(rt: HostRuntime) {
             order: Order::Up,
             updates: true,
         };
-        assert!(rt; trial.leaves_pairs(rt.alloc()) == Some(stay), "{rows}");
+        let left = trial.leaves_pairs(rt.alloc());
+        assert!(rt; left == Some(stay), "{trial:?}: {left:?}");
     }
 }
 
@@ -107,5 +109,6 @@ fn pids_run_out_for_ever(rt: HostRuntime) {
         order: Order::Drawn,
         updates: false,
     };
-    assert!(rt; trial.leaves_pairs(rt.alloc()) == Some(true));
+    let left = trial.leaves_pairs(rt.alloc());
+    assert!(rt; left == Some(true), "{trial:?}: {left:?}");
 }

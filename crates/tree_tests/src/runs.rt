@@ -9,7 +9,7 @@ use bw_model::{Command, Key, Reply, Value};
 use running_tree::{BwSeat, Tree};
 
 /// What is done.
-#[derive(Clone, Copy)]
+#[derive(Clone, Copy, Debug)]
 pub(crate) enum Run {
     /// Nothing.
     Nothing,

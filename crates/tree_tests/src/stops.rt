@@ -7,7 +7,7 @@ use bw_model::{Command, Reply};
 use running_tree::{BwSeat, Tree};
 
 /// The operation that is stopped.
-#[derive(Clone, Copy)]
+#[derive(Clone, Copy, Debug)]
 pub(crate) enum Stop {
     /// The insert of key 16 consolidates the leaf, splits it and puts a new root.
     Splits,

@@ -75,7 +75,10 @@ fn two_insert<R: Threads + Sync>(rt: &R, alloc: Global) -> bool {
 
 #[test]
 fn two_threads_insert(rt: HostRuntime) {
-    assert!(rt; two_insert(&rt, rt.alloc()));
+    assert!(rt;
+        two_insert(&rt, rt.alloc()),
+        "a reply, the pairs, or those of the other tree"
+    );
 }
 
 /// Whether as many threads as a large tree takes insert 40 keys each.
@@ -144,11 +147,11 @@ fn four_collide<R: Threads + Sync>(
 
 #[test]
 fn four_threads_collide(rt: HostRuntime) {
-    for limits in [
-        Limits::new(4, 64, 128, 1),
-        Limits::large(4, 64, 128, 1),
-        by_width((4, 64, 128)),
+    for (kind, limits) in [
+        ("small", Limits::new(4, 64, 128, 1)),
+        ("large", Limits::large(4, 64, 128, 1)),
+        ("by width", by_width((4, 64, 128))),
     ] {
-        assert!(rt; four_collide(&rt, rt.alloc(), limits));
+        assert!(rt; four_collide(&rt, rt.alloc(), limits), "{kind}");
     }
 }

@@ -180,7 +180,7 @@ const RUNS: [(Size, Run); 7] = [
 fn replies_and_pairs_are_right(rt: HostRuntime) {
     for ((seats, pids, rows), run) in RUNS {
         let right = go_right_in_each(rt.alloc(), (seats, pids, rows), &[run]);
-        assert!(rt; right, "{seats} {pids} {rows}");
+        assert!(rt; right, "{run:?}: {seats} seats, {pids} PIDs, {rows} rows");
     }
 }
 
@@ -197,6 +197,6 @@ fn stops_anywhere(alloc: Global, stop: Stop) -> bool {
 #[test]
 fn operations_are_stopped(rt: HostRuntime) {
     for stop in [Stop::Splits, Stop::Frees, Stop::Removes] {
-        assert!(rt; stops_anywhere(rt.alloc(), stop));
+        assert!(rt; stops_anywhere(rt.alloc(), stop), "{stop:?}");
     }
 }

@@ -116,10 +116,10 @@ fn walked(alloc: Global) -> Option<Shown> {
 #[test]
 fn what_stays_is_shown(rt: HostRuntime) -> Result<(), Fail> {
     let Some(shown) = walked(rt.alloc()) else {
-        assert!(rt; false);
+        assert!(rt; false, "the tree isn't filled");
         return Ok(());
     };
-    assert!(rt; shown.right);
-    assert_eq!(rt; shown.even, 500);
+    assert!(rt; shown.right, "a page is wrong");
+    assert_eq!(rt; shown.even, 500, "even numbers");
     Ok(())
 }

@@ -146,12 +146,12 @@ fn walks_once_open(alloc: Global, full: bool) -> bool {
 
 #[test]
 fn walks_show_a_thousand_keys(rt: HostRuntime) -> Result<(), Fail> {
-    assert!(rt; walks_once_open(rt.alloc(), true));
+    assert!(rt; walks_once_open(rt.alloc(), true), "a thousand keys");
     Ok(())
 }
 
 #[test]
 fn walks_show_nothing_of_an_empty_tree(rt: HostRuntime) -> Result<(), Fail> {
-    assert!(rt; walks_once_open(rt.alloc(), false));
+    assert!(rt; walks_once_open(rt.alloc(), false), "no key");
     Ok(())
 }

@@ -72,6 +72,6 @@ fn scans_once_open(alloc: Global, heap: &Refusing<Global>) -> bool {
 #[test]
 fn no_page_is_lost(rt: HostRuntime) -> Result<(), Fail> {
     let heap = Refusing::new(rt.alloc());
-    assert!(rt; scans_once_open(rt.alloc(), &heap));
+    assert!(rt; scans_once_open(rt.alloc(), &heap), "a page of a scan");
     Ok(())
 }

@@ -65,8 +65,12 @@ fn all_left<R: Threads + Sync>(
 /// So many keys after it came a key goes, by its turn, where as many pages as can be are to be left. No more than 996 keys are there at a time.
 const AGES: [u32; 4] = [24, 160, 896, 6_656];
 
-/// How many keys come then, and how many are there at the end.
-const THINNED: (u32, usize) = (8_000, 944);
+/// How many keys come to a tree, and how many pairs it has at the end.
+#[derive(Clone, Copy, Debug, PartialEq)]
+struct Window {
+    came: u32,
+    left: usize,
+}
 
 /// At which of the ages a key goes. Where keys come in their order, each page but the last of its level has eight keys or terms, and the first page
 /// below another one is never removed. So all keys of a first leaf go, those of the four next leaves but four, and then those of the others;
@@ -112,26 +116,30 @@ fn thins(tree: &Tree, seats: &mut Vec<BwSeat>, end: u32) -> u32
     end
 }
 
-/// How many keys came to a tree of limits for so many, and how many pairs it has then.
-fn came(alloc: Global, keys: u64, end: u32) -> Option<(u32, usize)> {
+/// What comes to a tree of limits for so many keys.
+fn thinned(alloc: Global, keys: u64, end: u32) -> Option<Window> {
     let limits = Limits::for_keys(1, keys).ok()?;
     let (tree, mut seats) = opened(alloc, limits).ok()?;
     let came = thins(&tree, &mut seats, end);
-    let pairs = tree.close(alloc, seats).ok()?;
-    Some((came, pairs.len()))
+    let left = tree.close(alloc, seats).ok()?.len();
+    Some(Window { came, left })
 }
 
 // Limits for 7 / 2 of 1,000 keys hold them.
 #[test]
 fn first_pages_stay_without_keys(rt: HostRuntime) {
-    let held = came(rt.alloc(), 7 * 1_000 / 2, THINNED.0);
-    assert!(rt; held == Some(THINNED));
+    let window = thinned(rt.alloc(), 7 * 1_000 / 2, 8_000);
+    let expected = Window {
+        came: 8_000,
+        left: 944,
+    };
+    assert!(rt; window == Some(expected), "{window:?}");
 }
 
 #[test]
 fn keys_come_and_go_without_end(rt: HostRuntime) -> Result<(), Fail> {
     for left in all_left(&rt, rt.alloc())? {
-        assert!(rt; left == Some(KEYS as usize));
+        assert!(rt; left == Some(KEYS as usize), "{left:?}");
     }
     Ok(())
 }

@@ -180,14 +180,21 @@ fn wrong<A: Allocator>(pairs: &[Pair<'_, A>]) -> u32 {
     wrong
 }
 
-/// How many replies are wrong, and how often memory was wanted, where every call for it is counted once the clients have their seats.
+/// How many replies are wrong, and how often memory was wanted.
+#[derive(Clone, Copy, Debug, PartialEq)]
+struct Counts {
+    wrong: u32,
+    wanted: u64,
+}
+
+/// What is counted once the clients have their seats.
 fn wrong_and_wanted<R: Threads + Sync, A: Allocator + Send + Sync>(
     rt: &R,
     alloc: Global,
     heap: Heap<'_>,
     tree: &Tree<A>,
     seats: &mut Vec<BwSeat<A>, A>,
-) -> Option<(u32, u64)>
+) -> Option<Counts>
     requires own { AreSeatsOf tree.now seats.old.items }
 {
     let mut pairs = Vec::new(alloc);
@@ -195,7 +202,8 @@ fn wrong_and_wanted<R: Threads + Sync, A: Allocator + Send + Sync>(
     heap.set(0);
     let done = done_at_once(rt, pairs)?;
     let wanted = heap.left().wrapping_neg();
-    all.then_some((wrong(done.as_slice()), wanted))
+    let wrong = wrong(done.as_slice());
+    all.then_some(Counts { wrong, wanted })
 }
 
 /// What `wrong_and_wanted` counts on a new tree, which has its memory of this allocator.
@@ -205,7 +213,7 @@ fn counted<R: Threads + Sync, A: Allocator + Copy + Send + Sync>(
     heap: Heap<'_>,
     memory: A,
     limits: Limits,
-) -> Option<(u32, u64)> {
+) -> Option<Counts> {
     let Ok((tree, mut seats)) = opened(memory, limits) else {
         return None;
     };
@@ -214,15 +222,18 @@ fn counted<R: Threads + Sync, A: Allocator + Copy + Send + Sync>(
 
 /// The first call for memory would be refused. There are few rows and PIDs, so that pages are split, removed and used again, and some
 /// writers find no room.
-fn nothing_is_wanted<R: Threads + Sync>(rt: &R, alloc: Global) -> bool {
-    let Ok(limits) = Limits::new(8, 64, 128, 1) else {
-        return false;
-    };
+fn counted_anew<R: Threads + Sync>(rt: &R, alloc: Global) -> Option<Counts> {
+    let limits = Limits::new(8, 64, 128, 1).ok()?;
     let heap = Refusing::new(alloc);
-    counted(rt, alloc, &heap, &heap, limits) == Some((0, 0))
+    counted(rt, alloc, &heap, &heap, limits)
 }
 
 #[test]
 fn no_call_wants_memory(rt: HostRuntime) {
-    assert!(rt; nothing_is_wanted(&rt, rt.alloc()));
+    let counts = counted_anew(&rt, rt.alloc());
+    let expected = Counts {
+        wrong: 0,
+        wanted: 0,
+    };
+    assert!(rt; counts == Some(expected), "{counts:?}");
 }
