@@ -11,15 +11,22 @@ use workers::{Work, called, resumed};
 /// More pieces than a call is cut into.
 const MOST_PIECES: u32 = 1 << 16;
 
-/// Runs a command in pieces of so many steps: its reply, and how many pieces it took. None where the seat isn't idle, or the budget is 0.
-fn in_pieces(tree: &Tree, seat: &mut BwSeat, command: Command, budget: u32) -> Option<(Reply, u32)>
+/// The reply of a command, and how many pieces it took.
+#[derive(Debug, PartialEq, Drop)]
+struct Answer {
+    reply: Reply,
+    pieces: u32,
+}
+
+/// Runs a command in pieces of so many steps. None where the seat isn't idle, or the budget is 0.
+fn in_pieces(tree: &Tree, seat: &mut BwSeat, command: Command, budget: u32) -> Option<Answer>
     requires own { IsSeatOf tree.now seat.old }
     ensures same { IsSame seat.old seat.new }
 {
     let mut last = called(tree, seat, command, budget)?;
     for pieces in 1..=MOST_PIECES {
         if let Called::Done(reply) = last {
-            return Some((reply, pieces));
+            return Some(Answer { reply, pieces });
         }
         // here the thread does something else; the operation waits in the seat
         last = resumed(tree, seat, budget)?;
@@ -31,7 +38,7 @@ fn in_pieces(tree: &Tree, seat: &mut BwSeat, command: Command, budget: u32) -> O
 #[derive(Drop)]
 struct Finds {
     budget: u32,
-    found: Option<(Reply, u32)>,
+    found: Option<Answer>,
 }
 
 impl Work for Finds {
@@ -40,8 +47,8 @@ impl Work for Finds {
     }
 }
 
-/// What a lookup in a new tree finds, and how many pieces of so many steps it took.
-fn found_in(alloc: Global, budget: u32) -> Option<(Reply, u32)> {
+/// What a lookup in a new tree finds, in pieces of so many steps.
+fn found_in(alloc: Global, budget: u32) -> Option<Answer> {
     let mut finds = Finds {
         budget,
         found: None,
@@ -54,6 +61,14 @@ fn found_in(alloc: Global, budget: u32) -> Option<(Reply, u32)> {
 #[test]
 fn a_lookup_is_made_in_pieces(rt: HostRuntime) {
     for (budget, pieces) in [(1, 6), (4, 2), (6, 1), (100, 1)] {
-        assert!(rt; found_in(rt.alloc(), budget) == Some((Reply::None, pieces)));
+        let found = found_in(rt.alloc(), budget);
+        let expected = Answer {
+            reply: Reply::None,
+            pieces,
+        };
+        assert!(rt;
+            found == Some(expected),
+            "{budget} steps a piece: {found:?}"
+        );
     }
 }

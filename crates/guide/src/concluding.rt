@@ -49,5 +49,6 @@ fn read_alone(alloc: Global, value: &Value) -> Option<Value> {
 #[test]
 fn what_was_set_is_read(rt: HostRuntime) {
     let value = Value::from_slice(b"set").unwrap_or_default();
-    assert!(rt; read_alone(rt.alloc(), &value) == Some(value));
+    let read = read_alone(rt.alloc(), &value);
+    assert!(rt; read == Some(value), "{read:?}");
 }

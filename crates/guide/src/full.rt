@@ -55,10 +55,12 @@ fn tidies(alloc: Global) -> Option<bool> {
 
 #[test]
 fn a_stopped_seat_goes_on(rt: HostRuntime) {
-    assert!(rt; goes_on(rt.alloc()) == Some(true));
+    let helped = goes_on(rt.alloc());
+    assert!(rt; helped == Some(true), "{helped:?}");
 }
 
 #[test]
 fn an_idle_seat_tidies(rt: HostRuntime) {
-    assert!(rt; tidies(rt.alloc()) == Some(true));
+    let helped = tidies(rt.alloc());
+    assert!(rt; helped == Some(true), "{helped:?}");
 }

@@ -74,14 +74,18 @@ fn done<R: Threads + Wait + Sync>(
 #[test]
 fn two_threads_run_three_jobs(rt: HostRuntime) {
     let Some((results, pairs)) = done(&rt, rt.alloc()) else {
-        assert!(rt; false);
+        assert!(rt; false, "the jobs weren't run");
         return;
     };
-    assert_eq!(rt; (results.len(), pairs.len()), (3, 3));
+    assert_eq!(rt; results.len(), 3, "results");
+    assert_eq!(rt; pairs.len(), 3, "pairs");
     let replies = [Reply::Inserted, Reply::Value(Value::default())];
-    assert!(rt;
-        results
-            .iter()
-            .all(|job| job.replies.as_slice() == replies.as_slice())
-    );
+    for result in results.iter() {
+        assert!(rt;
+            result.replies.as_slice() == replies.as_slice(),
+            "job {}: {:?}",
+            result.job,
+            result.replies
+        );
+    }
 }

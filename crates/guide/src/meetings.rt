@@ -91,5 +91,6 @@ fn insert_and_find<R: Threads + Sync>(rt: &R, alloc: Global) -> Option<bool> {
 
 #[test]
 fn seats_meet_after_their_threads(rt: HostRuntime) {
-    assert!(rt; insert_and_find(&rt, rt.alloc()) == Some(true));
+    let found = insert_and_find(&rt, rt.alloc());
+    assert!(rt; found == Some(true), "{found:?}");
 }

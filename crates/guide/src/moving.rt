@@ -33,7 +33,14 @@ fn filled(alloc: Global, store: Store, fills: &mut Fills) -> Result<Vec<(Key, Va
 }
 
 /// How many pairs fill the small tree, and the larger one.
-fn filled_twice(alloc: Global) -> Option<(usize, usize)> {
+#[derive(Clone, Copy, Debug)]
+struct Counts {
+    small: usize,
+    larger: usize,
+}
+
+/// Fills the small tree, and moves its pairs to the larger one, which is filled, too.
+fn filled_twice(alloc: Global) -> Option<Counts> {
     let mut fills = Fills { next: 0 };
     let small = Store::open(alloc, Limits::for_keys(1, 100).ok()?)?;
     // nothing is lost where it is refused: the store comes back, and is closed once more
@@ -44,14 +51,17 @@ fn filled_twice(alloc: Global) -> Option<(usize, usize)> {
     let more = filled(alloc, larger, &mut fills)
         .or_else(|store| store.close(alloc))
         .ok()?;
-    Some((pairs.len(), more.len()))
+    Some(Counts {
+        small: pairs.len(),
+        larger: more.len(),
+    })
 }
 
 #[test]
 fn pairs_are_moved_to_a_larger_tree(rt: HostRuntime) {
-    let Some((before, after)) = filled_twice(rt.alloc()) else {
-        assert!(rt; false);
-        return;
-    };
-    assert!(rt; 0 < before && before < after);
+    let counts = filled_twice(rt.alloc());
+    assert!(rt;
+        counts.is_some_and(|counts| 0 < counts.small && counts.small < counts.larger),
+        "{counts:?}"
+    );
 }

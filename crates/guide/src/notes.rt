@@ -144,5 +144,6 @@ fn heeded<R: Threads + Wait + Sync>(rt: &R, alloc: Global) -> Option<bool> {
 
 #[test]
 fn notes_go_along(rt: HostRuntime) {
-    assert!(rt; heeded(&rt, rt.alloc()) == Some(true));
+    let heeded = heeded(&rt, rt.alloc());
+    assert!(rt; heeded == Some(true), "{heeded:?}");
 }

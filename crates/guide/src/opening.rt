@@ -103,11 +103,15 @@ fn a_tree_is_opened_and_closed(rt: HostRuntime) -> Result<(), Fail> {
         found: None,
     };
     let Some(pairs) = done_alone(rt.alloc(), &mut sets) else {
-        assert!(rt; false);
+        assert!(rt; false, "the tree wasn't opened and closed");
         return Ok(());
     };
-    assert!(rt; sets.set == Some(Ok(Reply::Set)));
-    assert!(rt; sets.found == Some(Ok(Reply::Value(value.copied()))));
-    assert!(rt; pairs.as_slice() == [(key, value)].as_slice());
+    assert!(rt; sets.set == Some(Ok(Reply::Set)), "{:?}", sets.set);
+    assert!(rt;
+        sets.found == Some(Ok(Reply::Value(value.copied()))),
+        "{:?}",
+        sets.found
+    );
+    assert!(rt; pairs.as_slice() == [(key, value)].as_slice(), "{pairs:?}");
     Ok(())
 }

@@ -68,11 +68,18 @@ fn listed(
     }
 }
 
-/// Inserts the keys below 100, then walks over a range of them both ways: how many pairs a walk shows, and which ones.
+/// What walks over a range show: how many pairs page by page, and which ones in a list.
+#[derive(Drop)]
+struct Shown {
+    counted: usize,
+    listed: Vec<(Key, Value)>,
+}
+
+/// Inserts the keys below 100, then walks over a range of them both ways.
 #[derive(Drop)]
 struct Walks {
     alloc: Global,
-    walked: Option<(usize, Vec<(Key, Value)>)>,
+    shown: Option<Shown>,
 }
 
 impl Work for Walks {
@@ -84,31 +91,29 @@ impl Work for Walks {
             }
         }
         let counted = counted(tree, seat);
-        self.walked = counted.zip(listed(tree, seat, self.alloc, key(20), key(50)));
+        let listed = listed(tree, seat, self.alloc, key(20), key(50));
+        if let (Some(counted), Some(listed)) = (counted, listed) {
+            self.shown = Some(Shown { counted, listed });
+        }
     }
 }
 
 /// What walks over a new tree show.
-fn walked(alloc: Global) -> Option<(usize, Vec<(Key, Value)>)> {
-    let mut walks = Walks {
-        alloc,
-        walked: None,
-    };
+fn walked(alloc: Global) -> Option<Shown> {
+    let mut walks = Walks { alloc, shown: None };
     let _pairs = done_alone(alloc, &mut walks)?;
-    walks.walked
+    walks.shown
 }
 
 #[test]
 fn a_range_is_walked(rt: HostRuntime) {
-    let Some((counted, listed)) = walked(rt.alloc()) else {
-        assert!(rt; false);
+    let Some(shown) = walked(rt.alloc()) else {
+        assert!(rt; false, "the keys weren't inserted, or a walk gave up");
         return;
     };
-    assert_eq!(rt; counted, 30);
-    assert_eq!(rt; listed.len(), 30);
-    assert!(rt;
-        listed
-            .iter()
-            .all(|(known, _)| *known >= key(20) && *known < key(50))
-    );
+    assert_eq!(rt; shown.counted, 30, "page by page");
+    assert_eq!(rt; shown.listed.len(), 30, "in a list");
+    for (known, _) in shown.listed.iter() {
+        assert!(rt; *known >= key(20) && *known < key(50), "{known:?}");
+    }
 }

@@ -96,9 +96,14 @@ fn raised<R: Threads + Sync>(rt: &R, alloc: Global) -> Option<(Vec<Raises>, Vec<
 #[test]
 fn four_threads_raise_a_counter(rt: HostRuntime) {
     let Some((works, pairs)) = raised(&rt, rt.alloc()) else {
-        assert!(rt; false);
+        assert!(rt; false, "no memory");
         return;
     };
-    assert!(rt; works.iter().all(|work| work.raised == TIMES));
-    assert!(rt; pairs.as_slice() == [(Key::default(), value(4 * TIMES))].as_slice());
+    for work in works.iter() {
+        assert_eq!(rt; work.raised, TIMES, "swaps of a thread");
+    }
+    assert!(rt;
+        pairs.as_slice() == [(Key::default(), value(4 * TIMES))].as_slice(),
+        "{pairs:?}"
+    );
 }
