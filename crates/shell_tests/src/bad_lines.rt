@@ -139,17 +139,17 @@ const SCRIPT_LONG: &[u8] =
     add 12345678901234567890123456789012345678901234567890123456789012345 0\n\
     back 12345678901234567890123456789012345678901234567890123456789012345";
 
-/// Lines, and the end of their refusal.
-const TABLE: [(Language, &[u8], &[u8]); 9] = [
-    (Language::Weave, WEAVE_BYTES, b"11\n"),
-    (Language::Weave, WEAVE_TOKENS, b"11\n"),
-    (Language::Weave, WEAVE_LONG, b"1\n"),
-    (Language::Weave, WEAVE_NUMBERS, b"11\n"),
-    (Language::Weave, WEAVE_IDLE, b"6\n"),
-    (Language::Weave, WEAVE_ACTORS, b"4\n"),
-    (Language::Weave, WEAVE_WORDS, b"11\n"),
-    (Language::Script, SCRIPT, b"11\n"),
-    (Language::Script, SCRIPT_LONG, b"1\n"),
+/// Lines, the end of their refusal, and how many lines there are.
+const TABLE: [(Language, &[u8], &[u8], usize); 9] = [
+    (Language::Weave, WEAVE_BYTES, b"11\n", 20),
+    (Language::Weave, WEAVE_TOKENS, b"11\n", 9),
+    (Language::Weave, WEAVE_LONG, b"1\n", 8),
+    (Language::Weave, WEAVE_NUMBERS, b"11\n", 17),
+    (Language::Weave, WEAVE_IDLE, b"6\n", 2),
+    (Language::Weave, WEAVE_ACTORS, b"4\n", 6),
+    (Language::Weave, WEAVE_WORDS, b"11\n", 25),
+    (Language::Script, SCRIPT, b"11\n", 23),
+    (Language::Script, SCRIPT_LONG, b"1\n", 5),
 ];
 
 /// Whether a run was ended by a refusal of its first line with this end.
@@ -169,11 +169,7 @@ fn is_refused(alloc: Global, limits: Limits, language: Language, line: &[u8], co
 }
 
 /// How many lines of a table are refused as it says, before one that isn't.
-fn refused(
-    alloc: Global,
-    limits: Limits,
-    (language, lines, code): (Language, &[u8], &[u8]),
-) -> usize {
+fn refused(alloc: Global, limits: Limits, language: Language, lines: &[u8], code: &[u8]) -> usize {
     let mut count = 0usize;
     for line in lines.split(|byte| *byte == b'\n') {
         if !is_refused(alloc, limits, language, line, code) {
@@ -187,6 +183,11 @@ fn refused(
 #[test]
 fn bad_lines(rt: HostRuntime) {
     let (alloc, limits) = (rt.alloc(), limits(&rt));
-    let counts = TABLE.map(|row| refused(alloc, limits, row));
-    assert_eq!(rt; counts, [20, 9, 8, 17, 2, 6, 25, 23, 5]);
+    for (place, (language, lines, code, expected)) in TABLE.iter().enumerate() {
+        let count = refused(alloc, limits, *language, lines, code);
+        assert!(rt;
+            count == *expected,
+            "row {place}: line {count} isn't refused so"
+        );
+    }
 }

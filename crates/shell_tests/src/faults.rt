@@ -38,7 +38,7 @@ fn faults_say_why(rt: HostRuntime) -> Result<(), Fail> {
             "a growth of memory was refused",
         ),
     ] {
-        assert_eq!(rt; text.as_str(), wanted);
+        assert_eq!(rt; text.as_str(), wanted, "{wanted}");
     }
     Ok(())
 }

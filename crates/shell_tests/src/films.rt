@@ -11,12 +11,22 @@ use std::alloc::{AllocError, Global};
 use std::io::ErrorKind;
 use std::test::Fail;
 
-/// What is written of these lines, and the status.
-fn filmed(alloc: Global, limits: Limits, lines: &[u8]) -> (u8, Vec<u8>) {
+/// What is written, and the status.
+#[derive(Drop)]
+struct Film {
+    status: u8,
+    text: Vec<u8>,
+}
+
+/// The film of these lines.
+fn filmed(alloc: Global, limits: Limits, lines: &[u8]) -> Film {
     let mut input = Reader::new(lines);
     let mut output = Writer::new(Vec::new(alloc));
     let status = film(alloc, limits, &mut input, &mut output);
-    (status, output.inner)
+    Film {
+        status,
+        text: output.inner,
+    }
 }
 
 const INSERT: &[u8] = b"begin 0 insert k02 <\nfinish 0\n";
@@ -55,10 +65,11 @@ const SHOWN: [(&[u8], usize); 9] = [
 #[test]
 fn each_step_has_a_frame(rt: HostRuntime) -> Result<(), Fail> {
     let limits = Limits::new(2, 64, 256, 1)?;
-    let (status, text) = filmed(rt.alloc(), limits, INSERT);
-    assert!(rt; status == 0);
+    let film = filmed(rt.alloc(), limits, INSERT);
+    assert_eq!(rt; film.status, 0, "status");
     for (number, (part, times)) in SHOWN.iter().enumerate() {
-        assert!(rt; count(text.as_slice(), part) == *times, "text {number}");
+        let found = count(film.text.as_slice(), part);
+        assert!(rt; found == *times, "text {number}: {found} times");
     }
     Ok(())
 }
@@ -67,9 +78,10 @@ fn each_step_has_a_frame(rt: HostRuntime) -> Result<(), Fail> {
 #[test]
 fn the_last_frame_is_the_picture(rt: HostRuntime) -> Result<(), Fail> {
     let limits = Limits::new(2, 64, 256, 1)?;
-    let (_, text) = filmed(rt.alloc(), limits, INSERT);
-    let picture = drawn(rt.alloc(), limits, INSERT);
-    assert!(rt; picture.is_some_and(|picture| count(text.as_slice(), picture.as_slice()) == 1));
+    let film = filmed(rt.alloc(), limits, INSERT);
+    let picture = drawn(rt.alloc(), limits, INSERT).ok_or("no picture")?;
+    let found = count(film.text.as_slice(), picture.as_slice());
+    assert_eq!(rt; found, 1, "pictures");
     Ok(())
 }
 
@@ -78,12 +90,13 @@ fn the_last_frame_is_the_picture(rt: HostRuntime) -> Result<(), Fail> {
 fn a_refused_line_ends_a_film(rt: HostRuntime) -> Result<(), Fail> {
     let limits = Limits::new(2, 64, 256, 1)?;
     let lines = b"begin 0 get a\nturn 0 2\nturn 1 1\nturn 0 1\n";
-    let (status, text) = filmed(rt.alloc(), limits, lines);
-    assert!(rt; status == 1);
-    assert!(rt; count(text.as_slice(), b"<section id=\"") == 3);
+    let film = filmed(rt.alloc(), limits, lines);
+    let text = film.text.as_slice();
+    assert_eq!(rt; film.status, 1, "status");
+    assert_eq!(rt; count(text, b"<section id=\""), 3, "frames");
     let last =
         b"</section>\n<section id=\"refused\">\n<h2>refused line 3: 6\n</h2>\n</section>\n</main>\n";
-    assert!(rt; count(text.as_slice(), last) == 1);
+    assert_eq!(rt; count(text, last), 1, "refusals");
     Ok(())
 }
 
@@ -102,10 +115,11 @@ fn lookups(alloc: Global, many: u32) -> Result<Vec<u8>, AllocError> {
 fn long_films_are_refused(rt: HostRuntime) -> Result<(), Fail> {
     let limits = Limits::new(2, 64, 256, 1)?;
     let lines = lookups(rt.alloc(), 333)?;
-    let (status, text) = filmed(rt.alloc(), limits, lines.as_slice());
+    let film = filmed(rt.alloc(), limits, lines.as_slice());
     let told =
         b"refused: a film has a frame for each step, 2000 at most, and these lines take 2001\n";
-    assert!(rt; status == 1 && text.as_slice() == told.as_slice());
+    assert_eq!(rt; film.status, 1, "status");
+    assert_eq!(rt; film.text.as_slice(), told.as_slice(), "text");
     Ok(())
 }
 
@@ -113,13 +127,17 @@ fn long_films_are_refused(rt: HostRuntime) -> Result<(), Fail> {
 #[test]
 fn failed_writes_leave_a_beginning(rt: HostRuntime) -> Result<(), Fail> {
     let limits = Limits::new(2, 64, 256, 1)?;
-    let (_, all) = filmed(rt.alloc(), limits, INSERT);
+    let whole = filmed(rt.alloc(), limits, INSERT).text;
     for before_fault in [0, 1, 9] {
         let mut input = Reader::new(INSERT);
         let mut output = Writer::new(Breaking::taking(rt.alloc(), 1000, before_fault));
         let status = film(rt.alloc(), limits, &mut input, &mut output);
         let held = output.inner.held.as_slice();
-        assert!(rt; status == 1 && all.as_slice().starts_with(held) && held.len() < all.len());
+        assert!(rt; status == 1, "before write {before_fault}: status {status}");
+        assert!(rt;
+            whole.as_slice().starts_with(held) && held.len() < whole.len(),
+            "before write {before_fault}: no beginning"
+        );
     }
     Ok(())
 }
@@ -136,7 +154,8 @@ fn failed_reads_leave_nothing(rt: HostRuntime) -> Result<(), Fail> {
     });
     let mut output = Writer::new(Vec::new(rt.alloc()));
     let status = film(rt.alloc(), limits, &mut input, &mut output);
-    assert!(rt; status == 1 && output.inner.is_empty());
+    assert_eq!(rt; status, 1, "status");
+    assert!(rt; output.inner.is_empty(), "{} bytes", output.inner.len());
     Ok(())
 }
 
@@ -144,8 +163,11 @@ fn failed_reads_leave_nothing(rt: HostRuntime) -> Result<(), Fail> {
 #[test]
 fn films_of_nothing(rt: HostRuntime) -> Result<(), Fail> {
     let limits = Limits::new(2, 64, 256, 1)?;
-    let (status, text) = filmed(rt.alloc(), limits, b"begin 0 get a\n");
-    assert!(rt; status == 0 && count(text.as_slice(), b"<section") == 0);
-    assert!(rt; count(text.as_slice(), b"</nav>\n<main>\n</main>\n<script>\n") == 1);
+    let film = filmed(rt.alloc(), limits, b"begin 0 get a\n");
+    let text = film.text.as_slice();
+    assert_eq!(rt; film.status, 0, "status");
+    assert_eq!(rt; count(text, b"<section"), 0, "frames");
+    let empty = b"</nav>\n<main>\n</main>\n<script>\n";
+    assert_eq!(rt; count(text, empty), 1, "empty films");
     Ok(())
 }

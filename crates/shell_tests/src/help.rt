@@ -18,7 +18,7 @@ fn help_of(alloc: Global, line: &str) -> Result<String, Fail> {
 #[test]
 fn the_version_is_printed(rt: HostRuntime) -> Result<(), Fail> {
     let version = help_of(rt.alloc(), "--version")?;
-    assert_eq!(rt; version.as_str(), "bwtree 0.2.0\n");
+    assert_eq!(rt; version.as_str(), "bwtree 0.2.0\n", "the version");
     Ok(())
 }
 

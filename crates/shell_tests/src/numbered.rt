@@ -138,7 +138,7 @@ pub fn runs(
     let added = script.add_all(parts).is_ok();
     assert!(rt; added, "memory");
     let ran = whole(alloc, Language::Weave, limits, script.lines.as_bytes());
-    prints(rt, ran, script.printed.as_bytes(), 0);
+    prints(rt, 0, ran, script.printed.as_bytes(), 0);
 }
 
 /// The limits of most scripts.

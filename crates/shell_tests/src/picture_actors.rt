@@ -59,6 +59,6 @@ fn all_of_a_limbo_is_shown(rt: HostRuntime) -> Result<(), Fail> {
         add_commands(&mut lines, b"upsert k", b" v", 1, 10)?;
     }
     let text = drawn(rt.alloc(), limits, lines.as_slice()).ok_or("no picture")?;
-    assert!(rt; count(text.as_slice(), b", epoch ") == 27);
+    assert_eq!(rt; count(text.as_slice(), b", epoch "), 27, "cells");
     Ok(())
 }

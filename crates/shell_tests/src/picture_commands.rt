@@ -43,8 +43,8 @@ fn is_shown(alloc: Global, limits: Limits, command: &[u8]) -> Result<bool, Alloc
 #[test]
 fn each_command_is_shown(rt: HostRuntime) -> Result<(), Fail> {
     let limits = Limits::new(2, 64, 256, 1)?;
-    for command in COMMANDS {
-        assert!(rt; is_shown(rt.alloc(), limits, command)?);
+    for (number, command) in COMMANDS.iter().enumerate() {
+        assert!(rt; is_shown(rt.alloc(), limits, command)?, "command {number}");
     }
     Ok(())
 }

@@ -30,13 +30,10 @@ fn merged_items_are_shown(rt: HostRuntime) -> Result<(), Fail> {
     add_commands(&mut lines, b"delete k", b"", 13, 18)?;
     add_commands(&mut lines, b"upsert k", b" new", 10, 11)?;
     add_commands(&mut lines, b"delete k", b"", 12, 13)?;
-    let text = drawn(rt.alloc(), limits, lines.as_slice());
-    assert!(rt;
-        text.is_some_and(|text| {
-            SHOWN
-                .iter()
-                .all(|(part, times)| count(text.as_slice(), part) == *times)
-        })
-    );
+    let text = drawn(rt.alloc(), limits, lines.as_slice()).ok_or("no picture")?;
+    for (number, (part, times)) in SHOWN.iter().enumerate() {
+        let found = count(text.as_slice(), part);
+        assert!(rt; found == *times, "text {number}: {found} times");
+    }
     Ok(())
 }

@@ -53,16 +53,17 @@ fn is_shown(alloc: Global, limits: Limits, key: &[u8], shown: &[u8]) -> Result<b
 #[test]
 fn the_lowest_key_is_named(rt: HostRuntime) -> Result<(), Fail> {
     let limits = Limits::new(2, 64, 256, 1)?;
-    let text = drawn_with(rt.alloc(), limits, b"")?;
-    assert!(rt; text.is_some_and(|text| count(text.as_slice(), b">put (lowest) = =<") == 1));
+    let text = drawn_with(rt.alloc(), limits, b"")?.ok_or("no picture")?;
+    let found = count(text.as_slice(), b">put (lowest) = =<");
+    assert_eq!(rt; found, 1, "the lowest key");
     Ok(())
 }
 
 #[test]
 fn odd_keys_are_escaped(rt: HostRuntime) -> Result<(), Fail> {
     let limits = Limits::new(2, 64, 256, 1)?;
-    for (key, shown) in KEYS {
-        assert!(rt; is_shown(rt.alloc(), limits, key, shown)?);
+    for (number, (key, shown)) in KEYS.iter().enumerate() {
+        assert!(rt; is_shown(rt.alloc(), limits, key, shown)?, "key {number}");
     }
     Ok(())
 }
@@ -84,6 +85,6 @@ fn each_byte_is_drawn(rt: HostRuntime) -> Result<(), Fail> {
         Some(text) => count(text.as_slice(), b" class=\"page-"),
         None => 0,
     };
-    assert!(rt; pages > 60);
+    assert!(rt; pages > 60, "{pages} pages");
     Ok(())
 }

@@ -57,14 +57,15 @@ fn marks_after(alloc: Global, limits: Limits, change: &[u8]) -> Result<Option<Ma
 #[test]
 fn each_mark_is_drawn_once(rt: HostRuntime) -> Result<(), Fail> {
     let limits = Limits::new(2, 64, 256, 1)?;
-    for (change, marks) in [
+    for (change, expected) in [
         (b"".as_slice(), [1, 1, 0, 0, 1]),
         (b"begin 1 delete k13\nuntil 1 hold\n", [2, 1, 0, 0, 1]),
         (b"begin 1 delete k13\nuntil 1 remove\n", [1, 2, 0, 0, 1]),
         (b"begin 1 delete k13\nuntil 1 merge\n", [1, 1, 1, 0, 1]),
         (b"begin 1 delete k13\nfinish 1\n", [1, 1, 0, 0, 1]),
     ] {
-        assert!(rt; marks_after(rt.alloc(), limits, change)? == Some(marks));
+        let marks = marks_after(rt.alloc(), limits, change)?;
+        assert!(rt; marks == Some(expected), "{marks:?} for {expected:?}");
     }
     Ok(())
 }
@@ -77,6 +78,6 @@ fn a_missing_term_is_dashed(rt: HostRuntime) -> Result<(), Fail> {
     add_commands(&mut lines, b"insert k", b" v", 35, 41)?;
     lines.extend_from_slice(b"begin 1 insert k41 v\nuntil 1 split\n")?;
     let marks = marks_after(rt.alloc(), limits, lines.as_slice())?;
-    assert!(rt; marks == Some([1, 1, 0, 1, 2]));
+    assert!(rt; marks == Some([1, 1, 0, 1, 2]), "{marks:?}");
     Ok(())
 }

@@ -42,7 +42,8 @@ fn ten_pages(rt: HostRuntime) -> Result<(), Fail> {
             10,
             b" width=\"2694\" height=",
             b"; free PIDs: 53; "
-        )?
+        )?,
+        "10 pages"
     );
     Ok(())
 }
@@ -59,7 +60,8 @@ fn a_thousand_pages(rt: HostRuntime) -> Result<(), Fail> {
             1002,
             b" width=\"3522\" height=",
             b"; free PIDs: 3093; "
-        )?
+        )?,
+        "1002 pages"
     );
     Ok(())
 }

@@ -68,17 +68,19 @@ fn are_inserted<R: Threads + Wait + Sync>(rt: &R, alloc: Global, line: &str) -> 
 
 #[test]
 fn thousands_of_inserts(rt: HostRuntime) {
-    assert!(rt; are_inserted(&rt, rt.alloc(), "race --seats 4"));
+    let line = "race --seats 4";
+    assert!(rt; are_inserted(&rt, rt.alloc(), line), "{line}");
 }
 
 #[test]
 fn thousands_of_inserts_by_keys(rt: HostRuntime) {
-    assert!(rt; are_inserted(&rt, rt.alloc(), "race --seats 4 --keys 4000"));
+    let line = "race --seats 4 --keys 4000";
+    assert!(rt; are_inserted(&rt, rt.alloc(), line), "{line}");
 }
 
 // Of a large tree, whose rows have three widths.
 #[test]
 fn thousands_of_inserts_in_a_large_tree(rt: HostRuntime) {
     let line = "race --seats 4 --large --keys 4000 --key-bytes 8 --value-bytes 8";
-    assert!(rt; are_inserted(&rt, rt.alloc(), line));
+    assert!(rt; are_inserted(&rt, rt.alloc(), line), "{line}");
 }

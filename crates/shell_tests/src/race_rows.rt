@@ -1,6 +1,7 @@
 //! Inputs, and what is printed for them.
 
 use crate::race_runs::{add_parts, prints};
+use crate::runs::limits;
 use crate::words::limits_of;
 use bw_model::{BadLimits, Limits};
 use std::alloc::Global;
@@ -71,13 +72,13 @@ fn are_printed<R: Threads + Wait + Sync>(
 // As many seats as jobs, fewer and more.
 #[test]
 fn rows_with_seats(rt: HostRuntime) {
-    for limits in [
-        Limits::new(2, 64, 256, 1),
-        Limits::new(1, 64, 256, 1),
-        Limits::new(16, 64, 256, 1),
-        Limits::large(63, 64, 256, 1),
+    for (seats, limits) in [
+        (2, Limits::new(2, 64, 256, 1)),
+        (1, Limits::new(1, 64, 256, 1)),
+        (16, Limits::new(16, 64, 256, 1)),
+        (63, Limits::large(63, 64, 256, 1)),
     ] {
-        assert!(rt; are_printed(&rt, rt.alloc(), limits));
+        assert!(rt; are_printed(&rt, rt.alloc(), limits), "{seats} seats");
     }
 }
 
@@ -91,7 +92,7 @@ fn is_printed_by_default<R: Threads + Wait + Sync>(rt: &R, alloc: Global) -> boo
 
 #[test]
 fn a_row_by_default(rt: HostRuntime) {
-    assert!(rt; is_printed_by_default(&rt, rt.alloc()));
+    assert!(rt; is_printed_by_default(&rt, rt.alloc()), "the first row");
 }
 
 const MALFORMED: &[u8] = b"refused line 3: 11\n";
@@ -180,23 +181,21 @@ fn is_refused<R: Threads + Wait + Sync>(
         && prints(rt, alloc, limits, input.as_slice(), (told, 1))
 }
 
-// Whether all of those are, and of a lookup of 1,024 bytes and one of 1,025 the second one is no line.
-fn are_refused<R: Threads + Wait + Sync>(rt: &R, alloc: Global) -> bool {
-    let Ok(limits) = Limits::new(2, 64, 256, 1) else {
-        return false;
-    };
-    for (line, told) in REFUSED {
-        if !is_refused(rt, alloc, limits, line, told) {
-            return false;
-        }
+// Of a lookup of 1,024 bytes and one of 1,025 the second one is no line.
+#[test]
+fn refused_lines(rt: HostRuntime) {
+    let (alloc, limits) = (rt.alloc(), limits(&rt));
+    for (number, (line, told)) in REFUSED.iter().enumerate() {
+        assert!(rt; is_refused(&rt, alloc, limits, line, told), "line {number}");
     }
     let mut long = [b'k'; 1025];
     long[..6].copy_from_slice(b"0 get ");
-    is_refused(rt, alloc, limits, &long[..1024], TOO_LONG)
-        && is_refused(rt, alloc, limits, &long, MALFORMED)
-}
-
-#[test]
-fn refused_lines(rt: HostRuntime) {
-    assert!(rt; are_refused(&rt, rt.alloc()));
+    assert!(rt;
+        is_refused(&rt, alloc, limits, &long[..1024], TOO_LONG),
+        "1,024 bytes"
+    );
+    assert!(rt;
+        is_refused(&rt, alloc, limits, &long, MALFORMED),
+        "1,025 bytes"
+    );
 }

@@ -114,5 +114,8 @@ fn writes_fail<R: Threads + Wait + Sync>(rt: &R, alloc: Global) -> bool {
 
 #[test]
 fn failed_writes(rt: HostRuntime) {
-    assert!(rt; writes_fail(&rt, rt.alloc()));
+    assert!(rt;
+        writes_fail(&rt, rt.alloc()),
+        "what a write or the flush left"
+    );
 }

@@ -211,5 +211,5 @@ fn random_lines(rt: HostRuntime) {
     let scripted = ends(alloc, limits, Language::Script, &SCRIPT, b"insert a 1\n");
     let seen = [woven, scripted].map(|ends| ends.map(|counts| counts.map(|count| count > 0)));
     let wanted = [[true; 6], [true, true, false, false, false, true]];
-    assert!(rt; seen == wanted.map(Some));
+    assert!(rt; seen == wanted.map(Some), "{seen:?}");
 }

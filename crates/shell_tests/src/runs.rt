@@ -53,8 +53,9 @@ pub type Rows<'a> = &'a [(&'a [u8], &'a [u8], u8)];
 
 pub fn agree(rt: &impl Abort, alloc: Global, language: Language, rows: Rows<'_>) {
     let limits = limits(rt);
-    for (input, output, status) in rows {
-        prints(rt, whole(alloc, language, limits, input), output, *status);
+    for (number, (input, output, status)) in rows.iter().enumerate() {
+        let ran = whole(alloc, language, limits, input);
+        prints(rt, number, ran, output, *status);
     }
 }
 
@@ -75,7 +76,11 @@ pub fn joined(alloc: Global, parts: &[(&[u8], u32)]) -> Result<Vec<u8>, AllocErr
     Ok(text)
 }
 
-// What a run is to have written, and its status.
-pub fn prints(rt: &impl Abort, ran: Ran, output: &[u8], status: u8) {
-    assert_eq!(rt; (ran.output.as_slice(), ran.status), (output, status));
+// What the run of an input of this number is to have written, and its status.
+pub fn prints(rt: &impl Abort, number: usize, ran: Ran, output: &[u8], status: u8) {
+    assert_eq!(rt;
+        (ran.output.as_slice(), ran.status),
+        (output, status),
+        "input {number}"
+    );
 }

@@ -86,7 +86,7 @@ fn rounds(alloc: Global) -> Option<Vec<Part<'static>>> {
 #[test]
 fn a_leaf_comes_and_goes(rt: HostRuntime) {
     let parts = rounds(rt.alloc());
-    assert!(rt; parts.is_some());
+    assert!(rt; parts.is_some(), "no memory");
     if let Some(parts) = parts {
         runs(&rt, rt.alloc(), LIMITS, Width::Two, parts.as_slice());
     }

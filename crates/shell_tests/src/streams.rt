@@ -244,15 +244,16 @@ fn many_lines(rt: HostRuntime) -> Result<(), Fail> {
     let last: &[u8] = b"begin 0 get a\n\nfinish 0\n";
     let lines = joined(rt.alloc(), &[(INPUT, 1), (b"\n", 1), (last, 3000)])?;
     let output = joined(rt.alloc(), &[(OUTPUT, 1), (b"0 none\n", 3000)])?;
-    for most in [(1, 3012), (4096, 18)] {
+    for (size, most) in [(1, 3012), (4096, 18)] {
         assert!(rt;
             is_written(
                 rt.alloc(),
                 limits(&rt),
                 lines.as_slice(),
                 output.as_slice(),
-                most
-            )
+                (size, most)
+            ),
+            "{size} bytes a read, {most} writes"
         );
     }
     Ok(())

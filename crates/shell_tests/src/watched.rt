@@ -30,6 +30,10 @@ fn each_mebibyte_is_shown(rt: HostRuntime) -> Result<(), Fail> {
     let short = shown(alloc, 1000)?;
     assert!(rt; short.is_empty(), "nothing is shown of a short input");
     let long = shown(alloc, 2500)?;
-    assert_eq!(rt; long.as_slice(), b"\r1 MiB read\r2 MiB read\n".as_slice());
+    assert_eq!(rt;
+        long.as_slice(),
+        b"\r1 MiB read\r2 MiB read\n".as_slice(),
+        "of a long input"
+    );
     Ok(())
 }

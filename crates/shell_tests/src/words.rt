@@ -314,27 +314,43 @@ fn refused_words(rt: HostRuntime) {
 }
 
 /// How many words a narrow row and a page's row have.
-fn widths_of(alloc: Global, line: &str) -> Option<(u64, u64)> {
-    limits_of(alloc, line).map(|limits| (limits.narrow_words, limits.page_words))
+#[derive(Clone, Copy, Debug, PartialEq)]
+struct RowWords {
+    narrow: u64,
+    page: u64,
+}
+
+/// Those of the limits that a line asks for.
+fn widths_of(alloc: Global, line: &str) -> Option<RowWords> {
+    limits_of(alloc, line).map(|limits| RowWords {
+        narrow: limits.narrow_words,
+        page: limits.page_words,
+    })
 }
 
 // A put of a pair of such lengths, and 19 pairs with two bounds, in words and then whole lines of eight.
 #[test]
 fn rows_are_sized_by_lengths(rt: HostRuntime) {
     let alloc = rt.alloc();
-    for (line, widths) in [
-        ("script --large --keys 1", (24, 344)),
+    for (line, narrow, page) in [
+        ("script --large --keys 1", 24, 344),
         (
             "script --large --keys 1 --key-bytes 16 --value-bytes 8",
-            (8, 88),
+            8,
+            88,
         ),
         (
             "script --large --keys 1 --key-bytes 8 --value-bytes 16",
-            (8, 80),
+            8,
+            80,
         ),
-        ("script --large --keys 1 --key-bytes 8", (16, 200)),
-        ("script --large --keys 1 --value-bytes 0", (16, 192)),
+        ("script --large --keys 1 --key-bytes 8", 16, 200),
+        ("script --large --keys 1 --value-bytes 0", 16, 192),
     ] {
-        assert_eq!(rt; widths_of(alloc, line), Some(widths), "{line}");
+        let found = widths_of(alloc, line);
+        assert!(rt;
+            found == Some(RowWords { narrow, page }),
+            "{line}: {found:?}"
+        );
     }
 }
