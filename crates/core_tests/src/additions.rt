@@ -127,13 +127,21 @@ impl Sums {
     }
 }
 
-/// How many additions of so many actors were made, and how many found no room; none where a reply or a sum is wrong.
-fn added(alloc: Global, size: Size, seed: u64, actors: u32) -> Option<(u32, u32)> {
+/// How many additions were made, and how many found no room.
+#[derive(Clone, Copy, Debug)]
+struct Counts {
+    made: u32,
+    full: u32,
+}
+
+/// What additions of so many actors came to; none where a reply or a sum is wrong.
+fn added(alloc: Global, size: Size, seed: u64, actors: u32) -> Option<Counts> {
     let mut core = size.opened(alloc, u64::from(actors))?;
     let mut sums = Sums::new();
     let right = sums.runs(&mut core, seed, actors) && sums.are_there(&mut core);
     let_go(core);
-    right.then_some((sums.made, sums.full))
+    let (made, full) = (sums.made, sums.full);
+    right.then_some(Counts { made, full })
 }
 
 #[test]
@@ -142,8 +150,8 @@ fn additions_sum_up(rt: HostRuntime) {
         for size in [Size::Small(64, 1024), Size::Large(64, 1024)] {
             let added = added(rt.alloc(), size, seed, actors);
             assert!(rt;
-                added.is_some_and(|(made, _)| made > 300),
-                "{actors}: {added:?}"
+                added.is_some_and(|added| added.made > 300),
+                "{size:?}, {actors} actors: {added:?}"
             );
         }
     }
@@ -152,7 +160,7 @@ fn additions_sum_up(rt: HostRuntime) {
 #[test]
 fn additions_of_sixty_three_sum_up(rt: HostRuntime) {
     let added = added(rt.alloc(), Size::Large(192, 1024), 11, 63);
-    assert!(rt; added.is_some_and(|(made, _)| made > 100), "{added:?}");
+    assert!(rt; added.is_some_and(|added| added.made > 100), "{added:?}");
 }
 
 // With few rows some of the additions find no room, and add nothing.
@@ -161,8 +169,8 @@ fn additions_that_find_no_room_add_nothing(rt: HostRuntime) {
     let mut full = 0u32;
     for seed in 7..11u64 {
         let added = added(rt.alloc(), Size::Small(64, 64), seed, 8);
-        assert!(rt; added.is_some(), "{seed}");
-        full = full.saturating_add(added.map_or(0, |(_, full)| full));
+        assert!(rt; added.is_some(), "seed {seed}");
+        full = full.saturating_add(added.map_or(0, |added| added.full));
     }
-    assert!(rt; full > 0);
+    assert!(rt; full > 0, "{full} found no room");
 }

@@ -193,6 +193,6 @@ fn end_alone(alloc: Global, seed: u64) -> bool {
 #[test]
 fn operations_end_alone(rt: HostRuntime) {
     for seed in 0..6u64 {
-        assert!(rt; end_alone(rt.alloc(), seed), "{seed}");
+        assert!(rt; end_alone(rt.alloc(), seed), "seed {seed}");
     }
 }

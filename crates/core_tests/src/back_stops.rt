@@ -121,27 +121,28 @@ impl Change {
 
 #[test]
 fn a_split_stops_beside_pages_backward(rt: HostRuntime) {
-    assert!(rt; SPLIT.stops(rt.alloc()));
+    assert!(rt; SPLIT.stops(rt.alloc()), "a leaf is split");
 }
 
 #[test]
 fn a_split_of_an_index_page_stops_beside_pages_backward(rt: HostRuntime) {
-    assert!(rt; INDEX_SPLIT.stops(rt.alloc()));
+    assert!(rt; INDEX_SPLIT.stops(rt.alloc()), "an index page is split");
 }
 
 #[test]
 fn a_removal_stops_beside_pages_backward(rt: HostRuntime) {
-    assert!(rt; REMOVAL.stops(rt.alloc()));
+    assert!(rt; REMOVAL.stops(rt.alloc()), "a leaf is removed");
 }
 
 #[test]
 fn a_removal_of_an_index_page_stops_beside_pages_backward(rt: HostRuntime) {
-    assert!(rt; INDEX_REMOVAL.stops(rt.alloc()));
+    assert!(rt; INDEX_REMOVAL.stops(rt.alloc()), "an index page is removed");
 }
 
 #[test]
 fn a_page_backward_stops_beside_changes(rt: HostRuntime) {
     for change in [SPLIT, INDEX_SPLIT, REMOVAL, INDEX_REMOVAL] {
-        assert!(rt; change.is_passed(rt.alloc()));
+        let upto = change.upto;
+        assert!(rt; change.is_passed(rt.alloc()), "from k{upto} down");
     }
 }

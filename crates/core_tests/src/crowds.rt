@@ -255,17 +255,24 @@ impl Seen {
     }
 }
 
-/// How many entries there are when all stand, and the most steps of a command of a kind beside them; none where anything is wrong.
-fn stands(alloc: Global, core: &mut Core, kind: u32, seed: u64) -> Option<(u64, u32)> {
+/// How many entries there are when all stand, and the most steps of a command beside them.
+#[derive(Clone, Copy)]
+struct Moment {
+    entries: u64,
+    steps: u32,
+}
+
+/// When all stand, and what a command of a kind takes then; none where anything is wrong.
+fn stands(alloc: Global, core: &mut Core, kind: u32, seed: u64) -> Option<Moment> {
     let mut rng = Pcg32::seed_from_u64(seed);
     let mut keys = Keys::none();
     if !is_filled(core, &mut keys, &mut rng) {
         return None;
     }
     let places = crowd(core, &mut keys, &mut rng)?;
-    let moment = core.turns();
+    let entries = core.turns();
     let steps = most(core, &mut keys, kind, places)?;
-    all_end(alloc, core, &keys).then_some((moment, steps))
+    all_end(alloc, core, &keys).then_some(Moment { entries, steps })
 }
 
 /// What commands of a kind took in a new tree, beside all that stand there.
@@ -273,12 +280,12 @@ fn watched(alloc: Global, size: Size, kind: u32, seed: u64) -> Option<Seen> {
     let mut core = size.opened(alloc, 16)?;
     let stands = stands(alloc, &mut core, kind, seed);
     let trace = core.into_trace();
-    let (moment, steps) = stands?;
-    let (kinds, rounds) = stood(&trace.entries, moment);
+    let moment = stands?;
+    let standing = stood(&trace.entries, moment.entries);
     Some(Seen {
-        kinds,
-        steps,
-        rounds,
+        kinds: standing.kinds,
+        steps: moment.steps,
+        rounds: standing.rounds,
     })
 }
 
@@ -295,15 +302,27 @@ fn most_seen(alloc: Global, size: Size, kind: u32) -> Option<Seen> {
     Some(most)
 }
 
-/// The most steps and rounds of a command of each kind, in a small tree and in a large one.
-const MOST: [[(u32, u32); 2]; 7] = [
-    [(29, 1), (16, 1)],
-    [(35, 1), (16, 1)],
-    [(418, 6), (119, 6)],
-    [(341, 6), (112, 6)],
-    [(1605, 34), (578, 42)],
-    [(85, 2), (50, 2)],
-    [(2901, 50), (824, 61)],
+/// A small tree and a large one.
+const SMALL: Size = Size::Small(2048, 16384);
+
+const LARGE: Size = Size::Large(2048, 16384);
+
+/// The most steps and rounds of a command of each kind in each tree.
+const MOST: [(u32, Size, u32, u32); 14] = [
+    (0, SMALL, 29, 1),
+    (0, LARGE, 16, 1),
+    (1, SMALL, 35, 1),
+    (1, LARGE, 16, 1),
+    (2, SMALL, 418, 6),
+    (2, LARGE, 119, 6),
+    (3, SMALL, 341, 6),
+    (3, LARGE, 112, 6),
+    (4, SMALL, 1605, 34),
+    (4, LARGE, 578, 42),
+    (5, SMALL, 85, 2),
+    (5, LARGE, 50, 2),
+    (6, SMALL, 2901, 50),
+    (6, LARGE, 824, 61),
 ];
 
 /// Where actors have stood: behind each exchange of a removal on each of the three lowest levels.
@@ -312,17 +331,13 @@ const EACH: u32 = 0x7fff;
 #[test]
 fn every_command_ends_beside_fifteen(rt: HostRuntime) {
     let mut kinds = 0;
-    for (kind, most) in MOST.iter().enumerate() {
-        let seen = [Size::Small(2048, 16384), Size::Large(2048, 16384)].map(|size| most_seen(
-            rt.alloc(),
-            size,
-            (kind % 7) as u32,
-        ));
-        for (seen, most) in seen.iter().zip(most) {
-            let taken = seen.map(|seen| (seen.steps, seen.rounds));
-            assert!(rt; taken == Some(*most), "{kind}: {seen:?}");
-            kinds |= seen.map_or(0, |seen| seen.kinds);
-        }
+    for (kind, size, steps, rounds) in MOST {
+        let seen = most_seen(rt.alloc(), size, kind);
+        assert!(rt;
+            seen.is_some_and(|seen| seen.steps == steps && seen.rounds == rounds),
+            "kind {kind}, {size:?}: {seen:?}"
+        );
+        kinds |= seen.map_or(0, |seen| seen.kinds);
     }
     assert!(rt; kinds == EACH, "{kinds:x}");
 }

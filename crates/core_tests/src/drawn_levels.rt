@@ -79,7 +79,7 @@ fn drawn_deletes_on_four_and_five_levels(rt: HostRuntime) {
         let removed = removed(rt.alloc(), end, size);
         assert!(rt;
             removed.is_some_and(|removed| removed[2] > 0),
-            "{removed:?}"
+            "{size:?}: {removed:?}"
         );
     }
 }
@@ -188,6 +188,7 @@ fn all_stop_anew(alloc: Global, size: Size) -> Option<bool> {
 #[test]
 fn all_commands_beside_one_that_stands(rt: HostRuntime) {
     for size in [Size::Small(320, 8_192), Size::Large(320, 8_192)] {
-        assert!(rt; all_stop_anew(rt.alloc(), size) == Some(true));
+        let stopped = all_stop_anew(rt.alloc(), size);
+        assert!(rt; stopped == Some(true), "{size:?}: {stopped:?}");
     }
 }

@@ -116,7 +116,14 @@ fn emptied(alloc: Global, size: Size) -> Option<Core> {
 const LONGEST: u32 = 1 << 17;
 
 /// How many steps a command takes with nobody else there, and how many of its exchanges win.
-fn taken(core: &mut Core, command: Command) -> Option<(u32, u32)> {
+#[derive(Clone, Copy, Debug, PartialEq)]
+struct Effort {
+    steps: u32,
+    links: u32,
+}
+
+/// What a command takes.
+fn taken(core: &mut Core, command: Command) -> Option<Effort> {
     if !begins(core, 2, command) {
         return None;
     }
@@ -125,14 +132,14 @@ fn taken(core: &mut Core, command: Command) -> Option<(u32, u32)> {
         match core.step_on(2) {
             Some(None) => {}
             Some(Some(_)) => links = links.wrapping_add(1),
-            None => return end(core, 2).is_some().then_some((steps, links)),
+            None => return end(core, 2).is_some().then_some(Effort { steps, links }),
         }
     }
     None
 }
 
-/// How many steps the command takes, and how many exchanges win, in a core that is emptied for it.
-fn taken_anew(alloc: Global, size: Size, ask: Ask) -> Option<(u32, u32)> {
+/// What it takes in a core that is emptied for it.
+fn taken_anew(alloc: Global, size: Size, ask: Ask) -> Option<Effort> {
     let mut core = emptied(alloc, size)?;
     let taken = taken(&mut core, ask.command());
     let_go(core);
@@ -142,22 +149,30 @@ fn taken_anew(alloc: Global, size: Size, ask: Ask) -> Option<(u32, u32)> {
 /// The greatest number of the emptied pages that was there.
 const LAST: u32 = WIDTH * PAGES - 2;
 
-/// What is asked, with how many steps it takes and how many of its exchanges win, in a small tree and in a large one.
-const TAKEN: [(Ask, [(u32, u32); 2]); 4] = [
-    (Ask::Get(LAST), [(16, 0), (12, 0)]),
-    (Ask::Upsert(LAST, 1), [(22, 1), (16, 1)]),
-    (Ask::Delete(LAST), [(40_751, 878), (17_088, 1_066)]),
-    (Ask::Tidy(LAST), [(45_553, 1_021), (17_631, 1_145)]),
+/// A small tree and a large one.
+const SMALL: Size = Size::Small(512, 8_192);
+
+const LARGE: Size = Size::Large(512, 8_192);
+
+/// What is asked, with how many steps it takes and how many of its exchanges win.
+const TAKEN: [(Ask, Size, u32, u32); 8] = [
+    (Ask::Get(LAST), SMALL, 16, 0),
+    (Ask::Get(LAST), LARGE, 12, 0),
+    (Ask::Upsert(LAST, 1), SMALL, 22, 1),
+    (Ask::Upsert(LAST, 1), LARGE, 16, 1),
+    (Ask::Delete(LAST), SMALL, 40_751, 878),
+    (Ask::Delete(LAST), LARGE, 17_088, 1_066),
+    (Ask::Tidy(LAST), SMALL, 45_553, 1_021),
+    (Ask::Tidy(LAST), LARGE, 17_631, 1_145),
 ];
 
 #[test]
 fn one_operation_removes_all_that_was_emptied(rt: HostRuntime) {
-    for (ask, wanted) in TAKEN {
-        let taken = [Size::Small(512, 8_192), Size::Large(512, 8_192)].map(|size| taken_anew(
-            rt.alloc(),
-            size,
-            ask,
-        ));
-        assert!(rt; taken == wanted.map(Some), "{taken:?}");
+    for (ask, size, steps, links) in TAKEN {
+        let taken = taken_anew(rt.alloc(), size, ask);
+        assert!(rt;
+            taken == Some(Effort { steps, links }),
+            "{ask:?}, {size:?}: {taken:?}"
+        );
     }
 }

@@ -3,7 +3,7 @@
 use crate::by_hand::{begins, end, let_go, replies, stepped};
 use crate::numbered::{key, value};
 use crate::scripts::{Line, lists_all, opened, runs};
-use crate::tally::Tally;
+use crate::tally::{Removals, Tally};
 use bw_model::{Command, Link, Reply};
 use std::alloc::Global;
 use step_core::Core;
@@ -11,47 +11,75 @@ use step_core::Core;
 /// How many keys there are.
 const KEYS: u32 = 1100;
 
-/// The tally of a tree in which these lines come true, and of which no key is left.
-fn shrunk(alloc: Global, lines: &[Line]) -> Option<Tally> {
+/// What a tally has of a tree that shrank.
+#[derive(Clone, Copy, Debug, PartialEq)]
+struct Shrinking {
+    /// How many steps there were in all, and in the operation that removed the first page of level 2.
+    turns: u32,
+    steps: u32,
+    /// The removals of each level, and the pages that are left on it.
+    removals: [Removals; 5],
+    pages: [u32; 5],
+}
+
+/// What the tally of a tree has in which these lines come true, and of which no key is left.
+fn shrunk(alloc: Global, lines: &[Line]) -> Option<Shrinking> {
     let mut core = opened(alloc, 2, 512, 8192, 1)?;
     let right = runs(alloc, &mut core, lines) && lists_all(alloc, &core, 1, 0);
     let trace = core.into_trace();
-    right.then_some(Tally::of(&trace.entries))
+    let tally = Tally::of(&trace.entries);
+    right.then_some(Shrinking {
+        turns: tally.turns,
+        steps: tally.levels[2].steps,
+        removals: tally.removals(),
+        pages: tally.pages(),
+    })
 }
 
-/// For each level how many pages were removed, and in which operation and step the first one was.
-type Removals = [(u32, u32, u32); 5];
-
-/// Whether a tally has so many steps, and these removals of the three levels below the root, the first of a page of level 2 by an operation
-/// of so many steps; and whether one page is left on each level.
-fn has(tally: Option<Tally>, turns: u32, removals: Removals, steps: u32) -> bool {
-    match tally {
-        Some(tally) => {
-            tally.turns == turns
-                && tally.removals() == removals
-                && tally.levels[2].steps == steps
-                && tally.pages() == [1; 5]
-        }
-        None => false,
+/// So many pages are removed, the first in this operation and step.
+fn removed(pages: u32, operation: u32, step: u32) -> Removals {
+    Removals {
+        pages,
+        operation,
+        step,
     }
 }
 
-/// From the last key down.
-const FALLS: [Line; 2] = [Line::Inserts(0, 1, KEYS), Line::Deletes(0, KEYS, 1)];
-
-/// From the first key up.
-const RISES: [Line; 2] = [Line::Inserts(0, 1, KEYS), Line::DeletesUp(0, 1, KEYS)];
-
-/// No removal.
-const NO: (u32, u32, u32) = (0, 0, 0);
-
-// The first removals are in the deletes of k1092, k1060 and k0804; from the front in those of k0013, k0101 and k0869.
+// From the last key down: the first removals are in the deletes of k1092, k1060 and k0804. From the first key up: k0013, k0101 and k0869.
 #[test]
 fn pages_of_all_levels_go(rt: HostRuntime) {
-    let falls = [(136, 1108, 41), (16, 1140, 152), (1, 1396, 243), NO, NO];
-    assert!(rt; has(shrunk(rt.alloc(), &FALLS), 99_423, falls, 363));
-    let rises = [(136, 1112, 90), (16, 1200, 300), (1, 1968, 299), NO, NO];
-    assert!(rt; has(shrunk(rt.alloc(), &RISES), 97_821, rises, 968));
+    let (inserts, none) = (Line::Inserts(0, 1, KEYS), removed(0, 0, 0));
+    let fallen = shrunk(rt.alloc(), &[inserts, Line::Deletes(0, KEYS, 1)]);
+    let expected = Shrinking {
+        turns: 99_423,
+        steps: 363,
+        removals: [
+            removed(136, 1108, 41),
+            removed(16, 1140, 152),
+            removed(1, 1396, 243),
+            none,
+            none,
+        ],
+        pages: [1; 5],
+    };
+    assert!(rt;
+        fallen == Some(expected),
+        "from the last key down: {fallen:?}"
+    );
+    let risen = shrunk(rt.alloc(), &[inserts, Line::DeletesUp(0, 1, KEYS)]);
+    let expected = Shrinking {
+        turns: 97_821,
+        steps: 968,
+        removals: [
+            removed(136, 1112, 90),
+            removed(16, 1200, 300),
+            removed(1, 1968, 299),
+            none,
+            none,
+        ],
+        pages: [1; 5],
+    };
+    assert!(rt; risen == Some(expected), "from the first key up: {risen:?}");
 }
 
 /// The tree in which the delete of k0804 removes a page of level 2.
@@ -104,5 +132,5 @@ fn reads_between(alloc: Global) -> bool {
 
 #[test]
 fn a_lookup_goes_through_a_removal_on_level_2(rt: HostRuntime) {
-    assert!(rt; reads_between(rt.alloc()));
+    assert!(rt; reads_between(rt.alloc()), "between the steps of a delete");
 }

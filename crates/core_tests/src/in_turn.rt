@@ -110,10 +110,8 @@ fn longest(alloc: Global, size: Size, orders: u64) -> Option<u32> {
 
 #[test]
 fn changes_do_not_pause_for_long(rt: HostRuntime) {
-    let longest = [Size::Small(64, 256), Size::Large(64, 256)].map(|size| longest(
-        rt.alloc(),
-        size,
-        1_000,
-    ));
-    assert!(rt; longest == [Some(78), Some(47)], "{longest:?}");
+    for (size, expected) in [(Size::Small(64, 256), 78), (Size::Large(64, 256), 47)] {
+        let longest = longest(rt.alloc(), size, 1_000);
+        assert!(rt; longest == Some(expected), "{size:?}: {longest:?}");
+    }
 }

@@ -142,7 +142,10 @@ fn index_pages_go_where_they_may(rt: HostRuntime) {
         removal_anew(rt.alloc(), &HELD_LEAF),
         removal_anew(rt.alloc(), &NEIGHBOURS),
     ];
-    assert!(rt; removals == [Some(236), Some(242), Some(265)]);
+    assert!(rt;
+        removals == [Some(236), Some(242), Some(265)],
+        "{removals:?}"
+    );
 }
 
 /// The tree in which the delete of k164 removes a page of level 1.
@@ -165,7 +168,7 @@ fn removal_stops(alloc: Global, meanwhile: Line) -> bool {
 #[test]
 fn a_lookup_goes_through_a_removal_of_an_index_page(rt: HostRuntime) {
     let looks = Line::Replies(1, Ask::Get(130), Say::Value(130));
-    assert!(rt; removal_stops(rt.alloc(), looks));
+    assert!(rt; removal_stops(rt.alloc(), looks), "beside a lookup");
 }
 
 /// A cursor page on that way, a delete of a key there, and inserts of ten keys there, by which a leaf is split.
@@ -175,19 +178,14 @@ const OTHERS: [Line; 3] = [
     Line::InsertsBehind(1, 130),
 ];
 
-/// Whether the delete stops anywhere while actor 1 does each of these.
-fn all_removals_stop(alloc: Global) -> bool {
-    for meanwhile in OTHERS {
-        if !removal_stops(alloc, meanwhile) {
-            return false;
-        }
-    }
-    true
-}
-
 #[test]
 fn others_go_through_a_removal_of_an_index_page(rt: HostRuntime) {
-    assert!(rt; all_removals_stop(rt.alloc()));
+    for (place, meanwhile) in OTHERS.iter().enumerate() {
+        assert!(rt;
+            removal_stops(rt.alloc(), *meanwhile),
+            "beside line {place}"
+        );
+    }
 }
 
 /// A lookup of an earlier key, and deletes of it and the next four; then the insert goes on, and those behind it.
@@ -212,5 +210,5 @@ fn split_stops(alloc: Global) -> bool {
 
 #[test]
 fn a_split_of_an_index_page_stops_anywhere(rt: HostRuntime) {
-    assert!(rt; split_stops(rt.alloc()));
+    assert!(rt; split_stops(rt.alloc()), "the insert of k129");
 }

@@ -106,7 +106,8 @@ fn updates_lack(alloc: Global) -> bool {
 
 #[test]
 fn open_and_run_want_memory(rt: HostRuntime) {
-    assert!(rt; opens(rt.alloc()) && updates_lack(rt.alloc()));
+    assert!(rt; opens(rt.alloc()), "a core is opened");
+    assert!(rt; updates_lack(rt.alloc()), "updates");
 }
 
 /// Whether the twin lists these pairs.
@@ -288,7 +289,7 @@ fn turns_want_memory(rt: HostRuntime) {
         taken(alloc, &[10], (Ask::Page(1), 7), &PAGE_WANTS),
         taken(alloc, &INSERTS, (Ask::Insert(17), 58), &SPLIT_WANTS),
     ];
-    assert!(rt; taken == [11, 23, 19, 309]);
+    assert!(rt; taken == [11, 23, 19, 309], "{taken:?}");
 }
 
 /// Whether the core lists these pairs, or lacks memory for it; none where anything else comes.
@@ -336,5 +337,5 @@ fn listing_lacks(alloc: Global) -> bool {
 
 #[test]
 fn listing_wants_memory(rt: HostRuntime) {
-    assert!(rt; listing_lacks(rt.alloc()));
+    assert!(rt; listing_lacks(rt.alloc()), "a listing of sixteen pairs");
 }

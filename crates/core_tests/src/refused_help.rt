@@ -120,5 +120,5 @@ fn help_lacks(alloc: Global) -> bool {
 
 #[test]
 fn a_helped_split_wants_memory(rt: HostRuntime) {
-    assert!(rt; help_lacks(rt.alloc()));
+    assert!(rt; help_lacks(rt.alloc()), "a helped split");
 }

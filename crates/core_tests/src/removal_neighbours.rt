@@ -82,19 +82,14 @@ const IN_TURNS: [(u32, u32); 10] = [
     (11, 40),
 ];
 
-/// Whether they are deleted however the actors take turns.
-fn are_deleted_in_turns(alloc: Global) -> bool {
-    for (first, second) in IN_TURNS {
-        if !are_deleted(alloc, [(0, first), (1, second)]) {
-            return false;
-        }
-    }
-    true
-}
-
 #[test]
 fn neighbours_are_removed_in_turns(rt: HostRuntime) {
-    assert!(rt; are_deleted_in_turns(rt.alloc()));
+    for (first, second) in IN_TURNS {
+        assert!(rt;
+            are_deleted(rt.alloc(), [(0, first), (1, second)]),
+            "{first} and {second} steps in turn"
+        );
+    }
 }
 
 /// Whether they are where one actor stops after any number of steps, of every fourth one, and the other then goes on to its end.
@@ -109,5 +104,6 @@ fn stops_anywhere(alloc: Global, one: u8, other: u8) -> bool {
 
 #[test]
 fn a_neighbour_stops(rt: HostRuntime) {
-    assert!(rt; stops_anywhere(rt.alloc(), 0, 1) && stops_anywhere(rt.alloc(), 1, 0));
+    assert!(rt; stops_anywhere(rt.alloc(), 0, 1), "actor 0 stops");
+    assert!(rt; stops_anywhere(rt.alloc(), 1, 0), "actor 1 stops");
 }

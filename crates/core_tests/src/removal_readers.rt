@@ -85,7 +85,7 @@ fn are_read(alloc: Global) -> bool {
 
 #[test]
 fn readers_between_the_stages(rt: HostRuntime) {
-    assert!(rt; are_read(rt.alloc()));
+    assert!(rt; are_read(rt.alloc()), "at one of the stages");
 }
 
 /// Whether an operation of actor 1, by so many steps at least, has one of these replies wherever it stands while the delete goes on to its
@@ -134,11 +134,17 @@ fn readers_through_a_removal(rt: HostRuntime) {
         go_through(rt.alloc(), (Ask::Page(10), pages), 6, 10),
         go_through(rt.alloc(), (Ask::Back(10), back), 6, 10),
     ];
-    assert!(rt; right == [true; 3]);
+    assert!(rt;
+        right == [true; 3],
+        "lookup, page, page backward: {right:?}"
+    );
 }
 
 #[test]
 fn swaps_through_a_removal(rt: HostRuntime) {
     let swap = (Ask::Swap(10, 10, 30), [Say::Swapped, Say::Swapped]);
-    assert!(rt; go_through(rt.alloc(), swap, 10, 30));
+    assert!(rt;
+        go_through(rt.alloc(), swap, 10, 30),
+        "from behind one of the stages"
+    );
 }

@@ -69,7 +69,7 @@ fn a_removal_stops_anywhere(rt: HostRuntime) {
         delete_stops(alloc, &deletes(Say::Value(12)), &deletes(Say::None)),
         delete_stops(alloc, &GROWS, &GROWS),
     ];
-    assert!(rt; stops == [true; 3]);
+    assert!(rt; stops == [true; 3], "updates, deletes, inserts: {stops:?}");
 }
 
 // Two steps enter. Eleven read the leaf, four hold its term; twelve read it again, four remove it; thirteen find it removed. Seven
@@ -96,5 +96,5 @@ const REMOVAL: [Line; 15] = [
 
 #[test]
 fn steps_of_a_removal(rt: HostRuntime) {
-    assert!(rt; is_told(rt.alloc(), &REMOVAL));
+    assert!(rt; is_told(rt.alloc(), &REMOVAL), "a step or an exchange");
 }

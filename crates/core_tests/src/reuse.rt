@@ -53,7 +53,14 @@ pub(crate) fn rounds(count: u32) -> u32 {
 }
 
 /// How many steps retire the epoch, and how many free rows or PIDs.
-fn retired_and_freed(entries: &Entries, first: u64, end: u64) -> (u32, u32) {
+#[derive(Clone, Copy)]
+struct Frees {
+    retired: u32,
+    freed: u32,
+}
+
+/// What the entries of these places free.
+fn retired_and_freed(entries: &Entries, first: u64, end: u64) -> Frees {
     let (mut retired, mut freed) = (0u32, 0u32);
     for place in first..end {
         match entries.entry(place) {
@@ -66,7 +73,7 @@ fn retired_and_freed(entries: &Entries, first: u64, end: u64) -> (u32, u32) {
             _ => {}
         }
     }
-    (retired, freed)
+    Frees { retired, freed }
 }
 
 /// Whether the core lists all seventeen keys.
@@ -89,12 +96,19 @@ fn come_and_go(alloc: Global) -> bool {
 // Each round removes a page and makes one: the identifiers would do for 61 rounds, the rows for fewer than ten.
 #[test]
 fn pages_come_and_go(rt: HostRuntime) {
-    assert!(rt; come_and_go(rt.alloc()));
+    assert!(rt; come_and_go(rt.alloc()), "a hundred rounds");
 }
 
-/// Between which turns actor 2 stays inside, if all goes on as it is to where it does from the second round on: before so many rounds
-/// are done the others find no room, and once it has left there is room again.
-fn stays(alloc: Global, core: &mut Core, count: u32) -> Option<(u64, u64)> {
+/// Between which turns an actor stays inside.
+#[derive(Clone, Copy)]
+struct Stay {
+    since: u64,
+    until: u64,
+}
+
+/// Where actor 2 stays inside, if all goes on as it is to where it does from the second round on: before so many rounds are done the others
+/// find no room, and once it has left there is room again.
+fn stays(alloc: Global, core: &mut Core, count: u32) -> Option<Stay> {
     let (first, end) = (rounds(2), rounds(count));
     let entered = served(core, [0, 1], 0, first) == Some(first)
         && begins(core, 2, Command::Get(key(10)))
@@ -107,7 +121,7 @@ fn stays(alloc: Global, core: &mut Core, count: u32) -> Option<(u64, u64)> {
         && finish(core, 2) == Some(Reply::Value(value(10)))
         && served(core, [0, 1], stop, end) == Some(end)
         && is_round(alloc, core);
-    right.then_some((since, until))
+    right.then_some(Stay { since, until })
 }
 
 /// Whether it is so on a new core, where nothing is freed meanwhile.
@@ -117,8 +131,8 @@ fn waits(alloc: Global, rows: u64, epoch: u64, count: u32) -> bool {
     };
     let stays = stays(alloc, &mut core, count);
     match (stays, settled(core, &key(20))) {
-        (Some((since, until)), Some(trace)) => {
-            retired_and_freed(&trace.entries, since, until).1 == 0
+        (Some(stay), Some(trace)) => {
+            retired_and_freed(&trace.entries, stay.since, stay.until).freed == 0
         }
         _ => false,
     }
@@ -134,7 +148,7 @@ fn what_an_actor_inside_may_reach_waits(rt: HostRuntime) {
         waits(alloc, 128, LAST_EPOCH, 12),
         waits(alloc, 2048, 1, 70),
     ];
-    assert!(rt; waits == [true; 4]);
+    assert!(rt; waits == [true; 4], "{waits:?}");
 }
 
 /// How many epochs are retired in some rounds, and before it comes to rest, from one so long before the last on, if all goes well.
@@ -142,15 +156,15 @@ fn retired(alloc: Global, before: u64) -> Option<u32> {
     let mut core = opened(alloc, 2, 64, 128, LAST_EPOCH.saturating_sub(before))?;
     let goes = served(&mut core, [0, 1], 0, rounds(20)) == Some(rounds(20));
     let trace = settled(core, &key(20))?;
-    let (retired, _) = retired_and_freed(&trace.entries, 0, trace.entries.len());
-    goes.then_some(retired)
+    let frees = retired_and_freed(&trace.entries, 0, trace.entries.len());
+    goes.then_some(frees.retired)
 }
 
 #[test]
 fn the_last_epoch_stays(rt: HostRuntime) {
     let alloc = rt.alloc();
     let retired = [retired(alloc, 0), retired(alloc, 1), retired(alloc, 5)];
-    assert!(rt; retired == [Some(0), Some(1), Some(5)]);
+    assert!(rt; retired == [Some(0), Some(1), Some(5)], "{retired:?}");
 }
 
 /// A letter for an entry, if it is one of these: the epoch 1 is read and retired, the other actor's announce is read, and the rows 1 to
@@ -215,5 +229,5 @@ fn is_swept(alloc: Global) -> bool {
 // The ninth insert consolidates; the old chain's rows are 1 to 9. A lookup leaves them to the tenth insert, which frees them.
 #[test]
 fn the_steps_of_a_sweep(rt: HostRuntime) {
-    assert!(rt; is_swept(rt.alloc()));
+    assert!(rt; is_swept(rt.alloc()), "the steps of the tenth insert");
 }

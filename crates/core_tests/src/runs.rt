@@ -46,7 +46,8 @@ fn are_run(alloc: Global) -> Option<bool> {
 
 #[test]
 fn runs_all_turns(rt: HostRuntime) {
-    assert!(rt; are_run(rt.alloc()) == Some(true));
+    let run = are_run(rt.alloc());
+    assert!(rt; run == Some(true), "{run:?}");
 }
 
 fn refusal(alloc: Global, actors: u64, turns: &[Turn]) -> Option<RunError> {
@@ -75,7 +76,7 @@ fn refuses_turns(rt: HostRuntime) {
         Some(RunError::Unfinished(1)),
         Some(RunError::NoOperation(0)),
     ];
-    assert!(rt; refused == wanted);
+    assert!(rt; refused == wanted, "{refused:?}");
 }
 
 /// How a core of one actor refuses the turns, and how many it has taken before.
@@ -97,15 +98,12 @@ fn refused_at(alloc: Global, at: u8, turn: Turn) -> Option<RunError> {
 
 #[test]
 fn refuses_by_the_turns_before(rt: HostRuntime) {
-    let refused = [
-        refused_at(rt.alloc(), 10, begins()),
-        refused_at(rt.alloc(), 11, Turn::Step(0)),
-        refused_at(rt.alloc(), 12, begins()),
-    ];
-    let wanted = [
-        Some(RunError::Unfinished(10)),
-        Some(RunError::NoOperation(11)),
-        Some(RunError::Unfinished(12)),
-    ];
-    assert!(rt; refused == wanted);
+    for (at, turn, expected) in [
+        (10, begins(), RunError::Unfinished(10)),
+        (11, Turn::Step(0), RunError::NoOperation(11)),
+        (12, begins(), RunError::Unfinished(12)),
+    ] {
+        let refused = refused_at(rt.alloc(), at, turn);
+        assert!(rt; refused == Some(expected), "at {at}: {refused:?}");
+    }
 }

@@ -203,10 +203,37 @@ fn watch(
 }
 
 /// How many roots came, whether room was wanted, and whether a key was changed after that.
-type Told = Option<(u32, bool, bool)>;
+#[derive(Clone, Copy, Debug, PartialEq)]
+struct Outcome {
+    roots: u32,
+    full: bool,
+    changed_since: bool,
+}
 
-fn told(seen: Option<Seen>) -> Told {
-    seen.map(|seen| (seen.roots, seen.full, seen.changed_since))
+fn told(seen: Option<Seen>) -> Option<Outcome> {
+    seen.map(|seen| Outcome {
+        roots: seen.roots,
+        full: seen.full,
+        changed_since: seen.changed_since,
+    })
+}
+
+/// So many roots came, and there was room for all.
+fn roomy(roots: u32) -> Option<Outcome> {
+    Some(Outcome {
+        roots,
+        full: false,
+        changed_since: false,
+    })
+}
+
+/// So many roots came, and room was wanted, and keys were changed after that.
+fn scarce(roots: u32) -> Option<Outcome> {
+    Some(Outcome {
+        roots,
+        full: true,
+        changed_since: true,
+    })
 }
 
 /// What is told of a schedule in a tree with so many PIDs and rows, and in a large one with as many.
@@ -215,7 +242,7 @@ fn in_both(
     mix: (Mix, u32),
     turns: (u64, u32, u32),
     (pids, rows): (u64, u64),
-) -> [Told; 2] {
+) -> [Option<Outcome>; 2] {
     [Size::Small(pids, rows), Size::Large(pids, rows)].map(|size| told(watch(
         alloc, mix, turns, size,
     )))
@@ -226,31 +253,29 @@ fn in_both(
 fn few_keys(rt: HostRuntime) {
     let four = in_both(rt.alloc(), (Mix::Four, 8), (7, 3, 20_000), (64, 64));
     let seven = in_both(rt.alloc(), (Mix::Seven, 8), (12, 3, 20_000), (64, 64));
-    assert!(rt;
-        [four, seven] == [[Some((0, false, false)); 2]; 2],
-        "{four:?} {seven:?}"
-    );
+    assert!(rt; four == [roomy(0); 2], "{four:?}");
+    assert!(rt; seven == [roomy(0); 2], "{seven:?}");
 }
 
 #[test]
 fn keys_for_three_levels(rt: HostRuntime) {
     let four = in_both(rt.alloc(), (Mix::Four, 676), (8, 3, 50_000), (256, 2048));
-    assert!(rt; four == [Some((2, false, false)); 2], "{four:?}");
+    assert!(rt; four == [roomy(2); 2], "{four:?}");
 }
 
 #[test]
 fn seven_commands_on_three_levels(rt: HostRuntime) {
     let seven = in_both(rt.alloc(), (Mix::Seven, 676), (13, 5, 40_000), (256, 2048));
-    assert!(rt; seven == [Some((2, false, false)); 2], "{seven:?}");
+    assert!(rt; seven == [roomy(2); 2], "{seven:?}");
 }
 
 // Few keys, with few rows, and many keys.
 #[test]
 fn ten_commands(rt: HostRuntime) {
     let few = in_both(rt.alloc(), (Mix::Ten, 8), (17, 4, 20_000), (64, 64));
-    assert!(rt; few == [Some((0, false, false)); 2], "{few:?}");
+    assert!(rt; few == [roomy(0); 2], "{few:?}");
     let many = in_both(rt.alloc(), (Mix::Ten, 676), (18, 5, 40_000), (256, 2048));
-    assert!(rt; many == [Some((2, false, false)); 2], "{many:?}");
+    assert!(rt; many == [roomy(2); 2], "{many:?}");
 }
 
 /// How many slots four seeds clear, each without a fault.
@@ -273,7 +298,10 @@ fn seeds_1_to_8(rt: HostRuntime) {
         (Size::Large(64, 4096), 5),
     ] {
         let cleared = cleared(rt.alloc(), Mix::Swaps, size, first);
-        assert!(rt; cleared > Some(0), "{first}: {cleared:?}");
+        assert!(rt;
+            cleared > Some(0),
+            "{size:?}, seeds from {first} on: {cleared:?}"
+        );
     }
 }
 
@@ -281,14 +309,14 @@ fn seeds_1_to_8(rt: HostRuntime) {
 fn ten_commands_beside_removals(rt: HostRuntime) {
     for size in [Size::Small(256, 4096), Size::Large(64, 4096)] {
         let cleared = cleared(rt.alloc(), Mix::Shrinking, size, 19);
-        assert!(rt; cleared > Some(0), "{cleared:?}");
+        assert!(rt; cleared > Some(0), "{size:?}: {cleared:?}");
     }
 }
 
 #[test]
 fn many_actors(rt: HostRuntime) {
     let four = in_both(rt.alloc(), (Mix::Four, 40), (9, 16, 30_000), (64, 512));
-    assert!(rt; four == [Some((1, false, false)); 2], "{four:?}");
+    assert!(rt; four == [roomy(1); 2], "{four:?}");
 }
 
 // As many as a large tree takes.
@@ -296,9 +324,9 @@ fn many_actors(rt: HostRuntime) {
 fn sixty_three_actors(rt: HostRuntime) {
     let size = Size::Large(192, 1_024);
     let ten = told(watch(rt.alloc(), (Mix::Ten, 40), (27, 63, 30_000), size));
-    assert!(rt; ten == Some((1, false, false)), "{ten:?}");
+    assert!(rt; ten == roomy(1), "{ten:?}");
     let four = told(watch(rt.alloc(), (Mix::Four, 676), (28, 63, 30_000), size));
-    assert!(rt; four == Some((2, false, false)), "{four:?}");
+    assert!(rt; four == roomy(2), "{four:?}");
 }
 
 #[test]
@@ -309,20 +337,18 @@ fn few_pids(rt: HostRuntime) {
         (10, 4, 60_000),
         (64, 1024),
     );
-    assert!(rt; four == [Some((2, true, true)); 2], "{four:?}");
+    assert!(rt; four == [scarce(2); 2], "{four:?}");
 }
 
 // The chains of a large tree are short, so that it takes more keys to use up all rows.
 #[test]
 fn few_rows(rt: HostRuntime) {
-    let wanted = [Some((1, true, true)), Some((1, false, false))];
     let four = in_both(rt.alloc(), (Mix::Four, 100), (11, 6, 20_000), (64, 64));
-    assert!(rt; four == wanted, "{four:?}");
-    let wanted = [Some((1, true, true)), Some((2, true, true))];
+    assert!(rt; four == [scarce(1), roomy(1)], "{four:?}");
     let seven = in_both(rt.alloc(), (Mix::Seven, 300), (14, 6, 20_000), (64, 64));
-    assert!(rt; seven == wanted, "{seven:?}");
+    assert!(rt; seven == [scarce(1), scarce(2)], "{seven:?}");
     let size = Size::Large(64, 64);
     let many = watch(rt.alloc(), (Mix::FewDeletes, 1024), (11, 6, 40_000), size);
     let many = told(many);
-    assert!(rt; many == Some((2, true, true)), "{many:?}");
+    assert!(rt; many == scarce(2), "{many:?}");
 }

@@ -7,7 +7,7 @@ use std::alloc::Global;
 use step_core::Core;
 
 /// A command on a key, with its values, by their numbers.
-#[derive(Clone, Copy)]
+#[derive(Clone, Copy, Debug)]
 pub(crate) enum Ask {
     Get(u32),
     Insert(u32),
@@ -282,7 +282,7 @@ pub(crate) fn opened(alloc: Global, actors: u64, pids: u64, rows: u64, epoch: u6
 }
 
 /// Which kind of tree a core has, and how many page identifiers and rows.
-#[derive(Clone, Copy)]
+#[derive(Clone, Copy, Debug)]
 pub(crate) enum Size {
     Small(u64, u64),
     /// A large tree, whatever its numbers are.

@@ -109,23 +109,35 @@ fn slept_anew(alloc: Global, size: Size, steps: u32) -> Option<u32> {
     slept
 }
 
-/// After how many steps it may sleep, and the most that it takes then.
-fn most(alloc: Global, size: Size) -> (u32, u32) {
+/// After how many steps the reader may sleep, and the most that it takes then.
+#[derive(Clone, Copy, Debug, PartialEq)]
+struct Sleep {
+    stops: u32,
+    most: u32,
+}
+
+/// Where it may sleep in a tree of this size.
+fn sleeps(alloc: Global, size: Size) -> Sleep {
     let mut most = 0u32;
-    for steps in 0..MOST_STEPS {
-        match slept_anew(alloc, size, steps) {
+    for stops in 0..MOST_STEPS {
+        match slept_anew(alloc, size, stops) {
             Some(taken) => most = most.max(taken),
-            None => return (steps, most),
+            None => return Sleep { stops, most },
         }
     }
-    (MOST_STEPS, most)
+    Sleep {
+        stops: MOST_STEPS,
+        most,
+    }
 }
 
 #[test]
 fn a_reader_that_slept_ends(rt: HostRuntime) {
-    let most = [Size::Small(512, 8_192), Size::Large(512, 8_192)].map(|size| most(
-        rt.alloc(),
-        size,
-    ));
-    assert!(rt; most == [(19, 376), (13, 190)], "{most:?}");
+    for (size, stops, most) in [
+        (Size::Small(512, 8_192), 19, 376),
+        (Size::Large(512, 8_192), 13, 190),
+    ] {
+        let sleeps = sleeps(rt.alloc(), size);
+        assert!(rt; sleeps == Sleep { stops, most }, "{size:?}: {sleeps:?}");
+    }
 }

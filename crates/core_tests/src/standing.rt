@@ -138,9 +138,16 @@ fn most(entries: &Entries) -> Look {
     most
 }
 
-/// The most rounds and reads of the lookups of all keys and of the cursor pages, and how many pages of each level were removed before
-/// these, where the lines come true, and both find what is left.
-fn looked(alloc: Global, left: Left, lines: &[Line]) -> Option<(u32, u32, [u32; 5])> {
+/// The most rounds and reads of the lookups of all keys and of the cursor pages, and how many pages of each level were removed before these.
+#[derive(Clone, Copy, Debug)]
+struct Readings {
+    rounds: u32,
+    reads: u32,
+    removals: [u32; 5],
+}
+
+/// What was looked at where the lines come true, and lookups and pages find what is left.
+fn looked(alloc: Global, left: Left, lines: &[Line]) -> Option<Readings> {
     let (pids, rows) = left.room;
     let mut core = opened(alloc, 6, pids, rows, 1)?;
     let right = runs(alloc, &mut core, lines)
@@ -148,8 +155,11 @@ fn looked(alloc: Global, left: Left, lines: &[Line]) -> Option<(u32, u32, [u32; 
         && left.is_walked(&mut core);
     let trace = core.into_trace();
     let (look, tally) = (most(&trace.entries), Tally::of(&trace.entries));
-    let removals = tally.levels.map(|level| level.removals);
-    right.then_some((look.rounds, look.reads, removals))
+    right.then_some(Readings {
+        rounds: look.rounds,
+        reads: look.reads,
+        removals: tally.levels.map(|level| level.removals),
+    })
 }
 
 /// The last page of level 1 has fifteen leaves, of which two are held. It is split by an insert that stands then, so that the upper half
@@ -181,7 +191,7 @@ fn a_lookup_ends_beside_four_that_stand(rt: HostRuntime) {
     };
     let looked = looked(rt.alloc(), left, &ON_LEVEL_1);
     assert!(rt;
-        looked.is_some_and(|(rounds, _, removals)| rounds == 2 && removals[1] == 1),
+        looked.is_some_and(|looked| looked.rounds == 2 && looked.removals[1] == 1),
         "{looked:?}"
     );
 }
@@ -223,9 +233,9 @@ fn a_lookup_goes_past_two_removed_index_pages(rt: HostRuntime) {
     };
     let looked = looked(rt.alloc(), left, &ON_LEVEL_2);
     assert!(rt;
-        looked.is_some_and(|(rounds, reads, removals)| rounds == 1
-            && reads <= 35
-            && removals[2] == 1),
+        looked.is_some_and(|looked| looked.rounds == 1
+            && looked.reads <= 35
+            && looked.removals[2] == 1),
         "{looked:?}"
     );
 }
@@ -256,9 +266,9 @@ fn a_lookup_ends_beside_two_that_stand(rt: HostRuntime) {
     };
     let looked = looked(rt.alloc(), left, &ON_LEVELS_3_AND_1);
     assert!(rt;
-        looked.is_some_and(|(rounds, _, removals)| rounds == 1
-            && removals[3] == 1
-            && removals[1] > 0),
+        looked.is_some_and(|looked| looked.rounds == 1
+            && looked.removals[3] == 1
+            && looked.removals[1] > 0),
         "{looked:?}"
     );
 }

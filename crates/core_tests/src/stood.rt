@@ -113,24 +113,33 @@ impl Watch {
     }
 }
 
-/// A bit for each stage behind which an actor stands after so many entries of a trace, and the most rounds of a command of the last actor from
-/// then on.
-pub(crate) fn stood(entries: &Entries, moment: u64) -> (u32, u32) {
+/// A bit for each stage behind which an actor stands, and the most rounds of a command of the last actor from then on.
+#[derive(Clone, Copy)]
+pub(crate) struct Standing {
+    pub(crate) kinds: u32,
+    pub(crate) rounds: u32,
+}
+
+/// Who stands after so many entries of a trace.
+pub(crate) fn stood(entries: &Entries, moment: u64) -> Standing {
     let mut watch = Watch {
         placed: [None; ROWS as usize],
         stages: [None; 16],
         rounds: 0,
         most: 0,
     };
-    let mut bits = 0;
+    let mut kinds = 0;
     for place in 0..entries.len() {
         if place == moment {
-            bits = watch.bits();
+            kinds = watch.bits();
             watch.most = 0;
         }
         if let Some(entry) = entries.entry(place) {
             watch.add(&entry);
         }
     }
-    (bits, watch.most)
+    Standing {
+        kinds,
+        rounds: watch.most,
+    }
 }

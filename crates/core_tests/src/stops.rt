@@ -134,12 +134,12 @@ fn split_stops(alloc: Global, last: u32, steps: u32) -> bool {
 // which takes four, and one to leave.
 #[test]
 fn a_split_stops_anywhere(rt: HostRuntime) {
-    assert!(rt; split_stops(rt.alloc(), 19, 58));
+    assert!(rt; split_stops(rt.alloc(), 19, 58), "the insert of k19");
 }
 
 // The leaf is consolidated and split; its term is the sixteenth of the root, which is split too, with a new root over both. The
 // insert takes eight rows. All of them are in the first word of free bits, since the rows of old chains are used again.
 #[test]
 fn a_split_of_the_root_stops_anywhere(rt: HostRuntime) {
-    assert!(rt; split_stops(rt.alloc(), 131, 126));
+    assert!(rt; split_stops(rt.alloc(), 131, 126), "the insert of k131");
 }

@@ -192,34 +192,30 @@ fn all_stops(alloc: Global, which: Stops, place: usize, apart: u32) -> Option<Mo
     None
 }
 
-/// The numbers of the commands one after another: the most turns of each, those of the delete, and how many stops there were.
-type Numbers = [(u32, u32, u32); 7];
-
-/// What each command comes to, where every so many steps are a stop; nothing where a reply is wrong.
-fn found(alloc: Global, which: Stops, apart: [u32; 7]) -> Numbers {
-    let mut numbers = [(0, 0, 0); 7];
-    for place in 0..7usize {
-        if let Some(most) = all_stops(alloc, which, place, apart[place]) {
-            numbers[place] = (most.other, most.delete, most.stops);
-        }
+/// So many turns of the command and of the delete at most, and so many stops.
+fn at_most(other: u32, delete: u32, stops: u32) -> Most {
+    Most {
+        other,
+        delete,
+        stops,
     }
-    numbers
 }
 
 // A lookup and a cursor page go past the removed page. Writers help the removal to its end, or do it themselves.
 #[test]
 fn a_removal_on_level_2_stops_anywhere(rt: HostRuntime) {
-    let wanted = [
-        (41, 208, 156),
-        (37, 208, 156),
-        (273, 191, 157),
-        (150, 190, 157),
-        (212, 78, 157),
-        (150, 190, 157),
-        (231, 48, 157),
-    ];
-    let found = found(rt.alloc(), Stops::Delete, [1; 7]);
-    assert!(rt; found == wanted, "{found:?}");
+    for (place, expected) in [
+        (0, at_most(41, 208, 156)),
+        (1, at_most(37, 208, 156)),
+        (2, at_most(273, 191, 157)),
+        (3, at_most(150, 190, 157)),
+        (4, at_most(212, 78, 157)),
+        (5, at_most(150, 190, 157)),
+        (6, at_most(231, 48, 157)),
+    ] {
+        let found = all_stops(rt.alloc(), Stops::Delete, place, 1);
+        assert!(rt; found == Some(expected), "command {place}: {found:?}");
+    }
 }
 
 // A page backward goes past the removed page, as a cursor page does.
@@ -233,15 +229,16 @@ fn a_removal_on_level_2_stops_beside_pages_backward(rt: HostRuntime) {
 // anew. The second delete and the tidying take some five hundred steps, of which every third is a stop.
 #[test]
 fn others_stop_beside_a_removal_on_level_2(rt: HostRuntime) {
-    let wanted = [
-        (40, 739, 35),
-        (35, 739, 31),
-        (198, 739, 178),
-        (73, 746, 63),
-        (79, 746, 186),
-        (46, 746, 40),
-        (81, 743, 190),
-    ];
-    let found = found(rt.alloc(), Stops::Other, [1, 1, 1, 1, 3, 1, 3]);
-    assert!(rt; found == wanted, "{found:?}");
+    for (place, apart, expected) in [
+        (0, 1, at_most(40, 739, 35)),
+        (1, 1, at_most(35, 739, 31)),
+        (2, 1, at_most(198, 739, 178)),
+        (3, 1, at_most(73, 746, 63)),
+        (4, 3, at_most(79, 746, 186)),
+        (5, 1, at_most(46, 746, 40)),
+        (6, 3, at_most(81, 743, 190)),
+    ] {
+        let found = all_stops(rt.alloc(), Stops::Other, place, apart);
+        assert!(rt; found == Some(expected), "command {place}: {found:?}");
+    }
 }

@@ -57,19 +57,12 @@ fn goes_on(alloc: Global, stop: u32) -> bool {
     }
 }
 
-/// Whether it goes on after each of the stops before each step of the sweep, before the entry, and after it.
-fn stops_anywhere(alloc: Global) -> bool {
-    for stop in 0..11u32 {
-        if !goes_on(alloc, stop) {
-            return false;
-        }
-    }
-    true
-}
-
+// It stops before each step of the sweep, before the entry, and after it.
 #[test]
 fn a_sweep_stops_anywhere(rt: HostRuntime) {
-    assert!(rt; stops_anywhere(rt.alloc()));
+    for stop in 0..11u32 {
+        assert!(rt; goes_on(rt.alloc(), stop), "after {stop} steps");
+    }
 }
 
 /// A letter for each step of a sweep, and for the entry.
@@ -100,5 +93,5 @@ fn is_swept(alloc: Global) -> bool {
 // The epoch is read and retired, two announces are read, three words of rows and one of PIDs are freed; then the upsert enters.
 #[test]
 fn the_steps_of_a_long_sweep(rt: HostRuntime) {
-    assert!(rt; is_swept(rt.alloc()));
+    assert!(rt; is_swept(rt.alloc()), "the steps of the upsert");
 }

@@ -16,6 +16,14 @@ pub(crate) struct Level {
     pub(crate) steps: u32,
 }
 
+/// How many pages of a level were removed, and in which operation, and which of its steps, the first one was.
+#[derive(Clone, Copy, Debug, PartialEq)]
+pub(crate) struct Removals {
+    pub(crate) pages: u32,
+    pub(crate) operation: u32,
+    pub(crate) step: u32,
+}
+
 /// What a record does to the pages of its level.
 #[derive(Clone, Copy)]
 enum Change {
@@ -77,10 +85,13 @@ impl Tally {
         tally
     }
 
-    /// For each level how many pages were removed, and in which operation and step the first one was.
-    pub(crate) fn removals(&self) -> [(u32, u32, u32); LEVELS] {
-        self.levels
-            .map(|level| (level.removals, level.operation, level.step))
+    /// The removals of each level.
+    pub(crate) fn removals(&self) -> [Removals; LEVELS] {
+        self.levels.map(|level| Removals {
+            pages: level.removals,
+            operation: level.operation,
+            step: level.step,
+        })
     }
 
     /// How many pages each level has, where each removed one was cleared: one where none was split, also above the root.

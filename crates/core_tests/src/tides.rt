@@ -159,15 +159,17 @@ fn lasts(alloc: Global) -> Option<bool> {
 
 #[test]
 fn a_tree_rises_and_falls(rt: HostRuntime) {
-    assert!(rt; lasts(rt.alloc()) == Some(true));
+    let lasts = lasts(rt.alloc());
+    assert!(rt; lasts == Some(true), "{lasts:?}");
 }
 
-/// Tides: with one actor in each order, and with four.
-const TIDES: [(u32, u8, Order); 4] = [
-    (1_100, 1, Order::Ascending),
-    (1_100, 1, Order::Descending),
-    (1_100, 1, Order::Scattered),
-    (1_000, 4, Order::Scattered),
+/// Tides with one actor in each order, and with four; and how many PIDs are in use after each: a page is left on each level, of which there are
+/// four or three, and PID 0.
+const TIDES: [(u32, u8, Order, u32); 4] = [
+    (1_100, 1, Order::Ascending, 5),
+    (1_100, 1, Order::Descending, 5),
+    (1_100, 1, Order::Scattered, 4),
+    (1_000, 4, Order::Scattered, 4),
 ];
 
 /// Whether each of so many keys' places is tidied, from the last one on.
@@ -192,8 +194,7 @@ fn comes_and_goes(alloc: Global, core: &mut Core, rise: &Tide, seed: u64) -> boo
 }
 
 /// How many PIDs are in use after each of five tides; none where a reply is wrong.
-fn used_after(alloc: Global, place: usize) -> Option<[u32; 5]> {
-    let (keys, actors, order) = TIDES[place % 4];
+fn used_after(alloc: Global, keys: u32, actors: u8, order: Order) -> Option<[u32; 5]> {
     let rise = Tide {
         rises: true,
         keys,
@@ -211,12 +212,15 @@ fn used_after(alloc: Global, place: usize) -> Option<[u32; 5]> {
     right.then_some(after)
 }
 
-// A page is left on each level, of which there are four or three, and PID 0.
 #[test]
 fn tides_leave_as_many_pids(rt: HostRuntime) {
-    let after = [0, 1, 2, 3].map(|place| used_after(rt.alloc(), place));
-    let wanted = [Some([5; 5]), Some([5; 5]), Some([4; 5]), Some([4; 5])];
-    assert!(rt; after == wanted, "{after:?}");
+    for (keys, actors, order, expected) in TIDES {
+        let used = used_after(rt.alloc(), keys, actors, order);
+        assert!(rt;
+            used == Some([expected; 5]),
+            "{keys} keys, {actors} actors: {used:?}"
+        );
+    }
 }
 
 /// Eighty keys come in their order: nine leaves, of eight keys each but the last.
@@ -286,7 +290,7 @@ fn lives_twice(alloc: Global, actors: u8, order: Order) -> bool {
     }
 }
 
-/// Whether they do in each order.
+/// Whether they do in each order: ascending, descending and scattered.
 fn all_live(alloc: Global, actors: u8) -> [bool; 3] {
     [Order::Ascending, Order::Descending, Order::Scattered].map(|order| lives_twice(
         alloc, actors, order,
@@ -295,10 +299,12 @@ fn all_live(alloc: Global, actors: u8) -> [bool; 3] {
 
 #[test]
 fn a_tree_shrinks_to_a_leaf(rt: HostRuntime) {
-    assert!(rt; all_live(rt.alloc(), 1) == [true; 3]);
+    let live = all_live(rt.alloc(), 1);
+    assert!(rt; live == [true; 3], "{live:?}");
 }
 
 #[test]
 fn two_actors_shrink_a_tree(rt: HostRuntime) {
-    assert!(rt; all_live(rt.alloc(), 2) == [true; 3]);
+    let live = all_live(rt.alloc(), 2);
+    assert!(rt; live == [true; 3], "{live:?}");
 }

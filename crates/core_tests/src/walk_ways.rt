@@ -15,7 +15,7 @@ const READER: u8 = 1;
 
 /// How often such a walk took a step to the right, and how often it ended: at a left page into which the removed one was merged; behind one
 /// that has it as its right; at a page of another level; or because there was none to its left, or it was removed or gone.
-#[derive(Clone, Copy, PartialEq, Eq)]
+#[derive(Clone, Copy, Debug, PartialEq, Eq)]
 struct Ways {
     nearer: u32,
     merged: u32,
@@ -100,14 +100,14 @@ impl Read {
         }
     }
 
-    /// Whether it ends at this page, which follows it; if not, whether it ends below that one.
-    fn ends_at(&self, next: &Read) -> (bool, bool) {
+    /// The way from it to a removed page: through that one where it ends there, nearer where it ends below it.
+    fn way_to(&self, removed: &Read) -> Way {
         match &self.end {
-            Some((Some(high), right)) => (
-                *high == next.low && *right == next.pid,
-                *high < next.low,
-            ),
-            _ => (false, false),
+            Some((Some(high), right)) if *high == removed.low && *right == removed.pid => {
+                Way::Through
+            }
+            Some((Some(high), _)) if *high < removed.low => Way::Nearer,
+            _ => Way::Merged,
         }
     }
 }
@@ -188,11 +188,7 @@ fn way_at(page: &Read, removed: &Read) -> Way {
     if page.level != removed.level {
         return Way::OffLevel;
     }
-    match page.ends_at(removed) {
-        (true, _) => Way::Through,
-        (false, true) => Way::Nearer,
-        (false, false) => Way::Merged,
-    }
+    page.way_to(removed)
 }
 
 /// The ways that the reader took in these entries.
@@ -278,14 +274,24 @@ fn stopped(alloc: Global, core: Core, count: u32, meanwhile: &[Line]) -> Option<
     }
 }
 
-/// Where the lookup is stopped after each of its steps while this happens: all ways that it took, and how many steps those are.
-fn ways_taken(alloc: Global, meanwhile: &[Line]) -> Option<(Ways, u32)> {
+/// All ways that a lookup took, and how often it was stopped.
+#[derive(Clone, Copy)]
+struct Taken {
+    ways: Ways,
+    stops: u32,
+}
+
+/// Where the lookup is stopped after each of its steps while this happens.
+fn ways_taken(alloc: Global, meanwhile: &[Line]) -> Option<Taken> {
     let mut all = NONE;
     for count in 0..MOST {
         let core = opened(alloc, 3, 256, 4096, 1)?;
         let (ways, goes_on) = stopped(alloc, core, count, meanwhile)?;
         if !goes_on {
-            return Some((all, count));
+            return Some(Taken {
+                ways: all,
+                stops: count,
+            });
         }
         all = all.and(ways);
     }
@@ -299,14 +305,15 @@ fn ways_taken(alloc: Global, meanwhile: &[Line]) -> Option<(Ways, u32)> {
 #[test]
 fn walks_go_each_way(rt: HostRuntime) {
     let alloc = rt.alloc();
-    let (Some((ended, _)), Some((split, stops)), Some((lost, _))) = (
+    let (Some(ends), Some(splits), Some(shrinks)) = (
         ways_taken(alloc, &ENDS),
         ways_taken(alloc, &SPLITS),
         ways_taken(alloc, &SHRINKS),
     ) else {
-        assert!(rt; false);
+        assert!(rt; false, "a lookup or what happens meanwhile is wrong");
         return;
     };
+    let (ended, split, lost) = (ends.ways, splits.ways, shrinks.ways);
     let expected = [
         Ways {
             merged: ended.merged,
@@ -315,7 +322,7 @@ fn walks_go_each_way(rt: HostRuntime) {
         },
         Ways {
             nearer: split.nearer,
-            through: stops,
+            through: splits.stops,
             ..NONE
         },
         Ways {
@@ -324,6 +331,10 @@ fn walks_go_each_way(rt: HostRuntime) {
             ..NONE
         },
     ];
-    assert!(rt; [ended, split, lost] == expected);
-    assert!(rt; 0 < ended.merged && ended.merged < split.nearer && 0 < ended.through);
+    let ways = [ended, split, lost];
+    assert!(rt; ways == expected, "{ways:?}");
+    assert!(rt;
+        0 < ended.merged && ended.merged < split.nearer && 0 < ended.through,
+        "{ways:?}"
+    );
 }

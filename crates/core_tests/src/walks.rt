@@ -21,7 +21,7 @@ fn grows(core: &mut Core) -> bool {
 
 /// How far a walk has come: the greatest number of a key, how many pairs there were, and how many commands another actor has begun
 /// meanwhile.
-#[derive(Clone, Copy, PartialEq, Eq)]
+#[derive(Clone, Copy, Debug, PartialEq, Eq)]
 struct Walk {
     last: u32,
     pairs: u32,
@@ -134,12 +134,13 @@ fn walked(alloc: Global, turns: u32) -> Option<Walk> {
 
 #[test]
 fn a_walk_lists_all_pairs(rt: HostRuntime) {
+    let walk = walked(rt.alloc(), 0);
     let whole = Walk {
         last: 600,
         pairs: 300,
         begun: 0,
     };
-    assert!(rt; walked(rt.alloc(), 0) == Some(whole));
+    assert!(rt; walk == Some(whole), "{walk:?}");
 }
 
 // The even keys, which nothing changes, are walked over once each, in order. That each page is the tree's at one moment is seen in
@@ -147,5 +148,8 @@ fn a_walk_lists_all_pairs(rt: HostRuntime) {
 #[test]
 fn a_walk_goes_on_under_changes(rt: HostRuntime) {
     let walk = walked(rt.alloc(), 11);
-    assert!(rt; walk.is_some_and(|walk| walk.last == 600 && walk.begun > 100));
+    assert!(rt;
+        walk.is_some_and(|walk| walk.last == 600 && walk.begun > 100),
+        "{walk:?}"
+    );
 }

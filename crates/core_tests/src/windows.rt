@@ -62,7 +62,15 @@ fn first_and_greatest(numbers: &[u32]) -> [u32; 2] {
 }
 
 /// How many PIDs are in use at most, how many after the first lap, and how many at most after a lap.
-fn laps(alloc: Global, actors: u8) -> Option<[u32; 3]> {
+#[derive(Clone, Copy, Debug, PartialEq)]
+struct InUse {
+    most: u32,
+    after_first: u32,
+    after_any: u32,
+}
+
+/// What the laps use.
+fn laps(alloc: Global, actors: u8) -> Option<InUse> {
     let mut core = opened(alloc, u64::from(actors), 192, 8_192, 1)?;
     let after = used_after(&mut core, actors);
     let right = lists_all(alloc, &core, LAST - KEYS + 1, LAST);
@@ -70,12 +78,23 @@ fn laps(alloc: Global, actors: u8) -> Option<[u32; 3]> {
     let tally = Tally::of(&trace.entries);
     let after = after?;
     let [first, greatest] = first_and_greatest(&after);
-    right.then_some([tally.most_used, first, greatest])
+    right.then_some(InUse {
+        most: tally.most_used,
+        after_first: first,
+        after_any: greatest,
+    })
 }
 
 // A lap is no whole number of pages of level 2, of 512 keys each, so that its end may find two pages more than the first one's.
 #[test]
 fn a_window_takes_few_pids(rt: HostRuntime) {
-    let found = [laps(rt.alloc(), 1), laps(rt.alloc(), 4)];
-    assert!(rt; found == [Some([151, 145, 147]); 2], "{found:?}");
+    let expected = InUse {
+        most: 151,
+        after_first: 145,
+        after_any: 147,
+    };
+    for actors in [1, 4] {
+        let used = laps(rt.alloc(), actors);
+        assert!(rt; used == Some(expected), "{actors} actors: {used:?}");
+    }
 }

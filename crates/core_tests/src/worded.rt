@@ -158,6 +158,6 @@ fn agrees_anew(alloc: Global, seed: u64) -> bool {
 fn schedules_1_to_8(rt: HostRuntime) {
     for seed in 1..=8u64 {
         let agrees = agrees_anew(rt.alloc(), seed);
-        assert!(rt; agrees, "{seed}");
+        assert!(rt; agrees, "seed {seed}");
     }
 }
