@@ -16,6 +16,7 @@ use Rattle.tree_picture.specs.Pids.{all_pids}
 use Rattle.tree_picture.specs.Ranges.{all_ranges}
 use Rattle.tree_picture.specs.RecordLines.{all_records}
 use Rattle.tree_picture.specs.Stands.{all_stands, stands_in}
+use Rattle.tree_picture.specs.Touches.{touched_in, touched_slots}
 use Rattle.bw_model.specs.declared.step.Step.{Step as StepOf}
 use Rattle.deltas.specs.declared.record.Record.{Record}
 use Rattle.op_machine.specs.machine.Actors.{Actor}
@@ -26,7 +27,8 @@ use Rattle.bw_shell.specs.Text.{lone_refusal_text, refused_text}
 use Rattle.bw_shell.specs.Turns.{Trace, IsOneMap, opening_trace}
 use Rattle.bw_shell.specs.Weave.{IsTranscriptFrom}
 
--- The slots among the shapes are exactly those of the memory after the trace that aren't 0, each with what it has, in their order. The pages among the shapes are
+-- The slots among the shapes are exactly those of the memory after the trace that aren't 0, each with what it has, in their order, and marked
+-- as read or as changed exactly where the last step did that. The pages among the shapes are
 -- exactly those of the side chains of that memory, level by level from the root's level down, each from left to right, and each has its range in words, and is
 -- marked by how it stands to the level above. At each stand exactly the actors whose operation read its slot last, each with the row that its next step reads. The
 -- cells are those of the actors: of each the epoch that it has announced, and all that it has in limbo. All records of the pages, and the items of bases and
@@ -40,7 +42,7 @@ pub record IsShown (trace : Trace) (wanted : List (Option (StepOf Record))) (wid
   pub ranges : ranges_of shapes ≡ all_ranges scene.levels
   pub records : records_of shapes ≡ all_records scene.levels
   pub standing : stands_of shapes ≡ all_stands (stands_in trace.limits trace.entries wanted) scene.levels
-  pub slots : slots_of shapes ≡ scene.slots
+  pub slots : slots_of shapes ≡ touched_slots (touched_in trace.entries) scene.slots
   pub actors : List Actor
   pub are : AreActors trace.limits trace.entries wanted actors
   pub cells : cells_of shapes ≡ cells_from (memory_of trace.limits trace.entries) 0 actors

@@ -6,7 +6,7 @@ ghost use Rattle.tree_picture.specs.Colours.{colour_text};
 ghost use Rattle.tree_picture.specs.Document.{attribute_text, element_text, escape, escaped_byte};
 ghost use Rattle.tree_picture.specs.Elements.{attribute, dark_style, dashes, document_attributes, document_text, elements_of, head_elements, line_element, mark_in, name_in, number};
 ghost use Rattle.tree_picture.specs.Elements.{range_in, record_element, weight, rectangle_attributes, rectangle_element, slot_element, stand_elements};
-ghost use Rattle.tree_picture.specs.Elements.{stand_in, text_element, view_attribute, words_element};
+ghost use Rattle.tree_picture.specs.Elements.{stand_in, text_element, thickness, view_attribute, words_element};
 ghost use Rattle.tree_picture.specs.declared.shape.TheConstants.{STAND_DROP, STAND_ROW};
 
 use byte_streams::Output;
@@ -90,6 +90,13 @@ fn show_rectangle<O: Output>(out: &mut O, rectangle: &Rectangle)
     show_attribute(out, b"rx", b"4");
     show_colour(out, b"fill", rectangle.fill);
     show_colour(out, b"stroke", rectangle.edge);
+    show_attribute(out, b"stroke-width", thickness_of(rectangle.thick));
+}
+
+fn thickness_of(thick: bool) -> &'static [u8]
+    ensures { result.now ≡ thickness thick }
+{
+    if thick { b"3" } else { b"1" }
 }
 
 /// The digits of a PID.
@@ -443,7 +450,9 @@ fn show_dark_style<O: Output>(out: &mut O)
     out.show(
         b"[stroke='#0a5ec2']{stroke:#58a6ff}[stroke='#1a7f37']{stroke:#3fb950}[stroke='#bc4c00']{stroke:#f0883e}[fill='#bc4c00']{fill:#f0883e}",
     );
-    out.show(b"[fill='#8250df']{fill:#d2a8ff}[stroke='#8250df']{stroke:#d2a8ff}}");
+    out.show(
+        b"[fill='#8250df']{fill:#d2a8ff}[stroke='#8250df']{stroke:#d2a8ff}[stroke='#cf222e']{stroke:#ff7b72}[fill='#cf222e']{fill:#ff7b72}}",
+    );
     out.show(b"</style>\n");
 }
 

@@ -1,2 +1,4 @@
 mod Filming
-mod Places
+mod PageLaws
+mod PlaceLaws
+mod Placing

@@ -17,8 +17,10 @@ use Rattle.bw_shell.specs.Turns.{Trace, IsOneMap, opening_trace, trace_of}
 use Rattle.bw_shell.specs.Weave.{IsTranscriptFrom}
 use Rattle.byte_streams.specs.Output.{Writes}
 use Rattle.drawing.specs.Drawings.{IsPictureOf}
-use Rattle.filming.specs.Logs.{log_after, place_text}
+use Rattle.tree_picture.specs.Found.{found_text}
+use Rattle.filming.specs.Logs.{log_after}
 use Rattle.filming.specs.Pages.{frame_text, head_text, refusal_text, tail_text}
+use Rattle.filming.specs.Places.{place_text}
 
 -- A film has a frame for each turn that takes a step.
 abbrev pub next_frame : ℕ → Turn → ℕ
@@ -33,9 +35,10 @@ frames_behind number (turn ∷ turns) = frames_behind (next_frame number turn) t
 abbrev pub steps_in : List Turn → ℕ
 steps_in turns = frames_behind 0 turns
 
--- The text is a frame with this number, of an actor's step that told the event: some words, how the map before became the map after, the place in the order of an
--- operation that is done without an update, the picture of what stands after, the map after, and the log. In the picture actors stand by the steps that they will
--- take next.
+-- The text is a frame with this number, of an actor's step that told the event: some words, what the step found, how the map before became the map after, the
+-- place in the order
+-- of an operation that is done without an update, the picture of what stands after, the map after, and the log. In the picture actors stand by the steps that
+-- they will take next.
 pub record IsFrame (number : ℕ) (before : Core) (actor : ℕ) (event : Event) (log : List Update) (after : Core) (text : List ℕ) : Type 0 where
   pub words : List ℕ
   pub picture : List ℕ
@@ -44,7 +47,8 @@ pub record IsFrame (number : ℕ) (before : Core) (actor : ℕ) (event : Event) 
   pub listed_before : IsListing before.limits before.entries pairs_before
   pub listed_after : IsListing after.limits after.entries pairs_after
   pub shown : IsPictureOf (trace_of after) after.demand.wanted picture
-  pub spells : text ≡ frame_text number words pairs_before (place_text log (command_of before.entries actor) event) picture pairs_after log
+  pub spells : text
+      ≡ frame_text number words (found_text after.entries) pairs_before (place_text log (command_of before.entries actor) event) picture pairs_after log
 
 -- What is written for a turn that told the event, and the log behind it: nothing where it begins an operation, else the frame of its step.
 abbrev pub IsFilmed : ℕ → Core → Turn → Event → List Update → Core → List Update → List ℕ → Type 0
@@ -94,7 +98,8 @@ abbrev pub is_whole : Option RefusedLine → Bool → Bool
 is_whole None whole = whole
 is_whole (Some line) whole = false
 
--- What is written of turns that were taken, and whether it is a film of all lines: that they are too many, or that there was no memory for them, and nothing else;
+-- What is written of turns that were taken, and whether it is a film of all lines: that they are too many, or that there was no memory for them, and nothing
+-- else;
 -- or the page.
 abbrev pub AreTurnsFilmed : Limits → List Turn → Option RefusedLine → List ℕ → Bool → Type 0
 AreTurnsFilmed limits turns refused text filmed =

@@ -18,20 +18,37 @@ style_text =
 abbrev pub guide_text : List ℕ
 guide_text =
     codes "</style>\n</head>\n<body>\n<h1>A Bw-tree, step by step</h1>\n"
-    ++ codes "<p>Several actors use one ordered map, and none ever locks a page. Each frame is one atomic step of one actor: the tree as it is after that step, and the map.</p>\n"
+    ++ codes "<p>Several actors use one ordered map, and none ever locks a page. A record that is linked never changes, so who reads one may sleep there,\n"
+    ++ codes "and the others go on. Each frame is one atomic step of one actor: the tree as it is after that step, and the map.</p>\n"
     ++ codes "<details><summary>How to read a frame</summary>\n<ul>\n"
-    ++ codes "<li>A page, PID 1 and so on, is a chain of records, the newest on top, a base with its items at the end. Each record lies in a row of memory.</li>\n"
+    ++ codes "<li>A page, PID 1 and so on, is a chain of records, the newest on top, a base with its items at the end. Each record lies in a row of\n"
+    ++ codes "memory.</li>\n"
     ++ codes "<li>The mapping table at the left has a slot for each page: the row of its newest record. Slot 0 has the root's PID.</li>\n"
-    ++ codes "<li>A record that is linked never changes. To change a page, an actor places a new record, whose next one is the newest that it has read, in a row of its own.</li>\n"
-    ++ codes "<li>Then it exchanges the slot: one compare-and-swap from the row that it has read to the new one. If another actor was faster, the slot has another row by then.\n"
-    ++ codes "The exchange is lost, nothing has changed, and the actor begins anew. This one word takes the place of a lock.</li>\n"
-    ++ codes "<li>The newest record that names a key decides it. What newer records took away is grey and struck through.</li>\n<li>Under a page stands each actor whose operation read its slot last, with the row that it reads next.</li>\n"
-    ++ codes "<li>Consolidation: one base replaces a long chain. Split: the upper items of a full page go to a new page, to which a side link leads. A term, which is a key and a\n"
-    ++ codes "child, is then posted in the page above.</li>\n"
-    ++ codes "<li>Removal of a small page: its term is held, the page is removed, its left page takes its items by a merge, its term is taken out, and its slot is cleared.</li>\n"
-    ++ codes "<li>Epochs: an actor announces the epoch in which it enters, and leaves at its end. What it took out of the tree waits in its limbo, and is free once each other\n"
-    ++ codes "actor was outside or in a later epoch. So nobody inside ever meets a row that is used anew. In limbo, 'row 9, epoch 1' is row 9 with epoch 1 for its stamp.</li>\n"
-    ++ codes "<li>The log has all updates in their order. Each took effect at its exchange; an operation that changes nothing at one of its own steps, which is known when its reply comes.</li>\n<li>Keys: left and right, home and end; space plays; n goes to the next exchange, p to the one before. #12 behind the address is frame 12.</li>\n"
+    ++ codes "<li>A record that is linked never changes. To change a page, an actor places a new record, whose next one is the newest that it has\n"
+    ++ codes "read, in a row of its own.</li>\n"
+    ++ codes "<li>Then it exchanges the slot: one compare-and-swap from the row that it has read to the new one. If another actor was faster, the slot\n"
+    ++ codes "has another row by then. The exchange is lost, nothing has changed, and the actor begins anew. This one word takes the place of a\n"
+    ++ codes "lock.</li>\n"
+    ++ codes "<li>The newest record that names a key decides it. What newer records took away is grey and struck through.</li>\n"
+    ++ codes "<li>Thick edges: red is what this step changed, black what it read, violet a row that an actor reads next. Under a page stands each\n"
+    ++ codes "actor whose operation read its slot last.</li>\n"
+    ++ codes "<li>Below the pages lies what is beside the tree: a record that is placed and not linked yet; records that were taken out of the tree\n"
+    ++ codes "while an actor reads there, unchanged and in their rows as long as it does; and a page on no level, since it was merged or nothing leads\n"
+    ++ codes "to it yet.</li>\n"
+    ++ codes "<li>Consolidation: one base replaces a long chain. Split: the upper items of a full page go to a new page, to which a side link leads. A\n"
+    ++ codes "term, which is a key and a child, is then posted in the page above.</li>\n"
+    ++ codes "<li>Removal of a small page: its term is held, the page is removed, its left page takes its items by a merge, its term is taken out, and\n"
+    ++ codes "its slot is cleared.</li>\n"
+    ++ codes "<li>Spares are rows and PIDs that an actor took and has not linked. Errands are the keys of terms that it has still to post in pages\n"
+    ++ codes "above.</li>\n"
+    ++ codes "<li>Epochs: an actor announces the epoch in which it enters, and leaves at its end. What it took out of the tree waits in its limbo, the\n"
+    ++ codes "cells beside it: with no epoch at first; then with the epoch that it read afterwards, as 'row 9, epoch 1'; and 'passed' once each other\n"
+    ++ codes "actor was outside or in a later epoch. Then it is free. So nobody inside ever meets a row that is used anew, and nobody waits for a\n"
+    ++ codes "reader.</li>\n"
+    ++ codes "<li>The log has all updates in their order. Each took effect at its exchange; an operation that changes nothing at one of its own steps,\n"
+    ++ codes "which is known when its reply comes.</li>\n"
+    ++ codes "<li>Keys: left and right, home and end; space plays; n goes to the next exchange, p to the one before. #12 behind the address is frame\n"
+    ++ codes "12.</li>\n"
     ++ codes "</ul>\n</details>\n"
 
 abbrev pub buttons_text : List ℕ
@@ -62,12 +79,12 @@ tail_text =
     ++ codes "onhashchange=show;show();\n"
     ++ codes "</script>\n</body>\n</html>\n"
 
--- a frame: its number, the words for its step, how the map before it became the map after it, the place of an operation that is done, the picture, and the map and
--- the log after it
-abbrev pub frame_text : ℕ → List ℕ → List (List ℕ × List ℕ) → List ℕ → List ℕ → List (List ℕ × List ℕ) → List Update → List ℕ
-frame_text number words before place picture after log =
-    codes "<section id=\"" ++ decimal number ++ codes "\">\n<h2>" ++ decimal number ++ codes ": " ++ escape words ++ codes "</h2>\n" ++ change_text before after ++ place
-    ++ picture ++ map_text after ++ log_text log ++ codes "</section>\n"
+-- a frame: its number, the words for its step and for what that found, how the map before it became the map after it, the place of an operation that is done,
+-- the picture, and the map and the log after it
+abbrev pub frame_text : ℕ → List ℕ → List ℕ → List (List ℕ × List ℕ) → List ℕ → List ℕ → List (List ℕ × List ℕ) → List Update → List ℕ
+frame_text number words found before place picture after log =
+    codes "<section id=\"" ++ decimal number ++ codes "\">\n<h2>" ++ decimal number ++ codes ": " ++ escape words ++ escape found ++ codes "</h2>\n"
+    ++ change_text before after ++ place ++ picture ++ map_text after ++ log_text log ++ codes "</section>\n"
 
 -- the last frame of a film that ends at a refusal
 abbrev pub refusal_text : List ℕ → List ℕ

@@ -12,12 +12,14 @@ ghost use Rattle.bw_model.specs.Log.{Update as UpdateSeen};
 ghost use Rattle.linearization.specs.Points.{updates_by};
 ghost use Rattle.traces.specs.trace.Trace.{command_of};
 ghost use Rattle.filming.specs.Films.{AreFilmed, IsFilmed};
-ghost use Rattle.filming.specs.Logs.{is_update, place_text};
+ghost use Rattle.filming.specs.Logs.{is_update};
 ghost use Rattle.filming.specs.Pages.{frame_text};
+ghost use Rattle.filming.specs.Places.{place_text};
 
-use crate::logs::{is_update, show_log, show_place, update_by};
+use crate::logs::{is_update, show_log, update_by};
 use crate::maps::{show_change, show_map};
 use crate::page::{show_frame_begin, show_frame_end};
+use crate::places::show_place;
 use crate::turns::next_frame;
 use bw_model::{Command, Key, Update, Value};
 use byte_streams::{Output, outputs_add_up};
@@ -25,7 +27,7 @@ use drawing::{picture_of, show_document};
 use std::alloc::{AllocError, Global};
 use step_core::{Core, Event};
 use traces::Turn;
-use tree_picture::{Picture, StepName, documents_are_well_formed};
+use tree_picture::{Picture, StepName, documents_are_well_formed, found_words};
 
 /// What stands after a step: the picture, and the pairs of the map.
 #[derive(Drop)]
@@ -48,10 +50,11 @@ fn after_of(alloc: Global, core: &Core) -> Option<After>
     Some(After { picture, pairs })
 }
 
-/// What a step came to: its name, what its operation was asked, what the step told, and the log behind it.
+/// What a step came to: its name, what it found, what its operation was asked, what the step told, and the log behind it.
 #[derive(Clone, Copy)]
 struct Taken<'a> {
     words: &'a [u8],
+    found: &'a [u8],
     command: Option<&'a Command>,
     event: &'a Event,
     log: &'a [Update],
@@ -65,11 +68,12 @@ fn show_frame<O: Output>(
     before: &[(Key, Value)],
     after: &After,
 )
-    ensures { Prints (O.state out.old) (O.state out.new) (frame_text number taken.entry.words.now before.now (place_text taken.entry.log.now (option_copied taken.entry.command) taken.entry.event.now)
+    ensures { Prints (O.state out.old) (O.state out.new) (frame_text number taken.entry.words.now taken.entry.found.now before.now
+        (place_text taken.entry.log.now (option_copied taken.entry.command) taken.entry.event.now)
         (document_text after.now.picture.width after.now.picture.height after.now.picture.title after.now.picture.description after.now.picture.shapes.items)
         after.now.pairs.items taken.entry.log.now) }
 {
-    show_frame_begin(out, number, taken.words);
+    show_frame_begin(out, number, taken.words, taken.found);
     show_change(out, before, after.pairs.as_slice());
     show_place(out, taken.log, taken.command, taken.event);
     show_document(out, &after.picture);
@@ -98,7 +102,8 @@ fn add_update(
     command: Option<&Command>,
     event: &Event,
 ) -> Result<(), AllocError>
-    ensures { OnOk result (log.new.items ≡ (if is_update event.now then log.old.items ++ updates_by actor (option_copied command.entry) log.old.items else log.old.items)) }
+    ensures { OnOk result (log.new.items ≡ (if is_update event.now then log.old.items
+        ++ updates_by actor (option_copied command.entry) log.old.items else log.old.items)) }
 {
     if !is_update(event) {
         return Ok(());
@@ -141,8 +146,10 @@ fn film_step<O: Output>(
         return false;
     };
     let words = name.told(&event);
+    let found = found_words(core);
     let taken = Taken {
         words: words.as_slice(),
+        found: found.as_slice(),
         command: command.as_ref(),
         event: &event,
         log: log.as_slice(),

@@ -8,10 +8,13 @@
 #![tactic(auto)]
 
 mod frames;
+mod laws;
 mod logs;
 mod maps;
 mod page;
+mod places;
 mod run;
 mod turns;
 
+pub use laws::{pages_are_told, places_are_found, places_are_latest};
 pub use run::film;

@@ -91,7 +91,7 @@ fn is_key_of(pair: &(Key, Value), key: &[u8]) -> bool
 }
 
 /// Whether the key has a value.
-fn has_key(pairs: &[(Key, Value)], key: &[u8]) -> bool
+pub(crate) fn has_key(pairs: &[(Key, Value)], key: &[u8]) -> bool
     ensures { result ≡ has_key pairs.now key.now }
 {
     pairs.iter().any(|other| is_key_of(other, key))

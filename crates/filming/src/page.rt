@@ -36,43 +36,74 @@ fn show_guide<O: Output>(out: &mut O)
 {
     out.show(b"</style>\n</head>\n<body>\n<h1>A Bw-tree, step by step</h1>\n");
     out.show(
-        b"<p>Several actors use one ordered map, and none ever locks a page. Each frame is one atomic step of one actor: the tree as it is after that step, and the map.</p>\n",
+        b"<p>Several actors use one ordered map, and none ever locks a page. A record that is linked never changes, so who reads one may sleep there,\n",
+    );
+    out.show(
+        b"and the others go on. Each frame is one atomic step of one actor: the tree as it is after that step, and the map.</p>\n",
     );
     out.show(b"<details><summary>How to read a frame</summary>\n<ul>\n");
     out.show(
-        b"<li>A page, PID 1 and so on, is a chain of records, the newest on top, a base with its items at the end. Each record lies in a row of memory.</li>\n",
+        b"<li>A page, PID 1 and so on, is a chain of records, the newest on top, a base with its items at the end. Each record lies in a row of\n",
     );
+    out.show(b"memory.</li>\n");
     out.show(
         b"<li>The mapping table at the left has a slot for each page: the row of its newest record. Slot 0 has the root's PID.</li>\n",
     );
     out.show(
-        b"<li>A record that is linked never changes. To change a page, an actor places a new record, whose next one is the newest that it has read, in a row of its own.</li>\n",
+        b"<li>A record that is linked never changes. To change a page, an actor places a new record, whose next one is the newest that it has\n",
+    );
+    out.show(b"read, in a row of its own.</li>\n");
+    out.show(
+        b"<li>Then it exchanges the slot: one compare-and-swap from the row that it has read to the new one. If another actor was faster, the slot\n",
     );
     out.show(
-        b"<li>Then it exchanges the slot: one compare-and-swap from the row that it has read to the new one. If another actor was faster, the slot has another row by then.\n",
+        b"has another row by then. The exchange is lost, nothing has changed, and the actor begins anew. This one word takes the place of a\n",
+    );
+    out.show(b"lock.</li>\n");
+    out.show(
+        b"<li>The newest record that names a key decides it. What newer records took away is grey and struck through.</li>\n",
     );
     out.show(
-        b"The exchange is lost, nothing has changed, and the actor begins anew. This one word takes the place of a lock.</li>\n",
+        b"<li>Thick edges: red is what this step changed, black what it read, violet a row that an actor reads next. Under a page stands each\n",
+    );
+    out.show(b"actor whose operation read its slot last.</li>\n");
+    out.show(
+        b"<li>Below the pages lies what is beside the tree: a record that is placed and not linked yet; records that were taken out of the tree\n",
     );
     out.show(
-        b"<li>The newest record that names a key decides it. What newer records took away is grey and struck through.</li>\n<li>Under a page stands each actor whose operation read its slot last, with the row that it reads next.</li>\n",
+        b"while an actor reads there, unchanged and in their rows as long as it does; and a page on no level, since it was merged or nothing leads\n",
+    );
+    out.show(b"to it yet.</li>\n");
+    out.show(
+        b"<li>Consolidation: one base replaces a long chain. Split: the upper items of a full page go to a new page, to which a side link leads. A\n",
+    );
+    out.show(b"term, which is a key and a child, is then posted in the page above.</li>\n");
+    out.show(
+        b"<li>Removal of a small page: its term is held, the page is removed, its left page takes its items by a merge, its term is taken out, and\n",
+    );
+    out.show(b"its slot is cleared.</li>\n");
+    out.show(
+        b"<li>Spares are rows and PIDs that an actor took and has not linked. Errands are the keys of terms that it has still to post in pages\n",
+    );
+    out.show(b"above.</li>\n");
+    out.show(
+        b"<li>Epochs: an actor announces the epoch in which it enters, and leaves at its end. What it took out of the tree waits in its limbo, the\n",
     );
     out.show(
-        b"<li>Consolidation: one base replaces a long chain. Split: the upper items of a full page go to a new page, to which a side link leads. A term, which is a key and a\n",
-    );
-    out.show(b"child, is then posted in the page above.</li>\n");
-    out.show(
-        b"<li>Removal of a small page: its term is held, the page is removed, its left page takes its items by a merge, its term is taken out, and its slot is cleared.</li>\n",
+        b"cells beside it: with no epoch at first; then with the epoch that it read afterwards, as 'row 9, epoch 1'; and 'passed' once each other\n",
     );
     out.show(
-        b"<li>Epochs: an actor announces the epoch in which it enters, and leaves at its end. What it took out of the tree waits in its limbo, and is free once each other\n",
+        b"actor was outside or in a later epoch. Then it is free. So nobody inside ever meets a row that is used anew, and nobody waits for a\n",
     );
+    out.show(b"reader.</li>\n");
     out.show(
-        b"actor was outside or in a later epoch. So nobody inside ever meets a row that is used anew. In limbo, 'row 9, epoch 1' is row 9 with epoch 1 for its stamp.</li>\n",
+        b"<li>The log has all updates in their order. Each took effect at its exchange; an operation that changes nothing at one of its own steps,\n",
     );
+    out.show(b"which is known when its reply comes.</li>\n");
     out.show(
-        b"<li>The log has all updates in their order. Each took effect at its exchange; an operation that changes nothing at one of its own steps, which is known when its reply comes.</li>\n<li>Keys: left and right, home and end; space plays; n goes to the next exchange, p to the one before. #12 behind the address is frame 12.</li>\n",
+        b"<li>Keys: left and right, home and end; space plays; n goes to the next exchange, p to the one before. #12 behind the address is frame\n",
     );
+    out.show(b"12.</li>\n");
     out.show(b"</ul>\n</details>\n");
 }
 
@@ -139,10 +170,11 @@ pub(crate) fn show_tail<O: Output>(out: &mut O)
     out.show(b"</script>\n</body>\n</html>\n");
 }
 
-/// What stands before a frame's picture: its number, and the words for its step.
-pub(crate) fn show_frame_begin<O: Output>(out: &mut O, number: u64, words: &[u8])
+/// What stands before a frame's picture: its number, and the words for its step and for what that found.
+pub(crate) fn show_frame_begin<O: Output>(out: &mut O, number: u64, words: &[u8], found: &[u8])
     ensures { Prints (O.state out.old) (O.state out.new)
-        (codes "<section id=\"" ++ decimal number ++ codes "\">\n<h2>" ++ decimal number ++ codes ": " ++ escape words.now ++ codes "</h2>\n") }
+        (codes "<section id=\"" ++ decimal number ++ codes "\">\n<h2>" ++ decimal number ++ codes ": " ++ escape words.now ++ escape found.now
+        ++ codes "</h2>\n") }
 {
     out.show(b"<section id=\"");
     show_number(out, number);
@@ -150,6 +182,7 @@ pub(crate) fn show_frame_begin<O: Output>(out: &mut O, number: u64, words: &[u8]
     show_number(out, number);
     out.show(b": ");
     show_escaped(out, words);
+    show_escaped(out, found);
     out.show(b"</h2>\n");
 }
 

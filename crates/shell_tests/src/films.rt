@@ -32,15 +32,23 @@ fn filmed(alloc: Global, limits: Limits, lines: &[u8]) -> Film {
 const INSERT: &[u8] = b"begin 0 insert k02 <\nfinish 0\n";
 
 /// How often each text stands in the film of that insert, which takes ten steps; the ninth exchanges the slot.
-const SHOWN: [(&[u8], usize); 9] = [
+const SHOWN: [(&[u8], usize); 11] = [
     (b"<section id=\"", 10),
     (b"<svg ", 10),
     (
-        b"<section id=\"1\">\n<h2>1: actor 0, insert k02 &lt;: read the epoch</h2>\n",
+        b"<section id=\"1\">\n<h2>1: actor 0, insert k02 &lt;: read the epoch: 1</h2>\n",
         1,
     ),
     (
-        b"<h2>5: actor 0, insert k02 &lt;: read row 1</h2>\n<p>The map is unchanged by this step.</p>\n<svg ",
+        b"<h2>5: actor 0, insert k02 &lt;: read row 1: base, items: 0</h2>\n<p>The map is unchanged by this step.</p>\n<svg ",
+        1,
+    ),
+    (
+        b"<h2>4: actor 0, insert k02 &lt;: read slot 1: row 1</h2>\n",
+        1,
+    ),
+    (
+        b"<h2>7: actor 0, insert k02 &lt;: take row 2: it was free</h2>\n",
         1,
     ),
     (
@@ -70,6 +78,62 @@ fn each_step_has_a_frame(rt: HostRuntime) -> Result<(), Fail> {
     for (number, (part, times)) in SHOWN.iter().enumerate() {
         let found = count(film.text.as_slice(), part);
         assert!(rt; found == *times, "text {number}: {found} times");
+    }
+    Ok(())
+}
+
+/// Lines of which the last one ends an operation without an update, and its place in the order: behind how many of how many updates. A reader that has read
+/// its leaf's slot doesn't see what is linked afterwards; and what is changed outside of its page's range doesn't matter.
+const PLACES: [(&[u8], &[u8]); 8] = [
+    (
+        b"begin 0 insert a 1\nfinish 0\nbegin 0 insert c 3\nfinish 0\nbegin 1 page a\nturn 1 4\nbegin 0 insert b 2\nfinish 0\nfinish 1\n",
+        b"behind 2 of the 3 updates.",
+    ),
+    (
+        b"begin 0 insert a 1\nfinish 0\nbegin 0 insert c 3\nfinish 0\nbegin 1 page b\nturn 1 4\nbegin 0 delete a\nfinish 0\nfinish 1\n",
+        b"behind 3 of the 3 updates.",
+    ),
+    (
+        b"begin 0 insert a 1\nfinish 0\nbegin 0 insert c 3\nfinish 0\n\
+        begin 1 page a\nturn 1 4\nbegin 0 upsert a 1\nfinish 0\nbegin 0 delete c\nfinish 0\nfinish 1\n",
+        b"behind 3 of the 4 updates.",
+    ),
+    (
+        b"begin 0 insert a 1\nfinish 0\nbegin 0 insert c 3\nfinish 0\nbegin 1 back c\nturn 1 4\nbegin 0 insert b 2\nfinish 0\nfinish 1\n",
+        b"behind 2 of the 3 updates.",
+    ),
+    (
+        b"begin 0 insert a 1\nfinish 0\nbegin 0 insert c 3\nfinish 0\n\
+        begin 1 back b\nturn 1 4\nbegin 0 insert d 4\nfinish 0\nbegin 0 delete c\nfinish 0\nfinish 1\n",
+        b"behind 4 of the 4 updates.",
+    ),
+    (
+        b"begin 0 insert a 1\nfinish 0\nbegin 0 insert c 3\nfinish 0\nbegin 1 back c\nturn 1 4\nbegin 0 upsert c 4\nfinish 0\nfinish 1\n",
+        b"behind 2 of the 3 updates.",
+    ),
+    (
+        b"begin 1 page a\nturn 1 4\nbegin 0 insert a 1\nfinish 0\nfinish 1\n",
+        b"behind 0 of the 1 updates.",
+    ),
+    (
+        b"begin 0 insert a 1\nfinish 0\nbegin 1 get a\nturn 1 4\nbegin 0 delete a\nfinish 0\nfinish 1\n",
+        b"behind 1 of the 2 updates.",
+    ),
+];
+
+#[test]
+fn readers_have_a_place(rt: HostRuntime) -> Result<(), Fail> {
+    let limits = Limits::new(2, 64, 256, 1)?;
+    for (number, (lines, place)) in PLACES.iter().enumerate() {
+        let (_, text) = filmed(rt.alloc(), limits, lines);
+        assert!(rt;
+            count(
+                text.as_slice(),
+                b"<p>The place of this operation in the order is known only now: "
+            ) == 1,
+            "{number}"
+        );
+        assert!(rt; count(text.as_slice(), place) == 1, "place {number}");
     }
     Ok(())
 }

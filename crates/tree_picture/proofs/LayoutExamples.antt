@@ -18,7 +18,7 @@ use Rattle.tree_picture.specs.Sizes.{page_height}
 use Rattle.tree_picture.proofs.Ranges.{ends_in_box}
 
 abbrev box : ℕ → ℕ → ℕ → ℕ → Rectangle
-box x y width height = record { x = x; y = y; width = width; height = height; fill = Paper; edge = Ink }
+box x y width height = record { x = x; y = y; width = width; height = height; fill = Paper; edge = Ink; thick = false }
 
 -- a page, the one to its right, and one under them
 abbrev left : Rectangle

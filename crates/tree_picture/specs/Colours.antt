@@ -1,7 +1,7 @@
 -- Colours as they are written, and how lines of records look.
 use Rattle.std.specs.Prelude.{ℕ, List, Bool, true, false, codes}
 use Rattle.tree_picture.specs.declared.colour.Colour.{Colour}
-use Rattle.tree_picture.specs.declared.colour.Colour.TheVariants.{Ink, Grey, Paper, Page, Delta, Side, Term, Missing, Held, Removed, Merged, Actor}
+use Rattle.tree_picture.specs.declared.colour.Colour.TheVariants.{Ink, Grey, Paper, Page, Delta, Side, Term, Missing, Held, Removed, Merged, Actor, Changed}
 
 abbrev pub colour_text : Colour → List ℕ
 colour_text Ink = codes "#1b1f24"
@@ -16,6 +16,7 @@ colour_text Held = codes "#ffe08a"
 colour_text Removed = codes "#ffc9c4"
 colour_text Merged = codes "#e4d4fa"
 colour_text Actor = codes "#8250df"
+colour_text Changed = codes "#cf222e"
 
 -- A line of a record that counts is in ink, and one that doesn't is grey and struck through.
 abbrev pub line_colour : Bool → Colour

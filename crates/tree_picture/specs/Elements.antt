@@ -24,10 +24,16 @@ attribute name value = record { name = name; value = value }
 abbrev pub number : List ℕ → ℕ → Attribute
 number name n = attribute name (decimal n)
 
+-- how thick an edge is
+abbrev pub thickness : Bool → List ℕ
+thickness true = codes "3"
+thickness false = codes "1"
+
 abbrev pub rectangle_attributes : Rectangle → List Attribute
 rectangle_attributes r =
     number (codes "x") r.x ∷ number (codes "y") r.y ∷ number (codes "width") r.width ∷ number (codes "height") r.height
-    ∷ attribute (codes "rx") (codes "4") ∷ attribute (codes "fill") (colour_text r.fill) ∷ attribute (codes "stroke") (colour_text r.edge) ∷ []
+    ∷ attribute (codes "rx") (codes "4") ∷ attribute (codes "fill") (colour_text r.fill) ∷ attribute (codes "stroke") (colour_text r.edge)
+    ∷ attribute (codes "stroke-width") (thickness r.thick) ∷ []
 
 abbrev pub rectangle_element : List Attribute → Rectangle → Element
 rectangle_element before r = record { name = codes "rect"; attributes = before ++ rectangle_attributes r; content = [] }
@@ -126,7 +132,7 @@ dark_style =
     ++ codes "[fill='#57606a']{fill:#9ba4ae}[stroke='#57606a']{stroke:#9ba4ae}[fill='#ddf4e4']{fill:#12361f}[fill='#dbe9ff']{fill:#16304f}"
     ++ codes "[fill='#ffe08a']{fill:#5a4500}[fill='#ffc9c4']{fill:#5e1f1b}[fill='#e4d4fa']{fill:#3d2a5c}"
     ++ codes "[stroke='#0a5ec2']{stroke:#58a6ff}[stroke='#1a7f37']{stroke:#3fb950}[stroke='#bc4c00']{stroke:#f0883e}[fill='#bc4c00']{fill:#f0883e}"
-    ++ codes "[fill='#8250df']{fill:#d2a8ff}[stroke='#8250df']{stroke:#d2a8ff}}"
+    ++ codes "[fill='#8250df']{fill:#d2a8ff}[stroke='#8250df']{stroke:#d2a8ff}[stroke='#cf222e']{stroke:#ff7b72}[fill='#cf222e']{fill:#ff7b72}}"
 
 -- the ground of a picture
 abbrev pub ground_element : Element

@@ -2,7 +2,9 @@ pub mod Adding
 pub mod Cells
 pub mod Colours
 pub mod Document
+pub mod Edges
 pub mod Elements
+pub mod Found
 pub mod Layout
 pub mod Levels
 pub mod Marks
@@ -16,3 +18,4 @@ pub mod SlotTexts
 pub mod Slots
 pub mod Stands
 pub mod Texts
+pub mod Touches

@@ -7,9 +7,10 @@ use Rattle.tree_picture.specs.declared.shape.RecordLine.{RecordLine as RecordLin
 use Rattle.tree_picture.specs.declared.shape.Rectangle.{Rectangle}
 use Rattle.tree_picture.specs.declared.shape.Shape.{Shape}
 use Rattle.tree_picture.specs.declared.shape.Shape.TheVariants.{Page, Box, Record, Line, Slot, Cell, Text}
-use Rattle.tree_picture.specs.declared.slots.Slot.{Slot as SlotOf}
+use Rattle.tree_picture.specs.declared.shape.SlotBox.{SlotBox}
 use Rattle.tree_picture.specs.declared.stands.Stand.{Stand}
 use Rattle.tree_picture.specs.RecordLines.{RecordLine}
+use Rattle.tree_picture.specs.Touches.{TouchedSlot}
 
 -- the PIDs, the boxes, the words of the ranges and the marks of some pages, and the actors at each, all in the pages' order; the lines of the records in them; slots; and
 -- cells
@@ -20,7 +21,7 @@ pub record DrawnPages : Type 0 where
   pub marks : List Mark
   pub stands : List (List Stand)
   pub records : List RecordLine
-  pub slots : List SlotOf
+  pub slots : List TouchedSlot
   pub cells : List CellOf
 
 -- one page, one line of a record, one slot or one cell before some others
@@ -39,7 +40,7 @@ on_front page pages = record {
 abbrev pub record_on_front : RecordLine → DrawnPages → DrawnPages
 record_on_front line pages = record pages { records = line ∷ pages.records }
 
-abbrev pub slot_on_front : SlotOf → DrawnPages → DrawnPages
+abbrev pub slot_on_front : TouchedSlot → DrawnPages → DrawnPages
 slot_on_front slot pages = record pages { slots = slot ∷ pages.slots }
 
 abbrev pub cell_on_front : CellOf → DrawnPages → DrawnPages
@@ -49,13 +50,17 @@ cell_on_front cell pages = record pages { cells = cell ∷ pages.cells }
 abbrev pub line_drawn : RecordLineOf → RecordLine
 line_drawn line = record { words = line.words; counts = line.counts }
 
+-- a slot that was drawn, and what is told of the last step's doing with it
+abbrev pub slot_drawn : SlotBox → TouchedSlot
+slot_drawn drawn = record { slot = drawn.slot; touch = drawn.touch }
+
 -- what is among the shapes
 abbrev pub pages_in : List Shape → DrawnPages
 pages_in [] = record { pids = []; boxes = []; ranges = []; marks = []; stands = []; records = []; slots = []; cells = [] }
 pages_in (Page page ∷ shapes) = on_front page (pages_in shapes)
 pages_in (Box r ∷ shapes) = pages_in shapes
 pages_in (Record line ∷ shapes) = record_on_front (line_drawn line) (pages_in shapes)
-pages_in (Slot slot ∷ shapes) = slot_on_front slot.slot (pages_in shapes)
+pages_in (Slot slot ∷ shapes) = slot_on_front (slot_drawn slot) (pages_in shapes)
 pages_in (Cell cell ∷ shapes) = cell_on_front cell.cell (pages_in shapes)
 pages_in (Line line ∷ shapes) = pages_in shapes
 pages_in (Text text ∷ shapes) = pages_in shapes
@@ -78,7 +83,7 @@ stands_of shapes = (pages_in shapes).stands
 abbrev pub records_of : List Shape → List RecordLine
 records_of shapes = (pages_in shapes).records
 
-abbrev pub slots_of : List Shape → List SlotOf
+abbrev pub slots_of : List Shape → List TouchedSlot
 slots_of shapes = (pages_in shapes).slots
 
 abbrev pub cells_of : List Shape → List CellOf
@@ -100,7 +105,7 @@ with_page pages page = record {
 abbrev pub with_records : DrawnPages → List RecordLine → DrawnPages
 with_records pages lines = record pages { records = pages.records ++ lines }
 
-abbrev pub with_slots : DrawnPages → List SlotOf → DrawnPages
+abbrev pub with_slots : DrawnPages → List TouchedSlot → DrawnPages
 with_slots pages slots = record pages { slots = pages.slots ++ slots }
 
 abbrev pub with_cells : DrawnPages → List CellOf → DrawnPages

@@ -16,6 +16,7 @@ use crate::says::{item_words, record_words};
 use crate::shape::{Mark, PageBox, RecordLine, Rectangle};
 use crate::sheet::Sheet;
 use crate::stands::{Stand, stands_at};
+use crate::touches::{Touch, Touched};
 use crate::words::Words;
 use crate::write::{with_number, with_range};
 use base_page::Item;
@@ -28,6 +29,7 @@ pub(crate) fn page_box(
     page: &ScenePage,
     mark: Mark,
     stands: &[Stand],
+    touched: Touched,
     x: u64,
     y: u64,
 ) -> Result<(), AllocError>
@@ -48,6 +50,7 @@ pub(crate) fn page_box(
         height: page_height(page),
         fill: mark.colour(),
         edge: Colour::Ink,
+        thick: false,
     };
     let mut range = Words::new();
     with_range(&mut range, page.page().low(), page.page().high());
@@ -64,6 +67,7 @@ pub(crate) fn page_box(
         page.records(),
         page.row(),
         stands,
+        touched,
         x,
         y.saturating_add(HEAD),
     )?;
@@ -76,6 +80,7 @@ fn record_boxes(
     records: &[Record],
     row: u32,
     stands: &[Stand],
+    touched: Touched,
     x: u64,
     y: u64,
 ) -> Result<(), AllocError>
@@ -89,7 +94,7 @@ fn record_boxes(
             sheet,
             newer,
             content,
-            Row::of(row, stands),
+            Row::of(row, stands, touched),
             x.saturating_add(8),
             y,
         )?;
@@ -99,17 +104,33 @@ fn record_boxes(
     Ok(())
 }
 
-/// A row, and whether an actor reads it next.
+/// A row, whether an actor reads it next, and what the last step did with it.
 #[derive(Clone, Copy)]
-struct Row {
-    number: u32,
+pub(crate) struct Row {
+    pub(crate) number: u32,
     is_next: bool,
+    touch: Touch,
 }
 
 impl Row {
-    fn of(number: u32, stands: &[Stand]) -> Row {
+    pub(crate) fn of(number: u32, stands: &[Stand], touched: Touched) -> Row {
         let is_next = stands.iter().any(|stand| stand.row == Some(number));
-        Row { number, is_next }
+        Row {
+            number,
+            is_next,
+            touch: touched.row(number),
+        }
+    }
+
+    /// The colour of the edge of its record, which an actor reads next, or the last step changed or read.
+    fn edge(self, is_base: bool) -> Colour {
+        match (self.touch, self.is_next, is_base) {
+            (Touch::Changed, _, _) => Colour::Changed,
+            (_, true, _) => Colour::Actor,
+            (Touch::Read, _, _) => Colour::Ink,
+            (_, _, true) => Colour::Grey,
+            (_, _, false) => Colour::Side,
+        }
     }
 }
 
@@ -124,7 +145,7 @@ fn record_box(
 ) -> Result<(), AllocError>
     ensures { OnOk result (sheet.new ≡ with_records sheet.old (record_lines newer.now content.now)) }
 {
-    record_edge(sheet, content, row.is_next, x, y);
+    record_edge(sheet, content, row, x, y);
     let y_words = y.saturating_add(13);
     let beside = row_words(sheet, row.number, x.saturating_add(6), y_words);
     sheet.record_line(RecordLine {
@@ -138,7 +159,7 @@ fn record_box(
 }
 
 /// The number of a row from this place on. Answers the place behind it.
-fn row_words(sheet: &mut Sheet, row: u32, x: u64, y: u64) -> u64
+pub(crate) fn row_words(sheet: &mut Sheet, row: u32, x: u64, y: u64) -> u64
     ensures { sheet.new ≡ sheet.old }
 {
     let mut words = Words::new();
@@ -153,7 +174,7 @@ fn row_words(sheet: &mut Sheet, row: u32, x: u64, y: u64) -> u64
 const ROW_LETTER: u64 = 7;
 
 /// The items of a base or a merge.
-fn items_in(content: &Record) -> &[Item]
+pub(crate) fn items_in(content: &Record) -> &[Item]
     ensures { result.now ≡ items_in content.now }
 {
     match content {
@@ -164,7 +185,7 @@ fn items_in(content: &Record) -> &[Item]
 }
 
 /// The edge of a record's box.
-fn record_edge(sheet: &mut Sheet, content: &Record, is_next: bool, x: u64, y: u64)
+pub(crate) fn record_edge(sheet: &mut Sheet, content: &Record, row: Row, x: u64, y: u64)
     ensures { sheet.new ≡ sheet.old }
 {
     let is_base = matches!(content, Record::Base(_));
@@ -183,17 +204,9 @@ fn record_edge(sheet: &mut Sheet, content: &Record, is_next: bool, x: u64, y: u6
         } else {
             Colour::Delta
         },
-        edge: edge_of(is_base, is_next),
+        edge: row.edge(is_base),
+        thick: row.is_next || row.touch.is_thick(),
     });
-}
-
-/// The colour of a record's edge: of one that an actor reads next, an actor's.
-fn edge_of(is_base: bool, is_next: bool) -> Colour {
-    match (is_next, is_base) {
-        (true, _) => Colour::Actor,
-        (false, true) => Colour::Grey,
-        (false, false) => Colour::Side,
-    }
 }
 
 /// The items of a base or a merge under some newer records, one under another.

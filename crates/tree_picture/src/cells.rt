@@ -9,6 +9,7 @@ use crate::colour::Colour;
 use crate::places::{CELL_HEIGHT, CELL_WIDTH, CELLS};
 use crate::shape::{CellBox, Rectangle};
 use crate::sheet::Sheet;
+use crate::touches::Touch;
 use crate::words::Words;
 use crate::write::with_number;
 use epochs::{Entry, Item, Stage};
@@ -21,8 +22,14 @@ pub enum Cell {
     Limbo(u8, Item, Stage),
 }
 
-/// A cell at its place.
-pub(crate) fn cell_box(sheet: &mut Sheet, cell: Cell, x: u64, y: u64) -> Result<(), AllocError>
+/// A cell at its place, and what the last step did with it.
+pub(crate) fn cell_box(
+    sheet: &mut Sheet,
+    cell: Cell,
+    touch: Touch,
+    x: u64,
+    y: u64,
+) -> Result<(), AllocError>
     ensures { OnOk result (sheet.new ≡ with_cells sheet.old (cell ∷ [])) }
 {
     sheet.cell(CellBox {
@@ -34,7 +41,12 @@ pub(crate) fn cell_box(sheet: &mut Sheet, cell: Cell, x: u64, y: u64) -> Result<
             width: CELL_WIDTH,
             height: CELL_HEIGHT,
             fill: fill_of(cell),
-            edge: Colour::Grey,
+            edge: if touch.is_thick() {
+                touch.colour()
+            } else {
+                Colour::Grey
+            },
+            thick: touch.is_thick(),
         },
     })
 }
@@ -66,7 +78,13 @@ pub(crate) fn limbo_boxes(
         let right = (at % CELLS).saturating_mul(CELL_WIDTH);
         let down = (at / CELLS).saturating_mul(CELL_HEIGHT);
         let cell = limbo_cell(are_rows, actor, entry);
-        cell_box(sheet, cell, x.saturating_add(right), y.saturating_add(down))?;
+        cell_box(
+            sheet,
+            cell,
+            Touch::Untouched,
+            x.saturating_add(right),
+            y.saturating_add(down),
+        )?;
     }
     Ok(())
 }
@@ -112,6 +130,15 @@ fn with_epoch(words: &mut Words, epoch: u64)
     }
 }
 
+/// The words for an epoch that was read as an actor's.
+pub(crate) fn epoch_found(epoch: u64) -> Words
+    ensures { result ≡ epoch_text epoch }
+{
+    let mut words = Words::new();
+    with_epoch(&mut words, epoch);
+    words
+}
+
 fn limbo_words(item: Item, stage: Stage) -> Words
     ensures { result ≡ item_text item ++ stage_text stage }
 {
@@ -143,7 +170,7 @@ fn with_stage(words: &mut Words, stage: Stage)
 }
 
 /// A number behind a few bytes.
-fn with_behind(words: &mut Words, before: &[u8], number: u64)
+pub(crate) fn with_behind(words: &mut Words, before: &[u8], number: u64)
     requires { length before.now ≤ 9 }
     ensures adds { Adds words.old words.new (before.now ++ decimal number) }
     ensures short { length (before.now ++ decimal number) ≤ 29 }

@@ -29,6 +29,8 @@ pub enum Colour {
     Merged,
     /// An actor, and what it reads next.
     Actor,
+    /// What the last step changed.
+    Changed,
 }
 
 impl Colour {
@@ -49,6 +51,7 @@ impl Colour {
             Colour::Removed => "#ffc9c4",
             Colour::Merged => "#e4d4fa",
             Colour::Actor => "#8250df",
+            Colour::Changed => "#cf222e",
         }
     }
 }

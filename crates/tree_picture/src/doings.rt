@@ -8,6 +8,7 @@ use crate::cells::{cell_box, limbo_boxes};
 use crate::places::{CELL_HEIGHT, CELL_WIDTH, CELLS, LEFT};
 use crate::sheet::Sheet;
 use crate::steps::{command_words, step_words};
+use crate::touches::Touch;
 use crate::words::Words;
 use crate::write::{with_key, with_number};
 use crate::{Cell, Stand};
@@ -26,6 +27,7 @@ pub(crate) fn actor_lines(
     actor: &Actor<CoreRows>,
     announced: u64,
     stands: &[Stand],
+    touch: Touch,
     y: u64,
 ) -> Result<u64, AllocError>
     requires { IsActorShown actor.now }
@@ -33,7 +35,7 @@ pub(crate) fn actor_lines(
         ++ limbo_cells false number actor.now.hand.limbo.pids.entries)) }
 {
     let stand = stands.iter().find(|stand| stand.actor == number);
-    cell_box(sheet, Cell::Epoch(number, announced), LEFT, y)?;
+    cell_box(sheet, Cell::Epoch(number, announced), touch, LEFT, y)?;
     let x = LEFT + CELL_WIDTH + 16;
     sheet.words(x, y.saturating_add(14), 12, doing(actor, stand));
     sheet.words(x, y.saturating_add(32), 12, kept(actor.hand()));
@@ -61,8 +63,12 @@ fn doing(actor: &Actor<CoreRows>, stand: Option<&Stand>) -> Words
     if let Some(command) = actor.command() {
         command_words(&mut words, command);
     }
-    if let Some(stand) = stand {
-        with_number(&mut words, b"; at PID ", u64::from(stand.page));
+    match stand {
+        // (slot 0 is no page's)
+        Some(stand) if stand.page != 0 => {
+            with_number(&mut words, b"; at PID ", u64::from(stand.page));
+        }
+        _ => {}
     }
     words.add(b"; wants to ");
     step_words(&mut words, &actor.wanted());

@@ -54,76 +54,94 @@ pub(crate) fn counts(scene: &Scene) -> Words {
     words
 }
 
-/// What colours and lines mean, and the height behind it.
+/// What colours, edges and lines mean, and the height behind it.
 pub(crate) fn legend(sheet: &mut Sheet, y: u64) -> u64
     ensures { sheet.new ≡ sheet.old }
 {
-    let boxes = y.saturating_add(10);
-    key_box(sheet, LEFT, boxes, Colour::Page, b"page with its term");
-    key_box(
-        sheet,
-        LEFT + 180,
-        boxes,
-        Colour::Paper,
-        b"page without a term",
-    );
-    key_box(sheet, LEFT + 370, boxes, Colour::Held, b"held");
-    key_box(sheet, LEFT + 470, boxes, Colour::Removed, b"removed");
-    key_box(sheet, LEFT + 590, boxes, Colour::Merged, b"merged");
-    key_box(
-        sheet,
-        LEFT + 700,
-        boxes,
-        Colour::Delta,
-        b"delta, newest on top",
-    );
-    let lines = y.saturating_add(36);
-    key_line(sheet, LEFT, lines, Colour::Term, false, b"term");
-    key_line(
-        sheet,
-        LEFT + 180,
-        lines,
-        Colour::Missing,
-        true,
-        b"term that is missing",
-    );
-    key_line(
-        sheet,
-        LEFT + 370,
-        lines,
-        Colour::Missing,
-        false,
-        b"held term",
-    );
-    key_line(sheet, LEFT + 590, lines, Colour::Side, false, b"side link");
-    key_line(
-        sheet,
-        LEFT + 700,
-        lines,
-        Colour::Grey,
-        false,
-        b"a slot's newest record",
-    );
+    page_keys(sheet, y.saturating_add(10));
+    line_keys(sheet, y.saturating_add(36));
+    edge_keys(sheet, y.saturating_add(62));
     sheet.words(
         LEFT,
-        lines.saturating_add(38),
+        y.saturating_add(100),
         12,
         plain(b"grey and struck through: taken away by a newer record"),
     );
     sheet.text(Text {
         x: LEFT + 370,
-        y: lines.saturating_add(38),
+        y: y.saturating_add(100),
         size: 12,
         bold: true,
         colour: Colour::Actor,
-        words: plain(
-            b"an actor at the page whose slot it read last; the row that it reads next has this edge",
-        ),
+        words: plain(b"an actor, under the page whose slot it read last"),
     });
-    y.saturating_add(92)
+    y.saturating_add(118)
+}
+
+fn page_keys(sheet: &mut Sheet, y: u64)
+    ensures { sheet.new ≡ sheet.old }
+{
+    key_box(sheet, LEFT, y, Colour::Page, b"page with its term");
+    key_box(sheet, LEFT + 180, y, Colour::Paper, b"page without a term");
+    key_box(sheet, LEFT + 370, y, Colour::Held, b"held");
+    key_box(sheet, LEFT + 470, y, Colour::Removed, b"removed");
+    key_box(sheet, LEFT + 590, y, Colour::Merged, b"merged");
+    key_box(sheet, LEFT + 700, y, Colour::Delta, b"delta, newest on top");
+}
+
+fn line_keys(sheet: &mut Sheet, y: u64)
+    ensures { sheet.new ≡ sheet.old }
+{
+    key_line(sheet, LEFT, y, Colour::Term, false, b"term");
+    key_line(
+        sheet,
+        LEFT + 180,
+        y,
+        Colour::Missing,
+        true,
+        b"term that is missing",
+    );
+    key_line(sheet, LEFT + 370, y, Colour::Missing, false, b"held term");
+    key_line(sheet, LEFT + 590, y, Colour::Side, false, b"side link");
+    key_line(
+        sheet,
+        LEFT + 700,
+        y,
+        Colour::Grey,
+        false,
+        b"a slot's newest record",
+    );
+}
+
+fn edge_keys(sheet: &mut Sheet, y: u64)
+    ensures { sheet.new ≡ sheet.old }
+{
+    key_edge(sheet, LEFT, y, Colour::Changed, b"changed by the last step");
+    key_edge(sheet, LEFT + 210, y, Colour::Ink, b"read by the last step");
+    key_edge(
+        sheet,
+        LEFT + 400,
+        y,
+        Colour::Actor,
+        b"a row that an actor reads next",
+    );
 }
 
 fn key_box(sheet: &mut Sheet, x: u64, y: u64, fill: Colour, words: &[u8])
+    ensures { sheet.new ≡ sheet.old }
+{
+    key_rectangle(sheet, x, y, fill, Colour::Ink, false);
+    sheet.words(x.saturating_add(30), y.saturating_add(12), 12, plain(words));
+}
+
+fn key_edge(sheet: &mut Sheet, x: u64, y: u64, edge: Colour, words: &[u8])
+    ensures { sheet.new ≡ sheet.old }
+{
+    key_rectangle(sheet, x, y, Colour::Paper, edge, true);
+    sheet.words(x.saturating_add(30), y.saturating_add(12), 12, plain(words));
+}
+
+fn key_rectangle(sheet: &mut Sheet, x: u64, y: u64, fill: Colour, edge: Colour, thick: bool)
     ensures { sheet.new ≡ sheet.old }
 {
     sheet.rectangle(Rectangle {
@@ -132,9 +150,9 @@ fn key_box(sheet: &mut Sheet, x: u64, y: u64, fill: Colour, words: &[u8])
         width: 22,
         height: 14,
         fill,
-        edge: Colour::Ink,
+        edge,
+        thick,
     });
-    sheet.words(x.saturating_add(30), y.saturating_add(12), 12, plain(words));
 }
 
 fn key_line(sheet: &mut Sheet, x: u64, y: u64, colour: Colour, dashed: bool, words: &[u8])

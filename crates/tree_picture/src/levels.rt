@@ -16,6 +16,7 @@ use crate::links::{Drawn, links, mark_of, side_link, slot_lines};
 use crate::places::{BESIDE, DROP, GAP, PAGE_WIDTH, SHELF, first_x, highest};
 use crate::sheet::Sheet;
 use crate::stands::Stand;
+use crate::touches::Touched;
 use crate::{Level, Scene, ScenePage};
 use std::alloc::AllocError;
 
@@ -26,6 +27,7 @@ fn level_rows(
     above: &[ScenePage],
     root: u32,
     stands: &[Stand],
+    touched: Touched,
     width: u64,
     top: u64,
 ) -> Result<u64, AllocError>
@@ -57,6 +59,7 @@ fn level_rows(
             page,
             mark_of(page, above, root),
             stands,
+            touched,
             here.x,
             here.y,
         )?;
@@ -102,6 +105,7 @@ pub(crate) fn rows(
     levels: &[Level],
     root: u32,
     stands: &[Stand],
+    touched: Touched,
     width: u64,
     top: u64,
 ) -> Result<u64, AllocError>
@@ -122,7 +126,7 @@ pub(crate) fn rows(
     let mut y = top;
     let mut above: &[ScenePage] = &[];
     for level in levels {
-        let end = level_rows(sheet, level, above, root, stands, width, y)?;
+        let end = level_rows(sheet, level, above, root, stands, touched, width, y)?;
         y = end + DROP;
         above = level.pages();
     }
@@ -130,14 +134,14 @@ pub(crate) fn rows(
 }
 
 /// The lines from slots, and between levels.
-pub(crate) fn all_links(sheet: &mut Sheet, scene: &Scene, width: u64, top: u64)
+pub(crate) fn all_links(sheet: &mut Sheet, scene: &Scene, touched: Touched, width: u64, top: u64)
     ensures { sheet.new ≡ sheet.old }
 {
     let mut y = top;
     let mut above: Option<Drawn<'_>> = None;
     for level in scene.levels() {
         let here = Drawn::new(level, width, y);
-        slot_lines(sheet, scene.slots(), here);
+        slot_lines(sheet, scene.slots(), touched, here);
         if let Some(above) = above {
             links(sheet, above, here);
         }

@@ -7,12 +7,14 @@
 //! Called by `drawing`, which writes the shapes. It knows no stream; it reads a core's table and actors, and changes nothing.
 #![tactic(auto)]
 
+mod beside;
 mod boxes;
 mod cells;
 mod colour;
 mod counting;
 mod counts;
 mod doings;
+mod found;
 mod frame;
 mod level;
 mod levels;
@@ -27,6 +29,7 @@ mod slots;
 mod stands;
 mod steps;
 mod taken;
+mod touches;
 mod well_formed;
 mod whole;
 mod words;
@@ -36,6 +39,7 @@ pub use cells::Cell;
 pub use colour::Colour;
 pub use counting::newest_decides;
 pub use counts::{free_pids, free_rows};
+pub use found::found_words;
 pub use level::Level;
 pub use page::ScenePage;
 pub use scene::Scene;
@@ -47,6 +51,7 @@ pub use sheet::Picture;
 pub use slots::Slot;
 pub use stands::Stand;
 pub use taken::StepName;
+pub use touches::{Touch, Touched};
 pub use well_formed::{documents_are_well_formed, escapes_are_safe};
 pub use whole::picture;
 pub use words::{MAX_WORDS, Words};

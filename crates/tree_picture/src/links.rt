@@ -10,6 +10,7 @@ use crate::places::{
 use crate::shape::{Line, Mark, Rectangle};
 use crate::sheet::Sheet;
 use crate::slots::{Slot, slot_line};
+use crate::touches::Touched;
 use crate::words::Words;
 use crate::write::with_number;
 use crate::{Level, ScenePage};
@@ -150,12 +151,12 @@ fn side_line(sheet: &mut Sheet, x1: u64, y1: u64, x2: u64, y2: u64)
 }
 
 /// The lines from the slots of a level's pages to their newest records.
-pub(crate) fn slot_lines(sheet: &mut Sheet, slots: &[Slot], level: Drawn<'_>)
+pub(crate) fn slot_lines(sheet: &mut Sheet, slots: &[Slot], touched: Touched, level: Drawn<'_>)
     ensures { sheet.new ≡ sheet.old }
 {
     for (place, page) in level.level.pages().iter().enumerate() {
         let at = level.spot(place);
-        slot_line(sheet, slots, page.pid(), at.x, at.y);
+        slot_line(sheet, slots, touched, page.pid(), at.x, at.y);
     }
 }
 
@@ -286,6 +287,7 @@ fn merged(sheet: &mut Sheet, pid: u32, x: u64, y: u64)
         height: 22,
         fill: Colour::Merged,
         edge: Colour::Ink,
+        thick: false,
     });
     let mut words = Words::new();
     with_number(&mut words, b"PID ", u64::from(pid));

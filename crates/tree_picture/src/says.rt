@@ -1,5 +1,5 @@
 //! Words for records, and for the items of bases and merges.
-ghost use Rattle.std.specs.Prelude.{◌≡◌, ◌≤◌, ◌++◌, length};
+ghost use Rattle.std.specs.Prelude.{◌≡◌, ◌≤◌, ◌++◌, codes, length};
 ghost use Rattle.base_page.specs.declared.item.Content.TheVariants.{Child};
 ghost use Rattle.deltas.specs.declared.record.Record.TheVariants as kind;
 ghost use Rattle.tree_picture.specs.Adding.{Adds};
@@ -62,6 +62,16 @@ pub(crate) fn record_words(content: &Record) -> Words
     ensures { result ≡ record_text content.now }
 {
     let mut words = Words::new();
+    with_record(&mut words, content);
+    words
+}
+
+/// What a record says that was read.
+pub(crate) fn record_found(content: &Record) -> Words
+    ensures { result ≡ codes ": " ++ record_text content.now }
+{
+    let mut words = Words::new();
+    words.add(b": ");
     with_record(&mut words, content);
     words
 }

@@ -4,11 +4,13 @@ ghost use Rattle.tree_picture.specs.Cells.{cell_text};
 ghost use Rattle.tree_picture.specs.Colours.{decoration, line_colour};
 ghost use Rattle.tree_picture.specs.SlotTexts.{slot_text};
 ghost use Rattle.tree_picture.specs.Texts.{EndInBox, mark_text};
+ghost use Rattle.tree_picture.specs.Edges.{HasEdge};
 
 use crate::cells::Cell;
 use crate::colour::Colour;
 use crate::slots::Slot;
 use crate::stands::Stand;
+use crate::touches::Touch;
 use crate::words::Words;
 
 /// How far to the right of the corner of a page's box its name and its range begin.
@@ -44,6 +46,8 @@ pub struct Rectangle {
     pub height: u64,
     pub fill: Colour,
     pub edge: Colour,
+    /// Whether its edge is thick.
+    pub thick: bool,
 }
 
 /// A straight line, from one place to another.
@@ -150,14 +154,17 @@ pub struct PageBox {
     pub ghost inside: { EndInBox rectangle.width pid mark range },
 }
 
-/// The box of a slot of the mapping table, and the words in it.
+/// The box of a slot of the mapping table, what the last step did with it, and the words in it.
 #[derive(Drop)]
 pub struct SlotBox {
     pub slot: Slot,
+    pub touch: Touch,
     pub rectangle: Rectangle,
     pub words: Words,
     /// The words name the slot and what it has.
     pub ghost worded: { words ≡ slot_text slot },
+    /// Its edge tells what the last step did with it.
+    pub ghost edged: { HasEdge touch rectangle },
 }
 
 /// The box of a cell of the table of epochs and limbo, and the words in it.

@@ -1,6 +1,6 @@
 //! Shapes while they are drawn.
 ghost use Rattle.std.specs.Prelude.{◌≡◌, ◌∷◌, [], IfOk, OnOk};
-ghost use Rattle.tree_picture.specs.Pages.{line_drawn, pages_in, with_cells, with_page, with_records, with_slots};
+ghost use Rattle.tree_picture.specs.Pages.{line_drawn, pages_in, slot_drawn, with_cells, with_page, with_records, with_slots};
 
 use crate::colour::Colour;
 use crate::shape::{CellBox, Line, PageBox, RecordLine, Rectangle, Shape, SlotBox, Text};
@@ -74,7 +74,7 @@ impl Sheet {
     /// The box of a slot.
     #[tactic(auto, using(crate::proofs::Shapes::slot_more))]
     pub(crate) fn slot(&mut self, slot: SlotBox) -> Result<(), AllocError>
-        ensures { OnOk result (self.new ≡ with_slots self.old (slot.slot ∷ [])) }
+        ensures { OnOk result (self.new ≡ with_slots self.old (slot_drawn slot ∷ [])) }
     {
         self.shapes.push(Shape::Slot(slot))?;
         Ok(())

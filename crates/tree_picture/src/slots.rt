@@ -4,11 +4,15 @@ ghost use Rattle.core_memory.specs.Tables.{memory_in};
 ghost use Rattle.tree_picture.specs.Pages.{with_slots};
 ghost use Rattle.tree_picture.specs.SlotTexts.{kind_text, slot_text};
 ghost use Rattle.tree_picture.specs.Slots.{slots_below};
+ghost use Rattle.tree_picture.specs.Found.{slot_found as slot_found_text};
+ghost use Rattle.tree_picture.specs.Touches.{touched_slots};
 
+use crate::cells::with_behind;
 use crate::colour::Colour;
 use crate::places::{HEAD, LEFT, SLOT_HEIGHT, SLOT_WIDTH, SLOTS_TOP};
 use crate::shape::{Line, Rectangle, SlotBox};
 use crate::sheet::Sheet;
+use crate::touches::{Touch, Touched};
 use crate::words::Words;
 use crate::write::with_number;
 use core_memory::CoreTable;
@@ -43,14 +47,21 @@ pub(crate) fn slots_of<A: Allocator, B: Allocator>(
     Ok(slots)
 }
 
-/// The slots one under another, from a height on.
-pub(crate) fn slot_boxes(sheet: &mut Sheet, slots: &[Slot], y: u64) -> Result<(), AllocError>
-    ensures { OnOk result (sheet.new ≡ with_slots sheet.old slots.now) }
+/// The slots one under another, from a height on, each with what the last step did with it.
+pub(crate) fn slot_boxes(
+    sheet: &mut Sheet,
+    slots: &[Slot],
+    touched: Touched,
+    y: u64,
+) -> Result<(), AllocError>
+    ensures { OnOk result (sheet.new ≡ with_slots sheet.old (touched_slots touched slots.now)) }
 {
     let mut y = y;
     for each in slots {
+        let touch = touched.slot(each.number);
         sheet.slot(SlotBox {
             slot: *each,
+            touch,
             words: slot_words(each.number, each.content),
             rectangle: Rectangle {
                 x: LEFT,
@@ -58,7 +69,8 @@ pub(crate) fn slot_boxes(sheet: &mut Sheet, slots: &[Slot], y: u64) -> Result<()
                 width: SLOT_WIDTH,
                 height: SLOT_HEIGHT,
                 fill: Colour::Paper,
-                edge: Colour::Ink,
+                edge: touch.colour(),
+                thick: touch.is_thick(),
             },
         })?;
         y = y.saturating_add(SLOT_HEIGHT);
@@ -73,6 +85,21 @@ fn slot_words(number: u32, content: u32) -> Words
     let mut words = Words::new();
     with_number(&mut words, b"slot ", u64::from(number));
     with_number(&mut words, kind_words(number), u64::from(content));
+    words
+}
+
+/// The words for what a slot had that was read.
+pub(crate) fn slot_found(number: u32, content: u64) -> Words
+    ensures { result ≡ slot_found_text number content }
+{
+    let mut words = Words::new();
+    if content == 0 {
+        words.add(b": nothing");
+    } else if number == 0 {
+        with_behind(&mut words, b": PID ", content);
+    } else {
+        with_behind(&mut words, b": row ", content);
+    }
     words
 }
 
@@ -91,8 +118,16 @@ pub(crate) fn slots_bottom(slots: &[Slot], y: u64) -> u64 {
 /// How many slots have a line to their pages at most: more would hide the picture.
 const FEW_SLOTS: usize = 24;
 
-/// The line from the slot of a page, if it is among a few, to the newest record of the page's box, which begins here.
-pub(crate) fn slot_line(sheet: &mut Sheet, slots: &[Slot], pid: u32, x: u64, y: u64)
+/// The line from the slot of a page, if it is among a few, to the newest record of the page's box, which begins here. It goes down beside the
+/// table, over the boxes of the page's row, and down beside the page's box.
+pub(crate) fn slot_line(
+    sheet: &mut Sheet,
+    slots: &[Slot],
+    touched: Touched,
+    pid: u32,
+    x: u64,
+    y: u64,
+)
     ensures { sheet.new ≡ sheet.old }
 {
     if slots.len() > FEW_SLOTS {
@@ -101,13 +136,51 @@ pub(crate) fn slot_line(sheet: &mut Sheet, slots: &[Slot], pid: u32, x: u64, y: 
     let Some(place) = slots.iter().position(|slot| slot.number == pid) else {
         return;
     };
-    let down = (place as u64).saturating_mul(SLOT_HEIGHT);
+    let place = place as u64;
+    let colour = match touched.slot(pid) {
+        Touch::Changed => Colour::Changed,
+        _ => Colour::Grey,
+    };
+    let from = place
+        .saturating_mul(SLOT_HEIGHT)
+        .saturating_add(SLOTS_TOP + SLOT_HEIGHT / 2);
+    let beside = (place % 16)
+        .saturating_mul(2)
+        .saturating_add(LEFT + SLOT_WIDTH + 4);
+    let over = y.saturating_sub((place % 8).saturating_mul(2).saturating_add(8));
+    let left = x.saturating_sub((place % 4).saturating_mul(2).saturating_add(6));
+    let to = y.saturating_add(HEAD + 9);
+    across(sheet, LEFT + SLOT_WIDTH, beside, from, colour);
+    down(sheet, beside, from, over, colour);
+    across(sheet, beside, left, over, colour);
+    down(sheet, left, over, to, colour);
+    across(sheet, left, x.saturating_add(8), to, colour);
+}
+
+/// A line from left to right.
+fn across(sheet: &mut Sheet, x1: u64, x2: u64, y: u64, colour: Colour)
+    ensures { sheet.new ≡ sheet.old }
+{
     sheet.line(Line {
-        x1: LEFT + SLOT_WIDTH,
-        y1: down.saturating_add(SLOTS_TOP + SLOT_HEIGHT / 2),
+        x1,
+        y1: y,
+        x2,
+        y2: y,
+        colour,
+        dashed: false,
+    });
+}
+
+/// A line down, or up.
+fn down(sheet: &mut Sheet, x: u64, y1: u64, y2: u64, colour: Colour)
+    ensures { sheet.new ≡ sheet.old }
+{
+    sheet.line(Line {
+        x1: x,
+        y1,
         x2: x,
-        y2: y.saturating_add(HEAD + 9),
-        colour: Colour::Grey,
+        y2,
+        colour,
         dashed: false,
     });
 }

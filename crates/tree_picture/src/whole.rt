@@ -10,7 +10,9 @@ ghost use Rattle.tree_picture.specs.Pids.{all_pids};
 ghost use Rattle.tree_picture.specs.Ranges.{all_ranges};
 ghost use Rattle.tree_picture.specs.RecordLines.{all_records};
 ghost use Rattle.tree_picture.specs.Stands.{all_stands, stands_in};
+ghost use Rattle.tree_picture.specs.Touches.{touched_in, touched_slots};
 
+use crate::beside::beside;
 use crate::doings::actor_lines;
 use crate::frame::{counts, head, legend, title};
 use crate::levels::{all_links, rows};
@@ -18,6 +20,7 @@ use crate::places::{DROP, LEFT, SLOTS_TOP, TOP, first_x, width_of};
 use crate::sheet::{Picture, Sheet};
 use crate::slots::{slot_boxes, slots_bottom};
 use crate::stands::stands_of;
+use crate::touches::{Touched, touched_in};
 use crate::{Scene, Stand};
 use std::alloc::{AllocError, Global};
 use step_core::Core;
@@ -28,7 +31,7 @@ pub fn picture(alloc: Global, scene: &Scene, core: &Core) -> Result<Picture, All
     ensures pages { IfOk result (λ picture. pids_of picture.shapes.items ≡ all_pids scene.now.levels) }
     ensures ranges { IfOk result (λ picture. ranges_of picture.shapes.items ≡ all_ranges scene.now.levels) }
     ensures records { IfOk result (λ picture. records_of picture.shapes.items ≡ all_records scene.now.levels) }
-    ensures slots { IfOk result (λ picture. slots_of picture.shapes.items ≡ scene.now.slots) }
+    ensures slots { IfOk result (λ picture. slots_of picture.shapes.items ≡ touched_slots (touched_in core.now.entries) scene.now.slots) }
     ensures cells { IfOk result (λ picture. (actors : List ActorSeen) × AreActors core.now.limits core.now.entries core.now.demand.wanted actors
         × (cells_of picture.shapes.items ≡ cells_from (memory_of core.now.limits core.now.entries) 0 actors)) }
     ensures stands { IfOk result (λ picture. stands_of picture.shapes.items ≡ all_stands (stands_in core.now.limits core.now.entries core.now.demand.wanted) scene.now.levels) }
@@ -43,22 +46,33 @@ pub fn picture(alloc: Global, scene: &Scene, core: &Core) -> Result<Picture, All
         None => LEFT,
     };
     head(&mut sheet, scene, root_x);
-    all_links(&mut sheet, scene, width, TOP);
+    let touched = touched_in(core);
+    all_links(&mut sheet, scene, touched, width, TOP);
     let stands = stands_of(alloc, core)?;
     let end = rows(
         &mut sheet,
         levels,
         scene.root(),
         stands.as_slice(),
+        touched,
         width,
         TOP,
     )?;
-    slot_boxes(&mut sheet, scene.slots(), SLOTS_TOP)?;
-    let under = larger(
+    slot_boxes(&mut sheet, scene.slots(), touched, SLOTS_TOP)?;
+    let tree = larger(
         end.saturating_sub(DROP / 2),
         slots_bottom(scene.slots(), SLOTS_TOP),
     );
-    let y = all_actors(&mut sheet, core, stands.as_slice(), under)?;
+    let under = beside(
+        &mut sheet,
+        scene,
+        core,
+        stands.as_slice(),
+        touched,
+        width,
+        tree,
+    )?;
+    let y = all_actors(&mut sheet, core, stands.as_slice(), touched, under)?;
     let height = larger(legend(&mut sheet, y), end);
     sheet.finish(width, height, title(), counts(scene))
 }
@@ -71,7 +85,13 @@ fn larger(one: u64, other: u64) -> u64
 }
 
 /// All actors from a height on, and the height behind them.
-fn all_actors(sheet: &mut Sheet, core: &Core, stands: &[Stand], y: u64) -> Result<u64, AllocError>
+fn all_actors(
+    sheet: &mut Sheet,
+    core: &Core,
+    stands: &[Stand],
+    touched: Touched,
+    y: u64,
+) -> Result<u64, AllocError>
     ensures { OnOk result ((actors : List ActorSeen) × AreActors core.now.limits core.now.entries core.now.demand.wanted actors
         × (sheet.new ≡ with_cells sheet.old (cells_from (memory_of core.now.limits core.now.entries) 0 actors))) }
 {
@@ -81,7 +101,8 @@ fn all_actors(sheet: &mut Sheet, core: &Core, stands: &[Stand], y: u64) -> Resul
             unreachable!()
         };
         let announced = core.memory().announced(number);
-        y = actor_lines(sheet, number, actor, announced, stands, y)?;
+        let touch = touched.actor(number);
+        y = actor_lines(sheet, number, actor, announced, stands, touch, y)?;
     }
     Ok(y)
 }

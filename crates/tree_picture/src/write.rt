@@ -4,6 +4,7 @@ ghost use Rattle.std.specs.Prelude.{◌≡◌, ◌≤◌, ◌++◌, decimal, len
 ghost use Rattle.hex.specs.Hex.{encode_lower};
 ghost use Rattle.tree_picture.specs.Adding.{Adds};
 ghost use Rattle.tree_picture.specs.Ranges.{dots, key_text, range_text, short_token};
+ghost use Rattle.tree_picture.specs.declared.words.TheConstants.{MAX_WORDS};
 ghost use Rattle.tree_picture.specs.declared.write.TheConstants.{SHORT_DIGITS};
 
 use crate::words::Words;
@@ -18,7 +19,9 @@ const SHORT: usize = 10;
 const SHORT_DIGITS: usize = 5;
 
 /// These words.
-pub(crate) fn plain(bytes: &[u8]) -> Words {
+pub(crate) fn plain(bytes: &[u8]) -> Words
+    ensures { length bytes.now ≤ MAX_WORDS → result ≡ bytes.now }
+{
     let mut words = Words::new();
     words.add(bytes);
     words

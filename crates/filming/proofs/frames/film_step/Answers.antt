@@ -2,8 +2,8 @@ use Rattle.std.proofs.Common.{◌≡◌, refl, ◌∙◌}
 use Rattle.std.specs.Prelude.{option_copied}
 use Rattle.tree_picture.specs.Elements.{document_text}
 use Rattle.traces.specs.trace.Trace.{command_of}
-use Rattle.filming.specs.Logs.{place_text}
 use Rattle.filming.specs.Pages.{frame_text}
+use Rattle.filming.specs.Places.{place_text}
 use Rattle.filming.proofs.frames.film_step.Goals as goal
 
 pub returns : goal.returns
@@ -17,7 +17,8 @@ returns g c =
     let asked : option_copied c.as_ref.result ≡ command = c.as_ref.ensures.value ∙ c.in-Some.ensures in
     let asked_again : option_copied c.as_ref-2.result ≡ command = c.as_ref-2.ensures.value ∙ c.in-Some.ensures in (
       event,
-      frame_text c.args.number c.told-words.result c.in-Ok.before.items (place_text log command event) document after.pairs.items log,
+      frame_text c.args.number c.told-words.result c.found_words-found.result c.in-Ok.before.items (place_text log command event) document
+          after.pairs.items log,
       c.in-Ok-turn.ensures.ok,
       (
         record {
@@ -41,5 +42,5 @@ returns g c =
         },
         rw asked at c.in-Ok-add_update.ensures,
       ),
-      rw (c.as_slice.ensures, c.as_slice-2.ensures.value, c.as_slice-3.ensures.value, asked_again) at c.show_frame.ensures,
+      rw (c.as_slice.ensures, c.as_slice-2.ensures, c.as_slice-3.ensures.value, c.as_slice-4.ensures.value, asked_again) at c.show_frame.ensures,
     )

@@ -1,4 +1,4 @@
-use Rattle.std.proofs.Common.{[], ◌∷◌, ◌++◌, ap, arith, refl, subst, sym, ◌∙◌}
+use Rattle.std.proofs.Common.{[], ◌∷◌, ◌++◌, ap, arith, false, refl, subst, sym, ◌∙◌}
 use Rattle.traces.specs.chain.Chains.{high_in, low_in}
 use Rattle.tree_picture.specs.declared.colour.Colour.TheVariants.{Ink}
 use Rattle.tree_picture.specs.Layout.{AreLaidTo}
@@ -43,7 +43,7 @@ pub returns-clause-laid : goal.returns-clause-laid
 returns-clause-laid c = λ width bottom next to right further high.
     let exact = c.page_height.ensures.exact in
     subst (λ boxes. AreLaidTo width bottom next c.args.y boxes) (sym (ap (λ sheet. sheet.boxes) c.in_ok-record_boxes.ensures ∙ ap (λ sheet. sheet.boxes) c.in_ok-page.ensures))
-    (one_more to (record { x = c.args.x; y = c.args.y; width = 236; height = c.page_height.result; fill = c.colour.result; edge = Ink }) refl refl
+    (one_more to (record { x = c.args.x; y = c.args.y; width = 236; height = c.page_height.result; fill = c.colour.result; edge = Ink; thick = false }) refl refl
     (record { wide = omega arith; high = omega (arith, exact); right = omega (arith, right); bottom = omega (arith, exact, high) }) next (omega (arith, further)))
 
 pub invariant_of-page : goal.invariant_of-page

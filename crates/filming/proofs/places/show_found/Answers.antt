@@ -1,5 +1,5 @@
 use Rattle.byte_streams.proofs.Showing.{shows_then}
-use Rattle.filming.proofs.logs.show_found.Goals as goal
+use Rattle.filming.proofs.places.show_found.Goals as goal
 
 pub returns : goal.returns
 returns g c =
