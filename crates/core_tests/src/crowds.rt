@@ -310,19 +310,19 @@ const LARGE: Size = Size::Large(2048, 16384);
 /// The most steps and rounds of a command of each kind in each tree.
 const MOST: [(u32, Size, u32, u32); 14] = [
     (0, SMALL, 29, 1),
-    (0, LARGE, 16, 1),
+    (0, LARGE, 14, 1),
     (1, SMALL, 35, 1),
-    (1, LARGE, 16, 1),
+    (1, LARGE, 15, 1),
     (2, SMALL, 418, 6),
-    (2, LARGE, 119, 6),
+    (2, LARGE, 106, 6),
     (3, SMALL, 341, 6),
-    (3, LARGE, 112, 6),
+    (3, LARGE, 106, 6),
     (4, SMALL, 1605, 34),
-    (4, LARGE, 578, 42),
+    (4, LARGE, 575, 49),
     (5, SMALL, 85, 2),
-    (5, LARGE, 50, 2),
+    (5, LARGE, 48, 2),
     (6, SMALL, 2901, 50),
-    (6, LARGE, 824, 61),
+    (6, LARGE, 842, 72),
 ];
 
 /// Where actors have stood: behind each exchange of a removal on each of the three lowest levels.

@@ -157,13 +157,13 @@ const LARGE: Size = Size::Large(512, 8_192);
 /// What is asked, with how many steps it takes and how many of its exchanges win.
 const TAKEN: [(Ask, Size, u32, u32); 8] = [
     (Ask::Get(LAST), SMALL, 16, 0),
-    (Ask::Get(LAST), LARGE, 12, 0),
+    (Ask::Get(LAST), LARGE, 11, 0),
     (Ask::Upsert(LAST, 1), SMALL, 22, 1),
-    (Ask::Upsert(LAST, 1), LARGE, 16, 1),
+    (Ask::Upsert(LAST, 1), LARGE, 15, 1),
     (Ask::Delete(LAST), SMALL, 40_751, 878),
-    (Ask::Delete(LAST), LARGE, 17_088, 1_066),
+    (Ask::Delete(LAST), LARGE, 17_097, 1_232),
     (Ask::Tidy(LAST), SMALL, 45_553, 1_021),
-    (Ask::Tidy(LAST), LARGE, 17_631, 1_145),
+    (Ask::Tidy(LAST), LARGE, 17_486, 1_311),
 ];
 
 #[test]

@@ -110,7 +110,7 @@ fn longest(alloc: Global, size: Size, orders: u64) -> Option<u32> {
 
 #[test]
 fn changes_do_not_pause_for_long(rt: HostRuntime) {
-    for (size, expected) in [(Size::Small(64, 256), 78), (Size::Large(64, 256), 47)] {
+    for (size, expected) in [(Size::Small(64, 256), 78), (Size::Large(64, 256), 43)] {
         let longest = longest(rt.alloc(), size, 1_000);
         assert!(rt; longest == Some(expected), "{size:?}: {longest:?}");
     }

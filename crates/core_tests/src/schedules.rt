@@ -346,7 +346,7 @@ fn few_rows(rt: HostRuntime) {
     let four = in_both(rt.alloc(), (Mix::Four, 100), (11, 6, 20_000), (64, 64));
     assert!(rt; four == [scarce(1), roomy(1)], "{four:?}");
     let seven = in_both(rt.alloc(), (Mix::Seven, 300), (14, 6, 20_000), (64, 64));
-    assert!(rt; seven == [scarce(1), scarce(2)], "{seven:?}");
+    assert!(rt; seven == [scarce(1), roomy(1)], "{seven:?}");
     let size = Size::Large(64, 64);
     let many = watch(rt.alloc(), (Mix::FewDeletes, 1024), (11, 6, 40_000), size);
     let many = told(many);

@@ -135,7 +135,7 @@ fn sleeps(alloc: Global, size: Size) -> Sleep {
 fn a_reader_that_slept_ends(rt: HostRuntime) {
     for (size, stops, most) in [
         (Size::Small(512, 8_192), 19, 376),
-        (Size::Large(512, 8_192), 13, 190),
+        (Size::Large(512, 8_192), 12, 168),
     ] {
         let sleeps = sleeps(rt.alloc(), size);
         assert!(rt; sleeps == Sleep { stops, most }, "{size:?}: {sleeps:?}");
