@@ -1,4 +1,4 @@
-use Rattle.std.proofs.Common.{◌≡◌, refl, ◌∙◌}
+use Rattle.std.proofs.Common.{◌≡◌, ℕ, List, ap, refl, ◌∙◌}
 use Rattle.std.specs.Prelude.{option_copied}
 use Rattle.tree_picture.specs.Elements.{document_text}
 use Rattle.traces.specs.trace.Trace.{command_of}
@@ -15,10 +15,11 @@ returns g c =
     let event = c.in-Ok-turn.event in
     let command = command_of c.args.core.now.entries c.args.actor in
     let asked : option_copied c.as_ref.result ≡ command = c.as_ref.ensures.value ∙ c.in-Some.ensures in
-    let asked_again : option_copied c.as_ref-2.result ≡ command = c.as_ref-2.ensures.value ∙ c.in-Some.ensures in (
+    let asked_again : option_copied c.as_ref-2.result ≡ command = c.as_ref-2.ensures.value ∙ c.in-Some.ensures in
+    let text = λ (found : List ℕ).
+    frame_text c.args.number c.told-words.result found c.in-Ok.before.items (place_text log command event) document after.pairs.items log in (
       event,
-      frame_text c.args.number c.told-words.result c.found_words-found.result c.in-Ok.before.items (place_text log command event) document
-          after.pairs.items log,
+      text c.found_words-found.result,
       c.in-Ok-turn.ensures.ok,
       (
         record {
@@ -38,7 +39,7 @@ returns g c =
             spells = refl;
             well_formed = c.documents_are_well_formed.ensures picture.width picture.height picture.title picture.description picture.shapes.items;
           };
-          spells = refl;
+          spells = ap text c.found_words-found.ensures;
         },
         rw asked at c.in-Ok-add_update.ensures,
       ),
