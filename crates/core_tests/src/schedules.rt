@@ -294,8 +294,8 @@ fn seeds_1_to_8(rt: HostRuntime) {
     for (size, first) in [
         (Size::Small(256, 4096), 1),
         (Size::Small(256, 4096), 5),
-        (Size::Large(256, 4096), 1),
-        (Size::Large(64, 4096), 5),
+        (Size::Large(64, 4096), 1),
+        (Size::Large(256, 4096), 5),
     ] {
         let cleared = cleared(rt.alloc(), Mix::Swaps, size, first);
         assert!(rt;
