@@ -125,14 +125,10 @@ const PLACES: [(&[u8], &[u8]); 8] = [
 fn readers_have_a_place(rt: HostRuntime) -> Result<(), Fail> {
     let limits = Limits::new(2, 64, 256, 1)?;
     for (number, (lines, place)) in PLACES.iter().enumerate() {
-        let (_, text) = filmed(rt.alloc(), limits, lines);
-        assert!(rt;
-            count(
-                text.as_slice(),
-                b"<p>The place of this operation in the order is known only now: "
-            ) == 1,
-            "{number}"
-        );
+        let text = filmed(rt.alloc(), limits, lines).text;
+        let told = b"<p>The place of this operation in the order is known only now: ";
+        let found = count(text.as_slice(), told);
+        assert!(rt; found == 1, "lines {number}: {found} places");
         assert!(rt; count(text.as_slice(), place) == 1, "place {number}");
     }
     Ok(())
