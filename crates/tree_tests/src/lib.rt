@@ -19,6 +19,8 @@ mod closing;
 #[cfg(test)]
 mod cycles;
 #[cfg(test)]
+mod emptied;
+#[cfg(test)]
 mod example;
 #[cfg(test)]
 mod full_trees;
