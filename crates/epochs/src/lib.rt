@@ -33,7 +33,7 @@
 //! - The list agrees with what its actor's own steps show to be out of the tree: `AreKept` (sweep). That freeing by this rule is safe is `frees_by_rule`
 //!   (tree_law).
 //!
-//! Called by `sweep` and by `op_machine`, which keeps one limbo for each actor. It knows limits alone: no step and no tree.
+//! Called by `sweep`, by `op_parts`, whose `Hand` keeps an actor's limbo, and by `op_machine`. It knows limits alone: no step and no tree.
 #![tactic(auto)]
 
 mod entry;

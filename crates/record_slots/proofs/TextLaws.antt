@@ -4,7 +4,7 @@ use Rattle.std.specs.Prelude.{◌&&◌}
 use Rattle.std.specs.Int.{w64, to_be_bytes, from_be_bytes}
 use Rattle.std.specs.List.{AllByRecursion}
 use Rattle.std.proofs.lemmas.Bool.{cases_lt, eqb-true}
-use Rattle.std.proofs.lemmas.List.{drop-drop, length-drop, take-append-le}
+use Rattle.std.proofs.lemmas.List.{append-nil, drop-drop, length-drop, take-append-le}
 use Rattle.std.proofs.lemmas.Nat.{be_bytes_8, from_be_bytes-to_be_bytes_8, mod-mul-add, div-add-mod', pow-add}
 use Rattle.std.proofs.Math.Dec.{eqb-suc-zero}
 use Rattle.std.proofs.Math.Nat.{mod-lt, mod-one, mul-mod_left, mul_assoc, add-mul, mul-le-mul_left}
@@ -245,3 +245,10 @@ shifted count word few =
         let e : z * suc a ≡ z + a * z = omega arith in
         let f : z * b ≡ b * z = omega arith in
         omega arith
+
+-- the two first parts of a list of three
+pub two_parts : (n : ℕ) (xs ys zs : List ℕ) → n ≡ length xs + length ys → take n (xs ++ (ys ++ zs)) ≡ xs ++ ys
+two_parts n xs ys zs e =
+    let none : length ys ≡ length ys + 0 = omega arith in
+    ap (λ k. take k (xs ++ (ys ++ zs))) e ∙ take-append-add xs (ys ++ zs) (length ys)
+    ∙ ap (λ k. xs ++ take k (ys ++ zs)) none ∙ ap (λ rest. xs ++ rest) (take-append-add ys zs 0 ∙ append-nil ys)

@@ -28,6 +28,6 @@ pub use layout::{
 pub use read::{from_words, read_words};
 pub use row::BadRow;
 pub use spelling_laws::{rows_have_words, spelling_is_one};
-pub use texts::{key_in, value_in};
+pub use texts::write_word;
 pub use write::{key_bytes, to_words, word_at, write_record};
 pub use written_row::WrittenRow;

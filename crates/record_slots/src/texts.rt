@@ -14,7 +14,7 @@ use bw_model::{Key, MAX_LENGTH, Value};
 
 /// A key, from its length and its words of bytes.
 #[inline]
-pub fn key_in(count: u64, words: &[u64]) -> Result<Key, BadRow>
+pub(crate) fn key_in(count: u64, words: &[u64]) -> Result<Key, BadRow>
     requires { length words.now ≡ text_size }
     ensures { FindsOne (IsText count words.now) result }
 {
@@ -27,7 +27,7 @@ pub fn key_in(count: u64, words: &[u64]) -> Result<Key, BadRow>
 
 /// A value, from its length and its words of bytes.
 #[inline]
-pub fn value_in(count: u64, words: &[u64]) -> Result<Value, BadRow>
+pub(crate) fn value_in(count: u64, words: &[u64]) -> Result<Value, BadRow>
     requires { length words.now ≡ text_size }
     ensures { FindsOne (IsText count words.now) result }
 {
@@ -92,7 +92,7 @@ fn read_bytes(count: u64, words: &[u64], bytes: &mut [u8; MAX_LENGTH]) -> bool
 
 /// Writes a word's bytes to its place, the highest one first.
 #[inline(always)]
-fn write_word(bytes: &mut [u8; MAX_LENGTH], place: usize, word: u64)
+pub fn write_word(bytes: &mut [u8; MAX_LENGTH], place: usize, word: u64)
     requires { place < TEXT_WORDS }
     ensures { bytes.new ≡ take (8 * place) bytes.old ++ (to_be_bytes w64 word ++ drop (8 * place + 8) bytes.old) }
 {

@@ -1,9 +1,10 @@
 -- What an item of a row has, read from its words.
-use Rattle.std.proofs.Common.{◌≡◌, suc, ◌==◌, ◌<◌, ◌+◌, ◌*◌, ◌%◌, ℕ, false, List, length, get_or, take, drop, refl, sym, ap, subst, ◌∙◌, arith}
+use Rattle.std.proofs.Common.{◌≡◌, suc, ◌==◌, ◌<◌, ◌≤◌, ◌+◌, ◌*◌, ◌%◌, ℕ, false, List, length, get_or, take, drop, refl, sym, ap, subst, ◌∙◌, arith}
 use Rattle.std.specs.Prelude.{if◌then◌else◌, nat_le, ◌-◌, Option, Some, None, IfSome}
 use Rattle.row_search.proofs.Words.{eqb-true, false_from_ne_true, get_or-drop, drop-drop, Content, Value, Child, Item, IsOfLevel, Record, field_size, held_mark, item_size, items_at}
 use Rattle.row_search.proofs.Words.{no_bound, second_at, text_size, IsItem, row_of, items_of, IsShort, bound_words, content_words, item_words, IsShortContent, IsSpelling, IsText, bytes_of}
 use Rattle.row_search.proofs.Words.{items_fit, read_back, field_in, item_in}
+use Rattle.bw_model.specs.Bytes.{longest}
 use Rattle.deltas.specs.Spellable.{HasPid}
 use Rattle.row_search.proofs.ItemTexts.{item_stands, item_text, window}
 use Rattle.row_search.proofs.ReadingLaws.{content_of, item_read}
@@ -16,6 +17,13 @@ text_is count words text h =
 
 pub text_same : (count : ℕ) (words one other : List ℕ) → IsText count words one → IsText count words other → one ≡ other
 text_same count words one other h g = sym (text_is count words one h) ∙ text_is count words other g
+
+-- a text whose count was looked at
+pub few_there : {words text : List ℕ} {count found : ℕ} → found ≡ count → IsText count words text → found ≤ longest
+few_there e is = let s = is.short.short in let n = is.counts in omega (arith, e)
+
+pub text_there : {words text : List ℕ} {count found : ℕ} → found ≡ count → IsText count words text → take found (bytes_of words) ≡ text
+text_there {words = words} {text = text} {count = count} e is = ap (λ n. take n (bytes_of words)) e ∙ text_is count words text is
 
 pub text_stands : (count : ℕ) (words text : List ℕ) → IsText count words text → IsText count words (take count (bytes_of words))
 text_stands count words text h = subst (IsText count words) (sym (text_is count words text h)) h
@@ -83,11 +91,6 @@ module _ (words : List ℕ) (content : Record) (h : IsSpelling content words) (p
   -- the value of a leaf's item is a text, and what is read as one is that value
   pub value_there : (row_of content).level ≡ 0 → (value : List ℕ) × ((Value value ≡ item.content) × IsText (get_or words (at + field_size) 0) (take text_size (drop (at + suc field_size) words)) value)
   value_there leaf = text_of item.content is.short.1 (subst (λ l. IsOfLevel l item.content) leaf is.kind) content_stands
-
-  pub value_is : (row_of content).level ≡ 0 → (value : List ℕ) → IsText (get_or words (at + field_size) 0) (take text_size (drop (at + suc field_size) words)) value → Value value ≡ item.content
-  value_is leaf value text =
-      let there = value_there leaf in
-      ap Value (text_same (get_or words (at + field_size) 0) (take text_size (drop (at + suc field_size) words)) value there.0 text there.1.1) ∙ there.1.0
 
 -- what stands at a place
 pub marked : (words : List ℕ) (here other : ℕ) → here ≡ other

@@ -1,6 +1,7 @@
 //! A record that was read in a row, and is looked at there.
 ghost use Rattle.std.specs.Prelude.{◌≡◌, ◌<◌, ◌≤◌, ◌+◌, List, ℕ, Some, false, length, slice_index, take, drop};
 ghost use Rattle.base_page.specs.declared.items.TheConstants.{MAX_ITEMS};
+ghost use Rattle.bw_model.specs.declared.short_bytes.TheConstants.{MAX_LENGTH};
 ghost use Rattle.deltas.specs.Records.{next_row, removed_after};
 ghost use Rattle.record_slots.specs.Parts.{items_of, row_of};
 ghost use Rattle.record_slots.specs.Spelling.{words_of};
@@ -8,6 +9,8 @@ ghost use Rattle.record_slots.specs.Spells.{HasSpelling};
 ghost use Rattle.record_slots.specs.Texts.{IsText};
 ghost use Rattle.record_slots.specs.declared.layout.TheConstants.{ROW_WORDS, TEXT_WORDS};
 ghost use Rattle.row_search.specs.Begins.{Begins};
+ghost use Rattle.row_search.specs.Placed.{row_words_of};
+ghost use Rattle.row_search.specs.Reading.{text_in};
 ghost use Rattle.row_search.specs.TextsOf.{HasText, length_at};
 
 mod bounds;
@@ -18,10 +21,11 @@ mod parts;
 mod says;
 
 use crate::{Rows, Text, Told};
+use bw_model::{Key, MAX_LENGTH};
 use deltas::Record;
 use record_slots::{
     FIRST_ITEM, FORM, FORM_UNIT, ITEM_UNIT, ITEM_WORDS, LEVEL_UNIT, PART_LIMIT, ROW_WORDS,
-    TEXT_WORDS, kinds, read_words, rows_have_words,
+    TEXT_WORDS, kinds, read_words, rows_have_words, write_word,
 };
 use std::marker::Model;
 
@@ -137,6 +141,47 @@ impl<R: Rows> RowAt<R> {
             at += 1;
         }
         words
+    }
+
+    /// The key that a text of so many bytes is.
+    #[inline(always)]
+    fn key(&self, rows: &R, pass: &mut R::Pass, place: R::Place, text: Text, count: u64) -> Key
+        requires read { R.lies rows.now pass.old place self.now.content }
+        requires there { HasText text self.now.content }
+        requires few { count ≤ MAX_LENGTH }
+        ensures same { pass.new ≡ pass.old }
+        ensures key { result ≡ text_in count (drop (length_at text + 1) (row_words_of self.now)) }
+    {
+        Key::first_of(&self.bytes(rows, pass, place, text, count), count as u8)
+    }
+
+    /// An array that begins with the bytes of a text of so many. Only the words that it uses are looked at.
+    #[inline(always)]
+    fn bytes(
+        &self,
+        rows: &R,
+        pass: &mut R::Pass,
+        place: R::Place,
+        text: Text,
+        count: u64,
+    ) -> [u8; MAX_LENGTH]
+        requires read { R.lies rows.now pass.old place self.now.content }
+        requires there { HasText text self.now.content }
+        requires few { count ≤ MAX_LENGTH }
+        ensures same { pass.new ≡ pass.old }
+        ensures bytes { take count result ≡ text_in count (drop (length_at text + 1) (row_words_of self.now)) }
+    {
+        rows_have_words();
+        self.keeps_spelling();
+        self.has_room(text);
+        let used = ((count + 7) / 8) as usize;
+        let mut bytes = [0; MAX_LENGTH];
+        let mut at = 0;
+        while at < used {
+            write_word(&mut bytes, at, self.text_word(rows, pass, place, text, at));
+            at += 1;
+        }
+        bytes
     }
 
     /// The length of a text, or of an item's content that is a child the PID.

@@ -5,7 +5,7 @@
 //! tree, of the first 64 items of each list. `epochs` explains the scheme and keeps the lists; here are the steps, and their place in the
 //! discipline of actors.
 //!
-//! Called by `op_machine`, at the begin of a writer and where a change has taken pages out (`take_out`). It knows no page and no key.
+//! Called by `op_machine`, at the begin of a writer, and by `op_parts`, where a change has taken pages out (`take_out`). It knows no page and no key.
 #![tactic(auto)]
 
 mod announced;

@@ -7,7 +7,7 @@ ghost use Rattle.record_slots.specs.Parts.{items_of, row_of};
 
 use crate::{KeyWords, RowAt, Rows, Text};
 use bw_model::Key;
-use record_slots::{NO_BOUND, key_in, kinds};
+use record_slots::{NO_BOUND, kinds};
 use std::cmp::Ordering;
 
 impl<R: Rows> RowAt<R> {
@@ -20,8 +20,7 @@ impl<R: Rows> RowAt<R> {
         self.keeps_spelling();
         let place = self.place(rows, pass);
         let count = self.length(rows, pass, place, Text::First);
-        let words = self.text(rows, pass, place, Text::First, count);
-        key_in(count, &words).unwrap()
+        self.key(rows, pass, place, Text::First, count)
     }
 
     /// The second of its two keys: the end of a page, which may have none.
@@ -36,8 +35,7 @@ impl<R: Rows> RowAt<R> {
         if count == NO_BOUND {
             return None;
         }
-        let words = self.text(rows, pass, place, Text::Second, count);
-        Some(key_in(count, &words).unwrap())
+        Some(self.key(rows, pass, place, Text::Second, count))
     }
 
     /// Whether it says where the page ends and what its right is, as a base, a split and a merge do.

@@ -10,7 +10,7 @@ use crate::{RowAt, Rows, Text};
 use base_page::{Content, Item, Page};
 use bw_model::Key;
 use deltas::{Delete, Put};
-use record_slots::{HELD, key_in, kinds};
+use record_slots::{HELD, kinds};
 
 impl<R: Rows> RowAt<R> {
     /// The put that it is; none of another record.
@@ -81,6 +81,7 @@ impl<R: Rows> RowAt<R> {
     }
 
     /// The item at the place.
+    #[inline(always)]
     fn item(&self, rows: &R, pass: &mut R::Pass, place: usize) -> Item
         requires read { R.has rows.now pass.old self.now.row self.now.content }
         requires there { place < length (items_of self.now.content) }
@@ -94,6 +95,7 @@ impl<R: Rows> RowAt<R> {
     }
 
     /// The key of the item at the place.
+    #[inline(always)]
     fn item_key(&self, rows: &R, pass: &mut R::Pass, place: usize) -> Key
         requires read { R.has rows.now pass.old self.now.row self.now.content }
         requires there { place < length (items_of self.now.content) }
@@ -104,8 +106,7 @@ impl<R: Rows> RowAt<R> {
         let text = Text::Key(place);
         let lies = self.place(rows, pass);
         let count = self.length(rows, pass, lies, text) % HELD;
-        let words = self.text(rows, pass, lies, text, count);
-        key_in(count, &words).unwrap()
+        self.key(rows, pass, lies, text, count)
     }
 }
 

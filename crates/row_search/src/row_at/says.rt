@@ -9,7 +9,7 @@ ghost use Rattle.record_slots.specs.Parts.{items_of, row_of};
 use crate::{KeyWords, RowAt, Rows, Text};
 use base_page::Content;
 use bw_model::Value;
-use record_slots::{HELD, kinds, value_in};
+use record_slots::{HELD, kinds};
 
 impl<R: Rows> RowAt<R> {
     /// What it says of a key that it names: its content, or none where the key is absent.
@@ -113,8 +113,8 @@ impl<R: Rows> RowAt<R> {
             return Content::Child { page, held };
         }
         let count = self.length(rows, pass, lies, Text::Content(place));
-        let words = self.text(rows, pass, lies, Text::Content(place), count);
-        Content::Value(value_in(count, &words).unwrap())
+        let bytes = self.bytes(rows, pass, lies, Text::Content(place), count);
+        Content::Value(Value::first_of(&bytes, count as u8))
     }
 
     /// The child that a term names.

@@ -2,17 +2,10 @@ use Rattle.std.proofs.Common.{◌≡◌, ◌∙◌, ◌++◌, ◌+◌, ◌-◌, 
 use Rattle.std.specs.Prelude.{◌&&◌, Bool, true, false, slice_index_or}
 use Rattle.std.specs.Int.{w64, to_be_bytes}
 use Rattle.std.proofs.Math.Bool.{and_assoc}
-use Rattle.std.proofs.Math.Seq.{take-append-add}
 use Rattle.std.proofs.lemmas.List.{append-nil, append_assoc, at_drop_more, drop_all, length-take-le, take_all}
+use Rattle.record_slots.proofs.TextLaws.{two_parts}
 use Rattle.record_slots.specs.Texts.{bytes_of, ends_there}
 use Rattle.record_slots.proofs.texts.read_bytes.Goals as goal
-
--- the two first parts of a list of three
-two_parts : (n : ℕ) (xs ys zs : List ℕ) → n ≡ length xs + length ys → take n (xs ++ (ys ++ zs)) ≡ xs ++ ys
-two_parts n xs ys zs e =
-    let none : length ys ≡ length ys + 0 = omega arith in
-    ap (λ k. take k (xs ++ (ys ++ zs))) e ∙ take-append-add xs (ys ++ zs) (length ys)
-    ∙ ap (λ k. xs ++ take k (ys ++ zs)) none ∙ ap (λ rest. xs ++ rest) (take-append-add ys zs 0 ∙ append-nil ys)
 
 pub loop-place-init : goal.loop-place-init
 loop-place-init c = record { bytes = refl; long = c.told-bytes; ends = refl }

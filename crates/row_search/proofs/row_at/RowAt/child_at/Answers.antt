@@ -1,6 +1,6 @@
-use Rattle.std.proofs.Common.{◌≡◌, ◌<◌, ◌+◌, ◌*◌, ℕ, zero, suc, false, List, [], length, get_or, sym, ap, subst, ◌∙◌, arith}
+use Rattle.std.proofs.Common.{◌≡◌, ◌<◌, ℕ, zero, suc, false, List, [], length, get_or, sym, ap, subst, ◌∙◌, arith}
 use Rattle.std.specs.Prelude.{Some}
-use Rattle.row_search.proofs.Words.{Content, Child, Item, child_in, field_size, item_size, items_at, row_of, words_of}
+use Rattle.row_search.proofs.Words.{Content, Child, Item, child_in, row_of, words_of}
 use Rattle.row_search.proofs.ItemReads.{child_there, page_fits, value_there}
 use Rattle.row_search.proofs.SaidItems.{one_child, standing}
 use Rattle.row_search.proofs.row_at.RowAt.child_at.Goals as goal
