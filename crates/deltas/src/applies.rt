@@ -61,7 +61,8 @@ impl Delete {
 }
 
 impl Split {
-    fn apply(&self, page: &mut Page)
+    /// Ends the page at the separator.
+    pub fn apply(&self, page: &mut Page)
         requires { FitsSplit page.old self.now }
         ensures applies { Applies page.old (kind.Split self.now) page.new }
         ensures page { IsPage page.new }

@@ -31,7 +31,7 @@ pub use Rattle.record_slots.specs.Parts.{IsItem, row_of, items_of}
 pub use Rattle.record_slots.specs.Spelling.{text_words, field_words, bound_words, content_words, item_words, items_words, words_of}
 pub use Rattle.record_slots.specs.Spells.{IsShortContent, IsSpelling}
 pub use Rattle.record_slots.specs.Texts.{bytes_of, IsText}
-pub use Rattle.row_search.specs.Changes.{delete_of, put_of}
+pub use Rattle.row_search.specs.Changes.{delete_of, put_of, split_of}
 pub use Rattle.row_search.specs.Items.{is_term, items_said}
 pub use Rattle.row_search.specs.Placed.{row_words_of}
 pub use Rattle.row_search.specs.Reading.{text_in, field_in, item_in}

@@ -73,7 +73,7 @@ impl<R: Rows, A: Allocator> Chain<R, A> {
     }
 }
 
-/// Makes of the page what the row's record makes of it. Of a put and of a delete, which most are, no more is decoded than they have.
+/// Makes of the page what the row's record makes of it. Of a put, a delete and a split, which most are, no more is decoded than they have.
 fn change<R: Rows>(page: &mut Page, row: &RowAt<R>, rows: &R, pass: &mut R::Pass)
     requires read { R.has rows.now pass.old row.now.row row.now.content }
     requires fits { FitsOnPage page.old row.now.content }
@@ -96,6 +96,20 @@ fn change_unless_put<R: Rows>(page: &mut Page, row: &RowAt<R>, rows: &R, pass: &
 {
     if let Some(delete) = row.delete(rows, pass) {
         delete.apply(page);
+        return;
+    }
+    change_in_structure(page, row, rows, pass);
+}
+
+/// Makes of the page what a record makes of it that is no put and no delete.
+fn change_in_structure<R: Rows>(page: &mut Page, row: &RowAt<R>, rows: &R, pass: &mut R::Pass)
+    requires read { R.has rows.now pass.old row.now.row row.now.content }
+    requires fits { FitsOnPage page.old row.now.content }
+    ensures same { pass.new ≡ pass.old }
+    ensures applies { Applies page.old row.now.content page.new }
+{
+    if let Some(split) = row.split(rows, pass) {
+        split.apply(page);
         return;
     }
     change_decoded(page, row, rows, pass);

@@ -4,12 +4,12 @@ ghost use Rattle.base_page.specs.declared.item.Item.{Item};
 ghost use Rattle.base_page.specs.Pages.{Page as PageSeen, value_in};
 ghost use Rattle.deltas.specs.declared.record.Record.TheVariants.{Base};
 ghost use Rattle.record_slots.specs.Parts.{items_of, row_of};
-ghost use Rattle.row_search.specs.Changes.{delete_of, put_of};
+ghost use Rattle.row_search.specs.Changes.{delete_of, put_of, split_of};
 
 use crate::{RowAt, Rows, Text};
 use base_page::{Content, Item, Page};
 use bw_model::Key;
-use deltas::{Delete, Put};
+use deltas::{Delete, Put, Split};
 use record_slots::{HELD, kinds};
 
 impl<R: Rows> RowAt<R> {
@@ -21,7 +21,8 @@ impl<R: Rows> RowAt<R> {
     {
         if self.kind() == kinds::PUT {
             let next = self.under(rows, pass);
-            return put_from(next, self.item(rows, pass, 0));
+            let lies = self.place(rows, pass);
+            return put_from(next, self.item(rows, pass, lies, 0));
         }
         None
     }
@@ -36,6 +37,23 @@ impl<R: Rows> RowAt<R> {
             let next = self.under(rows, pass);
             let key = self.first(rows, pass);
             return Some(Delete { next, key });
+        }
+        None
+    }
+
+    /// The split that it is; none of another record.
+    pub fn split(&self, rows: &R, pass: &mut R::Pass) -> Option<Split>
+        requires read { R.has rows.now pass.old self.now.row self.now.content }
+        ensures same { pass.new ≡ pass.old }
+        ensures split { result ≡ split_of self.now.content }
+    {
+        if self.kind() == kinds::SPLIT {
+            return Some(Split {
+                level: self.level(),
+                next: self.under(rows, pass),
+                separator: self.first(rows, pass),
+                page: self.page(rows, pass),
+            });
         }
         None
     }
@@ -75,36 +93,36 @@ impl<R: Rows> RowAt<R> {
         ensures page { Base page.new ≡ self.now.content }
     {
         self.keeps_spelling();
+        let lies = self.place(rows, pass);
         for place in 0..self.item_count() {
-            page.push(self.item(rows, pass, place));
+            page.push(self.item(rows, pass, lies, place));
         }
     }
 
-    /// The item at the place.
+    /// The item at the place, of the record that lies there.
     #[inline(always)]
-    fn item(&self, rows: &R, pass: &mut R::Pass, place: usize) -> Item
-        requires read { R.has rows.now pass.old self.now.row self.now.content }
+    fn item(&self, rows: &R, pass: &mut R::Pass, lies: R::Place, place: usize) -> Item
+        requires read { R.lies rows.now pass.old lies self.now.content }
         requires there { place < length (items_of self.now.content) }
         ensures same { pass.new ≡ pass.old }
         ensures item { (d : Item) → result ≡ slice_index_or (items_of self.now.content) place d }
     {
         Item {
-            key: self.item_key(rows, pass, place),
-            content: self.content(rows, pass, place),
+            key: self.item_key(rows, pass, lies, place),
+            content: self.content_in(rows, pass, lies, place),
         }
     }
 
-    /// The key of the item at the place.
+    /// The key of the item at the place, of the record that lies there.
     #[inline(always)]
-    fn item_key(&self, rows: &R, pass: &mut R::Pass, place: usize) -> Key
-        requires read { R.has rows.now pass.old self.now.row self.now.content }
+    fn item_key(&self, rows: &R, pass: &mut R::Pass, lies: R::Place, place: usize) -> Key
+        requires read { R.lies rows.now pass.old lies self.now.content }
         requires there { place < length (items_of self.now.content) }
         ensures same { pass.new ≡ pass.old }
         ensures key { (d : Item) → result ≡ (slice_index_or (items_of self.now.content) place d).key }
     {
         self.keeps_spelling();
         let text = Text::Key(place);
-        let lies = self.place(rows, pass);
         let count = self.length(rows, pass, lies, text) % HELD;
         self.key(rows, pass, lies, text, count)
     }

@@ -99,14 +99,31 @@ impl<R: Rows> RowAt<R> {
     }
 
     /// What the item at the place has.
-    pub(super) fn content(&self, rows: &R, pass: &mut R::Pass, place: usize) -> Content
+    fn content(&self, rows: &R, pass: &mut R::Pass, place: usize) -> Content
         requires read { R.has rows.now pass.old self.now.row self.now.content }
         requires there { place < length (items_of self.now.content) }
         ensures same { pass.new ≡ pass.old }
         ensures content { (d : Item) → result ≡ (slice_index_or (items_of self.now.content) place d).content }
     {
-        self.keeps_spelling();
         let lies = self.place(rows, pass);
+        self.content_in(rows, pass, lies, place)
+    }
+
+    /// What the item at the place has, of the record that lies there.
+    #[inline(always)]
+    pub(super) fn content_in(
+        &self,
+        rows: &R,
+        pass: &mut R::Pass,
+        lies: R::Place,
+        place: usize,
+    ) -> Content
+        requires read { R.lies rows.now pass.old lies self.now.content }
+        requires there { place < length (items_of self.now.content) }
+        ensures same { pass.new ≡ pass.old }
+        ensures content { (d : Item) → result ≡ (slice_index_or (items_of self.now.content) place d).content }
+    {
+        self.keeps_spelling();
         if self.level() > 0 {
             let page = self.length(rows, pass, lies, Text::Content(place)) as u32;
             let held = self.length(rows, pass, lies, Text::Key(place)) >= HELD;

@@ -3,7 +3,7 @@ use Rattle.std.specs.Prelude.{false, nat_le}
 use Rattle.bw_model.specs.Bytes.{longest}
 use Rattle.row_search.proofs.Words.{Child, Item, Value, field_size, held_mark, item_size, items_at, row_of, text_in, words_of}
 use Rattle.row_search.proofs.ItemReads.{child_there, few_there, page_fits, text_there, value_there}
-use Rattle.row_search.proofs.row_at.RowAt.content.Goals as goal
+use Rattle.row_search.proofs.row_at.RowAt.content_in.Goals as goal
 
 none : Item
 none = record { key = []; content = Child 0 false }
