@@ -18,6 +18,7 @@ use Rattle.bw_shell.specs.Weave.{IsTranscriptFrom}
 use Rattle.byte_streams.specs.Output.{Writes}
 use Rattle.drawing.specs.Drawings.{IsPictureOf}
 use Rattle.tree_picture.specs.Found.{found_text}
+use Rattle.tree_picture.specs.Reasons.{reason_text}
 use Rattle.filming.specs.Logs.{log_after}
 use Rattle.filming.specs.Pages.{frame_text, head_text, refusal_text, tail_text}
 use Rattle.filming.specs.Places.{place_text}
@@ -35,9 +36,8 @@ frames_behind number (turn ∷ turns) = frames_behind (next_frame number turn) t
 abbrev pub steps_in : List Turn → ℕ
 steps_in turns = frames_behind 0 turns
 
--- The text is a frame with this number, of an actor's step that told the event: some words, what the step found, how the map before became the map after, the
--- place in the order
--- of an operation that is done without an update, the picture of what stands after, the map after, and the log. In the picture actors stand by the steps that
+-- The text is a frame with this number, of an actor's step that told the event: some words, what the step found, how the map before became the map after, why
+-- the step needs no lock, the place in the order of an operation that is done without an update, the picture of what stands after, the map after, and the log. In the picture actors stand by the steps that
 -- they will take next.
 pub record IsFrame (number : ℕ) (before : Core) (actor : ℕ) (event : Event) (log : List Update) (after : Core) (text : List ℕ) : Type 0 where
   pub words : List ℕ
@@ -48,7 +48,7 @@ pub record IsFrame (number : ℕ) (before : Core) (actor : ℕ) (event : Event) 
   pub listed_after : IsListing after.limits after.entries pairs_after
   pub shown : IsPictureOf (trace_of after) after.demand.wanted picture
   pub spells : text
-      ≡ frame_text number words (found_text after.entries) pairs_before (place_text log (command_of before.entries actor) event) picture pairs_after log
+      ≡ frame_text number words (found_text after.entries) (reason_text after.entries) pairs_before (place_text log (command_of before.entries actor) event) picture pairs_after log
 
 -- What is written for a turn that told the event, and the log behind it: nothing where it begins an operation, else the frame of its step.
 abbrev pub IsFilmed : ℕ → Core → Turn → Event → List Update → Core → List Update → List ℕ → Type 0

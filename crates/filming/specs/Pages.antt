@@ -19,7 +19,7 @@ abbrev pub guide_text : List ℕ
 guide_text =
     codes "</style>\n</head>\n<body>\n<h1>A Bw-tree, step by step</h1>\n"
     ++ codes "<p>Several actors use one ordered map, and none ever locks a page. A record that is linked never changes, so who reads one may sleep there,\n"
-    ++ codes "and the others go on. Each frame is one atomic step of one actor: the tree as it is after that step, and the map.</p>\n"
+    ++ codes "and the others go on. Each frame is one atomic step of one actor: why it needs no lock, the tree as it is after it, and the map.</p>\n"
     ++ codes "<details><summary>How to read a frame</summary>\n<ul>\n"
     ++ codes "<li>A page, PID 1 and so on, is a chain of records, the newest on top, a base with its items at the end. Each record lies in a row of\n"
     ++ codes "memory.</li>\n"
@@ -37,13 +37,13 @@ guide_text =
     ++ codes "to it yet.</li>\n"
     ++ codes "<li>Consolidation: one base replaces a long chain. Split: the upper items of a full page go to a new page, to which a side link leads. A\n"
     ++ codes "term, which is a key and a child, is then posted in the page above.</li>\n"
-    ++ codes "<li>Removal of a small page: its term is held, the page is removed, its left page takes its items by a merge, its term is taken out, and\n"
-    ++ codes "its slot is cleared.</li>\n"
+    ++ codes "<li>Removal of a small page: its term is held, so that its left page stays; the page is removed; that left page takes its items by a merge; the\n"
+    ++ codes "term is taken out; and the slot is cleared.</li>\n"
     ++ codes "<li>Spares are rows and PIDs that an actor took and has not linked. Errands are the keys of terms that it has still to post in pages\n"
     ++ codes "above.</li>\n"
     ++ codes "<li>Epochs: an actor announces the epoch in which it enters, and leaves at its end. What it took out of the tree waits in its limbo, the\n"
-    ++ codes "cells beside it: with no epoch at first; then with the epoch that it read afterwards, as 'row 9, epoch 1'; and 'passed' once each other\n"
-    ++ codes "actor was outside or in a later epoch. Then it is free. So nobody inside ever meets a row that is used anew, and nobody waits for a\n"
+    ++ codes "cells beside it: with no epoch at first; then with the epoch that it read afterwards, as 'row 9, epoch 1'. Once each other actor was outside or\n"
+    ++ codes "in a later epoch, its cell goes, and its actor frees it next. So nobody inside ever meets a row that is used anew, and nobody waits for a\n"
     ++ codes "reader.</li>\n"
     ++ codes "<li>The log has all updates in their order. Each took effect at its exchange; an operation that changes nothing at one of its own steps,\n"
     ++ codes "which is known when its reply comes.</li>\n"
@@ -79,12 +79,16 @@ tail_text =
     ++ codes "onhashchange=show;show();\n"
     ++ codes "</script>\n</body>\n</html>\n"
 
--- a frame: its number, the words for its step and for what that found, how the map before it became the map after it, the place of an operation that is done,
--- the picture, and the map and the log after it
-abbrev pub frame_text : ℕ → List ℕ → List ℕ → List (List ℕ × List ℕ) → List ℕ → List ℕ → List (List ℕ × List ℕ) → List Update → List ℕ
-frame_text number words found before place picture after log =
+-- why the step needs no lock
+abbrev pub reason_line : List ℕ → List ℕ
+reason_line reason = codes "<p class='why'>No lock: " ++ reason ++ codes "</p>\n"
+
+-- a frame: its number, the words for its step and for what that found, how the map before it became the map after it, why the step needs no lock, the place of
+-- an operation that is done, the picture, and the map and the log after it
+abbrev pub frame_text : ℕ → List ℕ → List ℕ → List ℕ → List (List ℕ × List ℕ) → List ℕ → List ℕ → List (List ℕ × List ℕ) → List Update → List ℕ
+frame_text number words found reason before place picture after log =
     codes "<section id=\"" ++ decimal number ++ codes "\">\n<h2>" ++ decimal number ++ codes ": " ++ escape words ++ escape found ++ codes "</h2>\n"
-    ++ change_text before after ++ place ++ picture ++ map_text after ++ log_text log ++ codes "</section>\n"
+    ++ change_text before after ++ reason_line reason ++ place ++ picture ++ map_text after ++ log_text log ++ codes "</section>\n"
 
 -- the last frame of a film that ends at a refusal
 abbrev pub refusal_text : List ℕ → List ℕ

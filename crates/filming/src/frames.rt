@@ -18,7 +18,7 @@ ghost use Rattle.filming.specs.Places.{place_text};
 
 use crate::logs::{is_update, show_log, update_by};
 use crate::maps::{show_change, show_map};
-use crate::page::{show_frame_begin, show_frame_end};
+use crate::page::{show_frame_begin, show_frame_end, show_reason};
 use crate::places::show_place;
 use crate::turns::next_frame;
 use bw_model::{Command, Key, Update, Value};
@@ -27,7 +27,7 @@ use drawing::{picture_of, show_document};
 use std::alloc::{AllocError, Global};
 use step_core::{Core, Event};
 use traces::Turn;
-use tree_picture::{Picture, StepName, documents_are_well_formed, found_words};
+use tree_picture::{Picture, StepName, documents_are_well_formed, found_words, lock_reason};
 
 /// What stands after a step: the picture, and the pairs of the map.
 #[derive(Drop)]
@@ -50,11 +50,12 @@ fn after_of(alloc: Global, core: &Core) -> Option<After>
     Some(After { picture, pairs })
 }
 
-/// What a step came to: its name, what it found, what its operation was asked, what the step told, and the log behind it.
+/// What a step came to: its name, what it found, why it needs no lock, what its operation was asked, what the step told, and the log behind it.
 #[derive(Clone, Copy)]
 struct Taken<'a> {
     words: &'a [u8],
     found: &'a [u8],
+    reason: &'a [u8],
     command: Option<&'a Command>,
     event: &'a Event,
     log: &'a [Update],
@@ -68,13 +69,14 @@ fn show_frame<O: Output>(
     before: &[(Key, Value)],
     after: &After,
 )
-    ensures { Prints (O.state out.old) (O.state out.new) (frame_text number taken.entry.words.now taken.entry.found.now before.now
+    ensures { Prints (O.state out.old) (O.state out.new) (frame_text number taken.entry.words.now taken.entry.found.now taken.entry.reason.now before.now
         (place_text taken.entry.log.now (option_copied taken.entry.command) taken.entry.event.now)
         (document_text after.now.picture.width after.now.picture.height after.now.picture.title after.now.picture.description after.now.picture.shapes.items)
         after.now.pairs.items taken.entry.log.now) }
 {
     show_frame_begin(out, number, taken.words, taken.found);
     show_change(out, before, after.pairs.as_slice());
+    show_reason(out, taken.reason);
     show_place(out, taken.log, taken.command, taken.event);
     show_document(out, &after.picture);
     show_map(out, after.pairs.as_slice());
@@ -150,6 +152,7 @@ fn film_step<O: Output>(
     let taken = Taken {
         words: words.as_slice(),
         found: found.as_slice(),
+        reason: lock_reason(core),
         command: command.as_ref(),
         event: &event,
         log: log.as_slice(),

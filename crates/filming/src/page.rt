@@ -2,7 +2,7 @@
 ghost use Rattle.std.specs.Prelude.{◌++◌, codes, decimal};
 ghost use Rattle.byte_streams.specs.Output.{Prints};
 ghost use Rattle.tree_picture.specs.Document.{escape};
-ghost use Rattle.filming.specs.Pages.{buttons_text, guide_text, head_text, style_text, tail_text};
+ghost use Rattle.filming.specs.Pages.{buttons_text, guide_text, head_text, reason_line, style_text, tail_text};
 
 use bw_shell::show_number;
 use byte_streams::Output;
@@ -39,7 +39,7 @@ fn show_guide<O: Output>(out: &mut O)
         b"<p>Several actors use one ordered map, and none ever locks a page. A record that is linked never changes, so who reads one may sleep there,\n",
     );
     out.show(
-        b"and the others go on. Each frame is one atomic step of one actor: the tree as it is after that step, and the map.</p>\n",
+        b"and the others go on. Each frame is one atomic step of one actor: why it needs no lock, the tree as it is after it, and the map.</p>\n",
     );
     out.show(b"<details><summary>How to read a frame</summary>\n<ul>\n");
     out.show(
@@ -79,9 +79,9 @@ fn show_guide<O: Output>(out: &mut O)
     );
     out.show(b"term, which is a key and a child, is then posted in the page above.</li>\n");
     out.show(
-        b"<li>Removal of a small page: its term is held, the page is removed, its left page takes its items by a merge, its term is taken out, and\n",
+        b"<li>Removal of a small page: its term is held, so that its left page stays; the page is removed; that left page takes its items by a merge; the\n",
     );
-    out.show(b"its slot is cleared.</li>\n");
+    out.show(b"term is taken out; and the slot is cleared.</li>\n");
     out.show(
         b"<li>Spares are rows and PIDs that an actor took and has not linked. Errands are the keys of terms that it has still to post in pages\n",
     );
@@ -90,10 +90,10 @@ fn show_guide<O: Output>(out: &mut O)
         b"<li>Epochs: an actor announces the epoch in which it enters, and leaves at its end. What it took out of the tree waits in its limbo, the\n",
     );
     out.show(
-        b"cells beside it: with no epoch at first; then with the epoch that it read afterwards, as 'row 9, epoch 1'; and 'passed' once each other\n",
+        b"cells beside it: with no epoch at first; then with the epoch that it read afterwards, as 'row 9, epoch 1'. Once each other actor was outside or\n",
     );
     out.show(
-        b"actor was outside or in a later epoch. Then it is free. So nobody inside ever meets a row that is used anew, and nobody waits for a\n",
+        b"in a later epoch, its cell goes, and its actor frees it next. So nobody inside ever meets a row that is used anew, and nobody waits for a\n",
     );
     out.show(b"reader.</li>\n");
     out.show(
@@ -184,6 +184,15 @@ pub(crate) fn show_frame_begin<O: Output>(out: &mut O, number: u64, words: &[u8]
     show_escaped(out, words);
     show_escaped(out, found);
     out.show(b"</h2>\n");
+}
+
+/// Why the step of a frame needs no lock.
+pub(crate) fn show_reason<O: Output>(out: &mut O, reason: &[u8])
+    ensures { Prints (O.state out.old) (O.state out.new) (reason_line reason.now) }
+{
+    out.show(b"<p class='why'>No lock: ");
+    out.show(reason);
+    out.show(b"</p>\n");
 }
 
 /// What stands behind a frame's picture.

@@ -11,6 +11,7 @@ pub mod Marks
 pub mod Pages
 pub mod Pids
 pub mod Ranges
+pub mod Reasons
 pub mod RecordLines
 pub mod Scenes
 pub mod Sizes

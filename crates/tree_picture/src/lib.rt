@@ -21,6 +21,7 @@ mod levels;
 mod links;
 mod page;
 mod places;
+mod reasons;
 mod says;
 mod scene;
 mod shape;
@@ -42,6 +43,7 @@ pub use counts::{free_pids, free_rows};
 pub use found::found_words;
 pub use level::Level;
 pub use page::ScenePage;
+pub use reasons::lock_reason;
 pub use scene::Scene;
 pub use shape::{
     CellBox, INSET, Line, MARK_INSET, Mark, NAME_DROP, PageBox, RANGE_DROP, RecordLine, Rectangle,

@@ -16,10 +16,10 @@ returns g c =
     let command = command_of c.args.core.now.entries c.args.actor in
     let asked : option_copied c.as_ref.result ≡ command = c.as_ref.ensures.value ∙ c.in-Some.ensures in
     let asked_again : option_copied c.as_ref-2.result ≡ command = c.as_ref-2.ensures.value ∙ c.in-Some.ensures in
-    let text = λ (found : List ℕ).
-    frame_text c.args.number c.told-words.result found c.in-Ok.before.items (place_text log command event) document after.pairs.items log in (
+    let text = λ (found reason : List ℕ).
+    frame_text c.args.number c.told-words.result found reason c.in-Ok.before.items (place_text log command event) document after.pairs.items log in (
       event,
-      text c.found_words-found.result,
+      text c.found_words-found.result c.lock_reason.result.now,
       c.in-Ok-turn.ensures.ok,
       (
         record {
@@ -39,7 +39,7 @@ returns g c =
             spells = refl;
             well_formed = c.documents_are_well_formed.ensures picture.width picture.height picture.title picture.description picture.shapes.items;
           };
-          spells = ap text c.found_words-found.ensures;
+          spells = λ i. text (c.found_words-found.ensures i) (c.lock_reason.ensures i);
         },
         rw asked at c.in-Ok-add_update.ensures,
       ),
