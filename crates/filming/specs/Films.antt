@@ -48,7 +48,7 @@ pub record IsFrame (number : ℕ) (before : Core) (actor : ℕ) (event : Event) 
   pub listed_after : IsListing after.limits after.entries pairs_after
   pub shown : IsPictureOf (trace_of after) after.demand.wanted picture
   pub spells : text
-      ≡ frame_text number words (found_text after.entries) (reason_text after.entries) pairs_before (place_text log (command_of before.entries actor) event) picture pairs_after log
+      ≡ frame_text number words (found_text after.entries) (reason_text after.entries event) pairs_before (place_text log (command_of before.entries actor) event) picture pairs_after log
 
 -- What is written for a turn that told the event, and the log behind it: nothing where it begins an operation, else the frame of its step.
 abbrev pub IsFilmed : ℕ → Core → Turn → Event → List Update → Core → List Update → List ℕ → Type 0

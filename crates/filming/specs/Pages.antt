@@ -12,8 +12,8 @@ style_text =
     ++ codes "body{font:16px system-ui,sans-serif;margin:1rem auto;max-width:1400px;padding:0 1rem;color:#1b1f24;background:#fff}\n"
     ++ codes "h1{font-size:1.3rem;margin:.3rem 0}h2{font-size:1.1rem;margin:.6rem 0 .2rem}h3{font-size:1rem;margin:.6rem 0 .2rem}p,ul{margin:.3rem 0;max-width:75rem}\n"
     ++ codes "nav{position:sticky;top:0;background:inherit;padding:.4rem 0;display:flex;flex-wrap:wrap;gap:.5rem;align-items:center}button{font:inherit;padding:.2rem .7rem}\n"
-    ++ codes "section{scroll-margin-top:99rem}svg{max-width:100%;height:auto}pre,ol{margin:0;columns:10rem}.changed{font-weight:bold}.told{position:absolute;left:-99rem}\n"
-    ++ codes "@media (prefers-color-scheme:dark){body{color:#e6edf3;background:#0d1117}}\n"
+    ++ codes "section{scroll-margin-top:99rem}svg{max-width:100%;height:auto}pre,ol{margin:0;columns:10rem}.changed{font-weight:bold}.why{color:#57606a}.told{position:absolute;left:-99rem}\n"
+    ++ codes "@media (prefers-color-scheme:dark){body{color:#e6edf3;background:#0d1117}.why{color:#9198a1}}\n"
 
 abbrev pub guide_text : List ℕ
 guide_text =
@@ -27,8 +27,8 @@ guide_text =
     ++ codes "<li>A record that is linked never changes. To change a page, an actor places a new record, whose next one is the newest that it has\n"
     ++ codes "read, in a row of its own.</li>\n"
     ++ codes "<li>Then it exchanges the slot: one compare-and-swap from the row that it has read to the new one. If another actor was faster, the slot\n"
-    ++ codes "has another row by then. The exchange is lost, nothing has changed, and the actor begins anew. This one word takes the place of a\n"
-    ++ codes "lock.</li>\n"
+    ++ codes "has another row by then. The exchange is lost, and nothing has changed. Lost or won, the actor then begins anew at the root with what stands\n"
+    ++ codes "there, until its own update is linked. This one word takes the place of a lock.</li>\n"
     ++ codes "<li>The newest record that names a key decides it. What newer records took away is grey and struck through.</li>\n"
     ++ codes "<li>Thick edges: red is what this step changed, black what it read, violet a row that an actor reads next. Under a page stands each\n"
     ++ codes "actor whose operation read its slot last.</li>\n"

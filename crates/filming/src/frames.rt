@@ -152,7 +152,7 @@ fn film_step<O: Output>(
     let taken = Taken {
         words: words.as_slice(),
         found: found.as_slice(),
-        reason: lock_reason(core),
+        reason: lock_reason(core, &event),
         command: command.as_ref(),
         event: &event,
         log: log.as_slice(),

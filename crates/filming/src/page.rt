@@ -25,9 +25,9 @@ fn show_looks<O: Output>(out: &mut O)
         b"nav{position:sticky;top:0;background:inherit;padding:.4rem 0;display:flex;flex-wrap:wrap;gap:.5rem;align-items:center}button{font:inherit;padding:.2rem .7rem}\n",
     );
     out.show(
-        b"section{scroll-margin-top:99rem}svg{max-width:100%;height:auto}pre,ol{margin:0;columns:10rem}.changed{font-weight:bold}.told{position:absolute;left:-99rem}\n",
+        b"section{scroll-margin-top:99rem}svg{max-width:100%;height:auto}pre,ol{margin:0;columns:10rem}.changed{font-weight:bold}.why{color:#57606a}.told{position:absolute;left:-99rem}\n",
     );
-    out.show(b"@media (prefers-color-scheme:dark){body{color:#e6edf3;background:#0d1117}}\n");
+    out.show(b"@media (prefers-color-scheme:dark){body{color:#e6edf3;background:#0d1117}.why{color:#9198a1}}\n");
 }
 
 /// What is to be seen in a frame.
@@ -57,9 +57,9 @@ fn show_guide<O: Output>(out: &mut O)
         b"<li>Then it exchanges the slot: one compare-and-swap from the row that it has read to the new one. If another actor was faster, the slot\n",
     );
     out.show(
-        b"has another row by then. The exchange is lost, nothing has changed, and the actor begins anew. This one word takes the place of a\n",
+        b"has another row by then. The exchange is lost, and nothing has changed. Lost or won, the actor then begins anew at the root with what stands\n",
     );
-    out.show(b"lock.</li>\n");
+    out.show(b"there, until its own update is linked. This one word takes the place of a lock.</li>\n");
     out.show(
         b"<li>The newest record that names a key decides it. What newer records took away is grey and struck through.</li>\n",
     );

@@ -1,58 +1,94 @@
--- Why no step takes a lock, in words.
-use Rattle.std.specs.Prelude.{ℕ, ◌==◌, List, [], Bool, false, Option, None, Some, codes, if◌then◌else◌}
+-- Why no step needs a lock, in words.
+use Rattle.std.specs.Prelude.{ℕ, ◌==◌, List, [], Bool, true, false, Option, None, Some, codes, if◌then◌else◌}
 use Rattle.bw_model.specs.declared.step.Answer.{Answer}
-use Rattle.bw_model.specs.declared.step.Answer.TheVariants.{Whether}
+use Rattle.bw_model.specs.declared.step.Answer.TheVariants.{Content, Number, Whether}
+use Rattle.bw_model.specs.declared.step.Link.{Link}
+use Rattle.bw_model.specs.declared.step.Link.TheVariants as link
 use Rattle.bw_model.specs.declared.step.Step.{Step as StepOf}
 use Rattle.bw_model.specs.declared.step.Step.TheVariants.{Slot, Row, Epoch, Announce, PidBits, RowBits, Place, Exchange, TakePid, TakeRow, Enter, Leave, Retire, ReusePids, ReuseRows}
 use Rattle.deltas.specs.declared.record.Record.{Record}
+use Rattle.deltas.specs.declared.record.Record.TheVariants.{Remove}
+use Rattle.step_core.specs.declared.event.Event.{Event}
+use Rattle.step_core.specs.declared.event.Event.TheVariants.{Stepped}
 use Rattle.traces.specs.declared.trace.Entry.{Entry}
 use Rattle.traces.specs.declared.trace.Entry.TheVariants.{Begin, Step}
 use Rattle.tree_picture.specs.Touches.{last_entry}
 
+-- of an exchange that was won, by what it linked
+abbrev pub link_reason : Link → List ℕ
+link_reason link.Put =
+    codes "one compare-and-swap. Had the slot changed since it was read, the exchange would be lost. It cannot have changed back, since no row that this actor can reach is used anew."
+link_reason link.Delete =
+    codes "one compare-and-swap. Had the slot changed since it was read, the exchange would be lost. It cannot have changed back, since no row that this actor can reach is used anew."
+link_reason link.Base =
+    codes "the base has the same items, so who reads the old records meanwhile reads the same page. They stay in their rows until nobody inside can reach them."
+link_reason link.Split =
+    codes "the new page stands already, and the split leads there: who finds no term for it in the page above goes by the side link."
+link_reason link.Term = codes "who read the page above before goes to the left page, and on by the side link, to the same items."
+link_reason link.Root = codes "the old root is the first child of the new one: who started there goes on by side links."
+link_reason link.Hold = codes "the page is still read and written. Its left page will not be removed meanwhile, so that it can take the items."
+link_reason link.Remove =
+    codes "its records stay as they are, and who meets the removed page does not wait: a reader goes round by the left page or answers by what it has read, a writer merges the page first."
+link_reason link.Merge = codes "the removed page keeps its records, for whoever reads there. All others find the items in the left page."
+link_reason link.Unterm =
+    codes "the page above leads to the left page now. Who came by the old term finds the page removed, and goes round by the left page."
+link_reason link.Clear = codes "nothing leads to this slot any more. Its records stay in their rows until nobody inside can reach them."
+link_reason link.Ready = codes "nothing leads to the new page yet."
+link_reason link.Undo = codes "nobody else has seen this page."
+
 -- of a read of slot 0, which has the root, or of another one
 abbrev pub slot_reason : ℕ → List ℕ
 slot_reason slot =
-    if slot == 0 then codes "one load of one word tells which page is the root."
-    else codes "one load of one word tells where the page's newest record lies. Who exchanges the slot later changes none of the records that are read from there."
+    if slot == 0 then codes "one load of one word. Who goes by an old root gets to the same keys by side links."
+    else codes "one load of one word. Who exchanges it later changes none of the records that are read from there."
 
--- of the taking of a number, and of an exchange: whether it went
-abbrev pub taking_reason : Bool → List ℕ
-taking_reason went =
-    if went then codes "of all who want this number, one gets it, by one atomic operation on one word."
-    else codes "another actor has it. Nothing has to be undone, and the next number is tried."
+-- of a read of a row
+abbrev pub row_reason : Answer Record → List ℕ
+row_reason (Content (Remove record)) = codes "the page was removed, and its records still stand, unchanged, for whoever comes by an old term."
+row_reason _ = codes "a linked record never changes, and its row is not used anew before this actor leaves."
 
-abbrev pub exchange_reason : Bool → List ℕ
-exchange_reason went =
-    if went then codes "one compare-and-swap changes one word, and with it what all find who read the slot from now on. The records that were linked before stay as they are."
-    else codes "another actor was faster, and has got on. Nothing has changed, so nothing has to be undone: this one begins anew with what stands there now."
+-- of a look for another actor, by whether that is outside
+abbrev pub announce_reason : Answer Record → List ℕ
+announce_reason (Number 0) = codes "that actor is outside, so it can reach nothing that was taken out of the tree."
+announce_reason _ = codes "that actor is inside: what was taken out in its epoch or later waits in the limbo, and this actor goes on."
 
-abbrev pub went : Answer Record → Bool
-went (Whether it) = it
-went _ = false
+-- of a taking, and of a retiring
+abbrev pub taking_reason : Answer Record → List ℕ
+taking_reason (Whether true) = codes "one atomic operation on one word: of all who want this number exactly one gets it."
+taking_reason _ = codes "another actor has this number, and the next one is tried."
 
+abbrev pub retiring_reason : Answer Record → List ℕ
+retiring_reason (Whether true) = codes "one compare-and-swap. Who reads the epoch from now on and enters by it holds back nothing that was taken out before."
+retiring_reason _ = codes "another actor has done the same."
+
+-- of a step that isn't an exchange that was won
 abbrev pub step_reason : StepOf Record → Answer Record → List ℕ
 step_reason (Slot slot) answer = slot_reason slot
-step_reason (Row row) answer = codes "a linked record never changes, and its row is not used anew before this actor leaves."
-step_reason Epoch answer = codes "the epoch is one word, which only grows."
-step_reason (Announce actor) answer =
-    codes "it asks nobody, and waits for nobody. If that actor is inside an earlier epoch, what waits in the limbo waits on, and this actor goes on."
-step_reason (PidBits word) answer = codes "one load of one word tells which PIDs may be free. Taking one decides."
-step_reason (RowBits word) answer = codes "one load of one word tells which rows may be free. Taking one decides."
-step_reason (Place row content) answer = codes "nothing leads to this row yet, so nobody else can meet it half written."
-step_reason (Exchange slot from to) answer = exchange_reason (went answer)
-step_reason (TakePid pid) answer = taking_reason (went answer)
-step_reason (TakeRow row) answer = taking_reason (went answer)
-step_reason (Enter epoch) answer = codes "its epoch stands in a word of its own. No row that it can reach from now on is used anew until it leaves."
-step_reason Leave answer = codes "one store ends its stay. What waited for this actor alone may be used anew."
-step_reason (Retire epoch) answer = codes "one compare-and-swap. Who enters from now on holds back nothing that was taken out before."
-step_reason (ReusePids word bits) answer = codes "since these were taken out, each other actor was outside or has entered a later epoch, so nobody can reach them."
-step_reason (ReuseRows word bits) answer = codes "since these were taken out, each other actor was outside or has entered a later epoch, so nobody can reach them."
+step_reason (Row row) answer = row_reason answer
+step_reason Epoch answer =
+    codes "the epoch may grow as soon as it is read. Who enters by an old one holds back more, never less; and who can reach what was taken out before has entered by this epoch or an earlier one."
+step_reason (Announce actor) answer = announce_reason answer
+step_reason (PidBits word) answer = codes "one load of one word, which only tells where to try. The taking decides."
+step_reason (RowBits word) answer = codes "one load of one word, which only tells where to try. The taking decides."
+step_reason (Place row content) answer = codes "nothing leads to this row now, so nobody else can read it half written."
+step_reason (Exchange slot from to) answer =
+    codes "another actor was faster, and has got on. Nothing has changed, so nothing has to be undone: this one begins anew with what stands there now."
+step_reason (TakePid pid) answer = taking_reason answer
+step_reason (TakeRow row) answer = taking_reason answer
+step_reason (Enter epoch) answer = codes "one store, which all can read: no row that this actor can reach is used anew from now on, until it leaves."
+step_reason Leave answer = codes "one store. From now on this actor holds back nothing."
+step_reason (Retire epoch) answer = retiring_reason answer
+step_reason (ReusePids word bits) answer =
+    codes "since these were taken out, each other actor was seen outside or in a later epoch. So nobody can reach them, and no exchange can take them for what it read."
+step_reason (ReuseRows word bits) answer =
+    codes "since these were taken out, each other actor was seen outside or in a later epoch. So nobody can reach them, and no exchange can take them for what it read."
 
 abbrev pub reason_at : Option Entry → List ℕ
 reason_at None = []
 reason_at (Some (Begin actor command)) = []
 reason_at (Some (Step actor step answer reply)) = step_reason step answer
 
--- of the last step
-abbrev pub reason_text : List Entry → List ℕ
-reason_text entries = reason_at (last_entry entries)
+-- of the last step, which told the event
+abbrev pub reason_text : List Entry → Event → List ℕ
+reason_text entries (Stepped (Some link)) = link_reason link
+reason_text entries _ = reason_at (last_entry entries)

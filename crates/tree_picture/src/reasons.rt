@@ -1,91 +1,155 @@
-//! Why no step takes a lock, in words.
+//! Why no step needs a lock, in words.
 ghost use Rattle.std.specs.Prelude.{◌≡◌};
-ghost use Rattle.tree_picture.specs.Reasons.{exchange_reason, reason_text, slot_reason, step_reason, taking_reason, went};
+ghost use Rattle.tree_picture.specs.Reasons.{announce_reason, link_reason, reason_text, retiring_reason, row_reason, slot_reason, step_reason, taking_reason};
 
 use crate::touches::last_entry;
-use bw_model::{Answer, Step};
+use bw_model::{Answer, Link, Step};
 use deltas::Record;
-use step_core::Core;
+use step_core::{Core, Event};
 use traces::Entry;
 
-/// Why the last step of a core needed no lock, in words.
-pub fn lock_reason(core: &Core) -> &'static [u8]
-    ensures { result.now ≡ reason_text core.now.entries }
+/// Why the last step of a core, which told the event, needed no lock.
+pub fn lock_reason(core: &Core, event: &Event) -> &'static [u8]
+    ensures { result.now ≡ reason_text core.now.entries event.now }
 {
+    if let Event::Stepped(Some(link)) = event {
+        return link_reason(*link);
+    }
     match last_entry(core.entries()) {
         Some(Entry::Step(_, step, answer, _)) => step_reason(&step, &answer),
         _ => b"",
     }
 }
 
+/// Of an exchange that was won, by what it linked.
+fn link_reason(link: Link) -> &'static [u8]
+    ensures { result.now ≡ link_reason link }
+{
+    match link {
+        Link::Put | Link::Delete => {
+            b"one compare-and-swap. Had the slot changed since it was read, the exchange would be lost. It cannot have changed back, since no row that this actor can reach is used anew."
+        }
+        Link::Base => {
+            b"the base has the same items, so who reads the old records meanwhile reads the same page. They stay in their rows until nobody inside can reach them."
+        }
+        Link::Split => {
+            b"the new page stands already, and the split leads there: who finds no term for it in the page above goes by the side link."
+        }
+        Link::Term => {
+            b"who read the page above before goes to the left page, and on by the side link, to the same items."
+        }
+        Link::Root => {
+            b"the old root is the first child of the new one: who started there goes on by side links."
+        }
+        Link::Hold => {
+            b"the page is still read and written. Its left page will not be removed meanwhile, so that it can take the items."
+        }
+        Link::Remove => {
+            b"its records stay as they are, and who meets the removed page does not wait: a reader goes round by the left page or answers by what it has read, a writer merges the page first."
+        }
+        Link::Merge => {
+            b"the removed page keeps its records, for whoever reads there. All others find the items in the left page."
+        }
+        Link::Unterm => {
+            b"the page above leads to the left page now. Who came by the old term finds the page removed, and goes round by the left page."
+        }
+        Link::Clear => {
+            b"nothing leads to this slot any more. Its records stay in their rows until nobody inside can reach them."
+        }
+        Link::Ready => b"nothing leads to the new page yet.",
+        Link::Undo => b"nobody else has seen this page.",
+    }
+}
+
+/// Of a step that isn't an exchange that was won.
 fn step_reason(step: &Step<Record>, answer: &Answer<Record>) -> &'static [u8]
     ensures { result.now ≡ step_reason step.now answer.now }
 {
     match step {
         Step::Slot(slot) => slot_reason(*slot),
-        Step::Row(_) => {
-            b"a linked record never changes, and its row is not used anew before this actor leaves."
+        Step::Row(_) => row_reason(answer),
+        Step::Epoch => {
+            b"the epoch may grow as soon as it is read. Who enters by an old one holds back more, never less; and who can reach what was taken out before has entered by this epoch or an earlier one."
         }
-        Step::Epoch => b"the epoch is one word, which only grows.",
-        Step::Announce(_) => {
-            b"it asks nobody, and waits for nobody. If that actor is inside an earlier epoch, what waits in the limbo waits on, and this actor goes on."
+        Step::Announce(_) => announce_reason(answer),
+        Step::PidBits(_) | Step::RowBits(_) => {
+            b"one load of one word, which only tells where to try. The taking decides."
         }
-        Step::PidBits(_) => b"one load of one word tells which PIDs may be free. Taking one decides.",
-        Step::RowBits(_) => b"one load of one word tells which rows may be free. Taking one decides.",
         Step::Place(_, _) => {
-            b"nothing leads to this row yet, so nobody else can meet it half written."
+            b"nothing leads to this row now, so nobody else can read it half written."
         }
-        Step::Exchange(_, _, _) => exchange_reason(went(answer)),
-        Step::TakePid(_) | Step::TakeRow(_) => taking_reason(went(answer)),
+        Step::Exchange(_, _, _) => {
+            b"another actor was faster, and has got on. Nothing has changed, so nothing has to be undone: this one begins anew with what stands there now."
+        }
+        Step::TakePid(_) | Step::TakeRow(_) => taking_reason(answer),
         Step::Enter(_) => {
-            b"its epoch stands in a word of its own. No row that it can reach from now on is used anew until it leaves."
+            b"one store, which all can read: no row that this actor can reach is used anew from now on, until it leaves."
         }
-        Step::Leave => b"one store ends its stay. What waited for this actor alone may be used anew.",
-        Step::Retire(_) => {
-            b"one compare-and-swap. Who enters from now on holds back nothing that was taken out before."
-        }
+        Step::Leave => b"one store. From now on this actor holds back nothing.",
+        Step::Retire(_) => retiring_reason(answer),
         Step::ReusePids(_, _) | Step::ReuseRows(_, _) => {
-            b"since these were taken out, each other actor was outside or has entered a later epoch, so nobody can reach them."
+            b"since these were taken out, each other actor was seen outside or in a later epoch. So nobody can reach them, and no exchange can take them for what it read."
         }
     }
 }
 
+/// Of a read of slot 0, which has the root, or of another one.
 fn slot_reason(slot: u32) -> &'static [u8]
     ensures { result.now ≡ slot_reason slot }
 {
     if slot == 0 {
-        b"one load of one word tells which page is the root."
+        b"one load of one word. Who goes by an old root gets to the same keys by side links."
     } else {
-        b"one load of one word tells where the page's newest record lies. Who exchanges the slot later changes none of the records that are read from there."
+        b"one load of one word. Who exchanges it later changes none of the records that are read from there."
     }
 }
 
-/// Whether an exchange or a taking went.
-fn went(answer: &Answer<Record>) -> bool
-    ensures { result ≡ went answer.now }
+/// Of a read of a row.
+fn row_reason(answer: &Answer<Record>) -> &'static [u8]
+    ensures { result.now ≡ row_reason answer.now }
 {
     match answer {
-        Answer::Whether(went) => *went,
-        _ => false,
+        Answer::Content(Record::Remove(_)) => {
+            b"the page was removed, and its records still stand, unchanged, for whoever comes by an old term."
+        }
+        _ => {
+            b"a linked record never changes, and its row is not used anew before this actor leaves."
+        }
     }
 }
 
-fn exchange_reason(went: bool) -> &'static [u8]
-    ensures { result.now ≡ exchange_reason went }
+/// Of a look for another actor, by whether that is outside.
+fn announce_reason(answer: &Answer<Record>) -> &'static [u8]
+    ensures { result.now ≡ announce_reason answer.now }
 {
-    if went {
-        b"one compare-and-swap changes one word, and with it what all find who read the slot from now on. The records that were linked before stay as they are."
-    } else {
-        b"another actor was faster, and has got on. Nothing has changed, so nothing has to be undone: this one begins anew with what stands there now."
+    match answer {
+        Answer::Number(0) => {
+            b"that actor is outside, so it can reach nothing that was taken out of the tree."
+        }
+        _ => {
+            b"that actor is inside: what was taken out in its epoch or later waits in the limbo, and this actor goes on."
+        }
     }
 }
 
-fn taking_reason(went: bool) -> &'static [u8]
-    ensures { result.now ≡ taking_reason went }
+fn taking_reason(answer: &Answer<Record>) -> &'static [u8]
+    ensures { result.now ≡ taking_reason answer.now }
 {
-    if went {
-        b"of all who want this number, one gets it, by one atomic operation on one word."
-    } else {
-        b"another actor has it. Nothing has to be undone, and the next number is tried."
+    match answer {
+        Answer::Whether(true) => {
+            b"one atomic operation on one word: of all who want this number exactly one gets it."
+        }
+        _ => b"another actor has this number, and the next one is tried.",
+    }
+}
+
+fn retiring_reason(answer: &Answer<Record>) -> &'static [u8]
+    ensures { result.now ≡ retiring_reason answer.now }
+{
+    match answer {
+        Answer::Whether(true) => {
+            b"one compare-and-swap. Who reads the epoch from now on and enters by it holds back nothing that was taken out before."
+        }
+        _ => b"another actor has done the same.",
     }
 }
