@@ -73,7 +73,7 @@ place_below log command answer (suc many) = if is_told (take (suc many) log) com
 abbrev pub found_text : List Update → Option ℕ → List ℕ
 found_text log None = []
 found_text log (Some place) =
-    codes "<p>The place of this operation in the order is known only now: behind " ++ decimal place
+    codes "<p>The place of this operation in the order is known only now, the latest at which its reply is right: behind " ++ decimal place
     ++ codes " of the " ++ decimal (length log) ++ codes " updates.</p>\n"
 
 -- Where an operation stands in the order that is done, and made no update. By the theorem the map was so at one of its own steps; the latest such place isn't

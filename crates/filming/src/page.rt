@@ -39,7 +39,13 @@ fn show_guide<O: Output>(out: &mut O)
         b"<p>Several actors use one ordered map, and none ever locks a page. A record that is linked never changes, so who reads one may sleep there,\n",
     );
     out.show(
-        b"and the others go on. Each frame is one atomic step of one actor: why it needs no lock, the tree as it is after it, and the map.</p>\n",
+        b"and the others go on. To change a page, an actor writes a new record where nobody else looks, and links it by one compare-and-swap of the\n",
+    );
+    out.show(
+        b"page's slot: of two who try at once one wins, and the other begins anew. A row is used anew once nobody can still reach its old record.\n",
+    );
+    out.show(
+        b"Each frame is one atomic step of one actor: why it needs no lock, the tree as it is after it, and the map.</p>\n",
     );
     out.show(b"<details><summary>How to read a frame</summary>\n<ul>\n");
     out.show(
@@ -52,14 +58,14 @@ fn show_guide<O: Output>(out: &mut O)
     out.show(
         b"<li>A record that is linked never changes. To change a page, an actor places a new record, whose next one is the newest that it has\n",
     );
-    out.show(b"read, in a row of its own.</li>\n");
+    out.show(b"read, in a row of its own. A base has no next one.</li>\n");
     out.show(
         b"<li>Then it exchanges the slot: one compare-and-swap from the row that it has read to the new one. If another actor was faster, the slot\n",
     );
     out.show(
-        b"has another row by then. The exchange is lost, and nothing has changed. Lost or won, the actor then begins anew at the root with what stands\n",
+        b"has another row by then. The exchange is lost, and nothing has changed. After most exchanges, lost or won, the actor begins anew at the root,\n",
     );
-    out.show(b"there, until its own update is linked. This one word takes the place of a lock.</li>\n");
+    out.show(b"until its own update is linked. This one word takes the place of a lock.</li>\n");
     out.show(
         b"<li>The newest record that names a key decides it. What newer records took away is grey and struck through.</li>\n",
     );
@@ -90,16 +96,19 @@ fn show_guide<O: Output>(out: &mut O)
         b"<li>Epochs: an actor announces the epoch in which it enters, and leaves at its end. What it took out of the tree waits in its limbo, the\n",
     );
     out.show(
-        b"cells beside it: with no epoch at first; then with the epoch that it read afterwards, as 'row 9, epoch 1'. Once each other actor was outside or\n",
+        b"cells beside it: with no epoch at first; then with the epoch that it read afterwards, as 'row 9, epoch 1'. Once each other actor was seen outside\n",
     );
     out.show(
-        b"in a later epoch, its cell goes, and its actor frees it next. So nobody inside ever meets a row that is used anew, and nobody waits for a\n",
+        b"or in a later epoch since then, the cell goes, and its actor frees the row next. So no row is used anew while somebody inside can still reach its\n",
     );
-    out.show(b"reader.</li>\n");
+    out.show(b"old record, no exchange takes one for the other, and nobody waits for a reader.</li>\n");
     out.show(
         b"<li>The log has all updates in their order. Each took effect at its exchange; an operation that changes nothing at one of its own steps,\n",
     );
     out.show(b"which is known when its reply comes.</li>\n");
+    out.show(
+        b"<li>Commands: page and back read pairs from a key on, upward and downward; tidy makes what is due on the way to a key.</li>\n",
+    );
     out.show(
         b"<li>Keys: left and right, home and end; space plays; n goes to the next exchange, p to the one before. #12 behind the address is frame\n",
     );

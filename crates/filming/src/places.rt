@@ -151,7 +151,7 @@ fn show_found<O: Output>(out: &mut O, log: &[Update], place: Option<u64>)
     let Some(place) = place else {
         return;
     };
-    out.show(b"<p>The place of this operation in the order is known only now: behind ");
+    out.show(b"<p>The place of this operation in the order is known only now, the latest at which its reply is right: behind ");
     show_number(out, place);
     out.show(b" of the ");
     show_number(out, log.len() as u64);

@@ -17,22 +17,22 @@ use Rattle.tree_picture.specs.Touches.{last_entry}
 -- of an exchange that was won, by what it linked
 abbrev pub link_reason : Link → List ℕ
 link_reason link.Put =
-    codes "one compare-and-swap. Had the slot changed since it was read, the exchange would be lost. It cannot have changed back, since no row that this actor can reach is used anew."
+    codes "one compare-and-swap. Had the slot changed since it was read, the exchange would be lost. It cannot have changed back: no row that this actor can reach is used anew."
 link_reason link.Delete =
-    codes "one compare-and-swap. Had the slot changed since it was read, the exchange would be lost. It cannot have changed back, since no row that this actor can reach is used anew."
+    codes "one compare-and-swap. Had the slot changed since it was read, the exchange would be lost. It cannot have changed back: no row that this actor can reach is used anew."
 link_reason link.Base =
-    codes "the base has the same items, so who reads the old records meanwhile reads the same page. They stay in their rows until nobody inside can reach them."
+    codes "one compare-and-swap. The base has the items of the chain that it replaces, and who started at an older record still reads the page as it was then."
 link_reason link.Split =
     codes "the new page stands already, and the split leads there: who finds no term for it in the page above goes by the side link."
 link_reason link.Term = codes "who read the page above before goes to the left page, and on by the side link, to the same items."
 link_reason link.Root = codes "the old root is the first child of the new one: who started there goes on by side links."
-link_reason link.Hold = codes "the page is still read and written. Its left page will not be removed meanwhile, so that it can take the items."
+link_reason link.Hold = codes "the page is still read and written, and by this term. While it is held, its left page is not removed: who would do so goes on without."
 link_reason link.Remove =
     codes "its records stay as they are, and who meets the removed page does not wait: a reader goes round by the left page or answers by what it has read, a writer merges the page first."
-link_reason link.Merge = codes "the removed page keeps its records, for whoever reads there. All others find the items in the left page."
+link_reason link.Merge = codes "the removed page keeps its records, for whoever reads there. Who comes to it from now on finds it removed, and the items in the left page."
 link_reason link.Unterm =
     codes "the page above leads to the left page now. Who came by the old term finds the page removed, and goes round by the left page."
-link_reason link.Clear = codes "nothing leads to this slot any more. Its records stay in their rows until nobody inside can reach them."
+link_reason link.Clear = codes "no term leads to this slot any more. Who comes by one that it read before finds the slot empty, and begins anew."
 link_reason link.Ready = codes "nothing leads to the new page yet."
 link_reason link.Undo = codes "nobody else has seen this page."
 
@@ -44,8 +44,8 @@ slot_reason slot =
 
 -- of a read of a row
 abbrev pub row_reason : Answer Record → List ℕ
-row_reason (Content (Remove record)) = codes "the page was removed, and its records still stand, unchanged, for whoever comes by an old term."
-row_reason _ = codes "a linked record never changes, and its row is not used anew before this actor leaves."
+row_reason (Content (Remove record)) = codes "the page was removed, and its records stand as they were, for whoever still comes here."
+row_reason _ = codes "a record that was linked never changes, in the tree or out of it, and its row is not used anew before this actor leaves."
 
 -- of a look for another actor, by whether that is outside
 abbrev pub announce_reason : Answer Record → List ℕ
@@ -58,7 +58,7 @@ taking_reason (Whether true) = codes "one atomic operation on one word: of all w
 taking_reason _ = codes "another actor has this number, and the next one is tried."
 
 abbrev pub retiring_reason : Answer Record → List ℕ
-retiring_reason (Whether true) = codes "one compare-and-swap. Who reads the epoch from now on and enters by it holds back nothing that was taken out before."
+retiring_reason (Whether true) = codes "one compare-and-swap. Who reads the epoch from now on and enters by it keeps nothing that was taken out before."
 retiring_reason _ = codes "another actor has done the same."
 
 -- of a step that isn't an exchange that was won
@@ -66,7 +66,7 @@ abbrev pub step_reason : StepOf Record → Answer Record → List ℕ
 step_reason (Slot slot) answer = slot_reason slot
 step_reason (Row row) answer = row_reason answer
 step_reason Epoch answer =
-    codes "the epoch may grow as soon as it is read. Who enters by an old one holds back more, never less; and who can reach what was taken out before has entered by this epoch or an earlier one."
+    codes "the epoch may grow as soon as it is read: who enters by an old one keeps more rows, never fewer. Who can reach what was taken out before has entered by this epoch or an earlier one."
 step_reason (Announce actor) answer = announce_reason answer
 step_reason (PidBits word) answer = codes "one load of one word, which only tells where to try. The taking decides."
 step_reason (RowBits word) answer = codes "one load of one word, which only tells where to try. The taking decides."
@@ -76,12 +76,12 @@ step_reason (Exchange slot from to) answer =
 step_reason (TakePid pid) answer = taking_reason answer
 step_reason (TakeRow row) answer = taking_reason answer
 step_reason (Enter epoch) answer = codes "one store, which all can read: no row that this actor can reach is used anew from now on, until it leaves."
-step_reason Leave answer = codes "one store. From now on this actor holds back nothing."
+step_reason Leave answer = codes "one store. It keeps no row from being used anew any more. What waits in its own limbo is freed in a later operation."
 step_reason (Retire epoch) answer = retiring_reason answer
 step_reason (ReusePids word bits) answer =
-    codes "since these were taken out, each other actor was seen outside or in a later epoch. So nobody can reach them, and no exchange can take them for what it read."
+    codes "one atomic operation on one word. Since these were taken out, each other actor was seen outside or in an epoch later than theirs, so nobody can reach them."
 step_reason (ReuseRows word bits) answer =
-    codes "since these were taken out, each other actor was seen outside or in a later epoch. So nobody can reach them, and no exchange can take them for what it read."
+    codes "one atomic operation on one word. Since these were taken out, each other actor was seen outside or in an epoch later than theirs, so nobody can reach them."
 
 abbrev pub reason_at : Option Entry → List ℕ
 reason_at None = []

@@ -27,10 +27,10 @@ fn link_reason(link: Link) -> &'static [u8]
 {
     match link {
         Link::Put | Link::Delete => {
-            b"one compare-and-swap. Had the slot changed since it was read, the exchange would be lost. It cannot have changed back, since no row that this actor can reach is used anew."
+            b"one compare-and-swap. Had the slot changed since it was read, the exchange would be lost. It cannot have changed back: no row that this actor can reach is used anew."
         }
         Link::Base => {
-            b"the base has the same items, so who reads the old records meanwhile reads the same page. They stay in their rows until nobody inside can reach them."
+            b"one compare-and-swap. The base has the items of the chain that it replaces, and who started at an older record still reads the page as it was then."
         }
         Link::Split => {
             b"the new page stands already, and the split leads there: who finds no term for it in the page above goes by the side link."
@@ -42,19 +42,19 @@ fn link_reason(link: Link) -> &'static [u8]
             b"the old root is the first child of the new one: who started there goes on by side links."
         }
         Link::Hold => {
-            b"the page is still read and written. Its left page will not be removed meanwhile, so that it can take the items."
+            b"the page is still read and written, and by this term. While it is held, its left page is not removed: who would do so goes on without."
         }
         Link::Remove => {
             b"its records stay as they are, and who meets the removed page does not wait: a reader goes round by the left page or answers by what it has read, a writer merges the page first."
         }
         Link::Merge => {
-            b"the removed page keeps its records, for whoever reads there. All others find the items in the left page."
+            b"the removed page keeps its records, for whoever reads there. Who comes to it from now on finds it removed, and the items in the left page."
         }
         Link::Unterm => {
             b"the page above leads to the left page now. Who came by the old term finds the page removed, and goes round by the left page."
         }
         Link::Clear => {
-            b"nothing leads to this slot any more. Its records stay in their rows until nobody inside can reach them."
+            b"no term leads to this slot any more. Who comes by one that it read before finds the slot empty, and begins anew."
         }
         Link::Ready => b"nothing leads to the new page yet.",
         Link::Undo => b"nobody else has seen this page.",
@@ -69,7 +69,7 @@ fn step_reason(step: &Step<Record>, answer: &Answer<Record>) -> &'static [u8]
         Step::Slot(slot) => slot_reason(*slot),
         Step::Row(_) => row_reason(answer),
         Step::Epoch => {
-            b"the epoch may grow as soon as it is read. Who enters by an old one holds back more, never less; and who can reach what was taken out before has entered by this epoch or an earlier one."
+            b"the epoch may grow as soon as it is read: who enters by an old one keeps more rows, never fewer. Who can reach what was taken out before has entered by this epoch or an earlier one."
         }
         Step::Announce(_) => announce_reason(answer),
         Step::PidBits(_) | Step::RowBits(_) => {
@@ -85,10 +85,10 @@ fn step_reason(step: &Step<Record>, answer: &Answer<Record>) -> &'static [u8]
         Step::Enter(_) => {
             b"one store, which all can read: no row that this actor can reach is used anew from now on, until it leaves."
         }
-        Step::Leave => b"one store. From now on this actor holds back nothing.",
+        Step::Leave => b"one store. It keeps no row from being used anew any more. What waits in its own limbo is freed in a later operation.",
         Step::Retire(_) => retiring_reason(answer),
         Step::ReusePids(_, _) | Step::ReuseRows(_, _) => {
-            b"since these were taken out, each other actor was seen outside or in a later epoch. So nobody can reach them, and no exchange can take them for what it read."
+            b"one atomic operation on one word. Since these were taken out, each other actor was seen outside or in an epoch later than theirs, so nobody can reach them."
         }
     }
 }
@@ -110,10 +110,10 @@ fn row_reason(answer: &Answer<Record>) -> &'static [u8]
 {
     match answer {
         Answer::Content(Record::Remove(_)) => {
-            b"the page was removed, and its records still stand, unchanged, for whoever comes by an old term."
+            b"the page was removed, and its records stand as they were, for whoever still comes here."
         }
         _ => {
-            b"a linked record never changes, and its row is not used anew before this actor leaves."
+            b"a record that was linked never changes, in the tree or out of it, and its row is not used anew before this actor leaves."
         }
     }
 }
@@ -148,7 +148,7 @@ fn retiring_reason(answer: &Answer<Record>) -> &'static [u8]
 {
     match answer {
         Answer::Whether(true) => {
-            b"one compare-and-swap. Who reads the epoch from now on and enters by it holds back nothing that was taken out before."
+            b"one compare-and-swap. Who reads the epoch from now on and enters by it keeps nothing that was taken out before."
         }
         _ => b"another actor has done the same.",
     }
