@@ -1,5 +1,5 @@
 -- A step is taken right after the longest run.
-use Rattle.std.proofs.Common.{◌≡◌, ◌≢◌, ◌⊎◌, inl, inr, ℕ, zero, suc, ◌+◌, ◌<◌, ◌≤◌, Bool, true, List, [], ◌∷◌, ◌++◌, length, set, sym, refl, ap, ◌∙◌, subst}
+use Rattle.std.proofs.Common.{◌≡◌, ◌≢◌, ◌⊎◌, inl, inr, ℕ, suc, ◌+◌, ◌<◌, ◌≤◌, Bool, true, List, [], ◌∷◌, ◌++◌, length, set, sym, refl, ap, ◌∙◌, subst}
 use Rattle.std.proofs.Common.{arith, append-nil, append_assoc, length-append, eq-eqb}
 use Rattle.std.specs.Prelude.{if◌then◌else◌, None, Option, Some, slice_get}
 use mathlib.Core.Logic.{dite}
@@ -24,8 +24,7 @@ use Rattle.table_rule.specs.Growing.{HasSat, HasSeen, StepsExtendTheLongest}
 use Rattle.table_rule.specs.Longest.{IsSeen}
 use Rattle.table_rule.specs.Moments.{Moment, TakesStep, steps}
 use Rattle.table_rule.specs.Running.{Each, Running, StartsWith, entry_actor}
-use Rattle.table_rule.specs.Steps.{begin_before}
-use Rattle.table_rule.specs.Views.{Mine, alone, part, seen_of}
+use Rattle.table_rule.specs.Views.{Mine, part, seen_of}
 use Rattle.table_rule.proofs.Growing.{begun_by, cancel, fronts, sat_extends}
 use Rattle.table_rule.proofs.Later.{on_set, only, turns_on}
 use Rattle.table_rule.proofs.Longest.{in_view, in_views, longest_seen, stands_as, whole}

@@ -1,5 +1,5 @@
 -- The stores of a row that is written keep the rule.
-use Rattle.std.proofs.Common.{◌≡◌, ◌≢◌, inl, inr, ℕ, zero, suc, ◌+◌, ◌<◌, ◌≤◌, List, [], ◌∷◌, ◌++◌, length, ◌-◌, get_or, set, sym, refl, ap, ◌∙◌, subst, ⊎_elim, arith}
+use Rattle.std.proofs.Common.{◌≡◌, ◌≢◌, inl, inr, ℕ, zero, suc, ◌+◌, ◌<◌, ◌≤◌, List, [], ◌∷◌, ◌++◌, length, get_or, set, sym, refl, ap, ◌∙◌, subst, ⊎_elim, arith}
 use Rattle.std.proofs.Common.{add-one, length-append, get_or-set_same, get_or-set_other}
 use Rattle.std.specs.Prelude.{if◌then◌else◌, Bool, true, false, Option, None, Some}
 use Rattle.std.proofs.Math.Seq.{get_or-append_seam}
@@ -20,7 +20,7 @@ use Rattle.deltas.specs.Memory.{Memory, replaced_at}
 use Rattle.traces.specs.declared.trace.Entry.{Entry}
 use Rattle.traces.specs.discipline.Knowledge.{knows}
 use Rattle.traces.specs.trace.Trace.{memory_of}
-use Rattle.record_slots.specs.Layout.{last_at, row_size}
+use Rattle.record_slots.specs.Layout.{row_size}
 use Rattle.compact_rows.specs.Spelling.{compact_words}
 use Rattle.record_slots.specs.Spells.{HasSpelling}
 use Rattle.tree_words.proofs.RowWidths.{few_words, one_width, row_within, some_words}

@@ -5,28 +5,25 @@ use mathlib.Core.Logic.{dite}
 use mathlib.Core.Option.{some}
 use native.Mathlib.Decide.{ℕ_discrete}
 use lib.ListN.{get_elem?}
-use Rattle.atomic_table.specs.Table.{Step as Made, carried_after, stepped}
+use Rattle.atomic_table.specs.Table.{carried_after, stepped}
 use Rattle.atomic_table.proofs.Lists.{set_else, set_again, at_longer, at_last}
-use Rattle.bw_model.specs.declared.command.Command.{Command}
-use Rattle.bw_model.specs.declared.command.Reply.{Reply}
-use Rattle.bw_model.specs.declared.step.Answer.TheVariants.{Content, Done, Number}
+use Rattle.bw_model.specs.declared.step.Answer.TheVariants.{Content, Done}
 use Rattle.bw_model.specs.declared.step.Step.{Step as StepOf}
 use Rattle.bw_model.specs.declared.step.Step.TheVariants.{Row}
 use Rattle.deltas.specs.declared.record.Record.{Record}
 use Rattle.tree_limits.specs.declared.limits.Limits.{Limits}
 use Rattle.traces.specs.declared.trace.Entry.{Entry}
-use Rattle.traces.proofs.OwnEntries.{extends_self}
 use Rattle.tree_words.specs.Changes.{answer_by}
 use Rattle.table_rule.specs.declared.view.Reach.{Reach}
 use Rattle.table_rule.specs.declared.view.Reach.TheVariants.{Idle, Writing, Noted}
 use Rattle.table_rule.specs.declared.view.Part.{Part}
 use Rattle.table_rule.specs.Growing.{HasSeen, SeesOn}
-use Rattle.table_rule.specs.Moments.{GoesOnPlacing, IsLater, Moment, Operates, AllowedOperate, OperationsTurn, TakesStep, Turns, with_views, same, next, steps}
+use Rattle.table_rule.specs.Moments.{IsLater, Moment, Operates, AllowedOperate, OperationsTurn, TakesStep, Turns, with_views, same, next, steps}
 use Rattle.table_rule.specs.Moments.{places, sees, looks, turns, cuts, notes, joins, seats, lets_go}
 use Rattle.table_rule.specs.Running.{Each, ExtendsFor, StartsWith}
-use Rattle.table_rule.specs.Steps.{Took, Watched, with_step, begin_before}
-use Rattle.table_rule.specs.Views.{IsRefreshed, Mine, SitsAt, alone, first_part, other_parts, part, part_note, seen_of, with_run}
-use Rattle.table_rule.proofs.Parts.{events, extends_goes, starts_self, starts_on, with_events}
+use Rattle.table_rule.specs.Steps.{Watched}
+use Rattle.table_rule.specs.Views.{IsRefreshed, Mine, SitsAt, first_part, other_parts, part, part_note, seen_of, with_run}
+use Rattle.table_rule.proofs.Parts.{events, starts_self, starts_on, with_events}
 use Rattle.table_rule.proofs.Roster.{same_view, set_at}
 
 -- a seat or a note: the run goes on from what was seen

@@ -3,7 +3,6 @@ use Rattle.std.proofs.Common.{◌≡◌, ◌≢◌, ℕ, zero, suc, ◌<◌, ◌
 use Rattle.std.specs.Prelude.{if◌then◌else◌, Some, slice_get}
 use Rattle.std.proofs.lemmas.Bool.{eqb-true}
 use mathlib.Core.Option.{some}
-use Rattle.atomic_table.specs.Table.{State}
 use lib.ListN.{get_elem?}
 use Rattle.tree_limits.specs.declared.limits.Limits.{Limits}
 use Rattle.traces.specs.declared.trace.Entry.{Entry}
@@ -12,8 +11,8 @@ use Rattle.traces.specs.discipline.Disciplined.{Extends, is_entry_of, own_entrie
 use Rattle.table_rule.specs.declared.view.Reach.{Reach}
 use Rattle.table_rule.specs.declared.view.Reach.TheVariants.{Idle, Writing, Noted}
 use Rattle.table_rule.specs.declared.view.Part.{Part}
-use Rattle.table_rule.specs.Longest.{IsSeen, LongestIsSeen}
-use Rattle.table_rule.specs.Running.{Each, PartFits, Running, entry_actor, everywhere, is_at, times}
+use Rattle.table_rule.specs.Longest.{LongestIsSeen}
+use Rattle.table_rule.specs.Running.{Each, PartFits, entry_actor, everywhere, is_at, times}
 use Rattle.table_rule.proofs.Parts.{Stands, goes_extends, mark}
 
 -- the last entry is the actor's

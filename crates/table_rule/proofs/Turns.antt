@@ -17,7 +17,6 @@ use Rattle.traces.specs.discipline.Disciplined.{Extends}
 use Rattle.traces.specs.discipline.Knowledge.{knows}
 use Rattle.traces.specs.trace.Steps.{IsAnswer, memory_after}
 use Rattle.traces.specs.trace.Trace.{memory_of}
-use Rattle.record_slots.specs.Layout.{row_size}
 use Rattle.tree_words.proofs.RowWidths.{one_width}
 use Rattle.tree_words.specs.Layout.{row_at, width_of}
 use Rattle.tree_words.specs.Words.{words_in, SpellsWhere}

@@ -18,7 +18,11 @@ use crate::rule::{Law, TableSeat, Words};
 use bw_model::Limits;
 use tree_words::row_place;
 
-/// Reads a row that the seat's actor has learnt, by one load: that of its first word, which is the step.
+/// The words of a cache line.
+const LINE_WORDS: usize = 8;
+
+/// Reads a row that the seat's actor has learnt, by the load of its first word, which is the step. In a large tree words behind it are loaded before, so
+/// that its cache lines come together.
 #[inline(always)]
 pub fn read_first<P: Law>(
     words: &Words<P>,
@@ -37,8 +41,36 @@ pub fn read_first<P: Law>(
     ensures seat { SitsAt limits.now actor Idle seat.new.me }
     ensures took { ReadsFirst P.law limits.now actor (seen_of seat.old.me) row result (seen_of seat.new.me) }
 {
-    let _ = actor;
-    words.load::<Reading<P>>(seat, row_place(limits, row))
+    let place = row_place(limits, row);
+    look_ahead::<P>(words, seat, limits, actor, row, place);
+    words.load::<Reading<P>>(seat, place)
+}
+
+/// Loads a word of each cache line in which a page of a large tree has heads and lengths, but for the first. What these words are tells nothing.
+#[inline(always)]
+fn look_ahead<P: Law>(
+    words: &Words<P>,
+    seat: &mut TableSeat,
+    limits: &Limits,
+    actor: u8,
+    row: u32,
+    place: usize,
+)
+    requires law { KeepsRowsApart limits.now (P.law limits.now) }
+    requires table { IsOf limits.now words.now.key words.now.table_id seat.old.table_id }
+    requires range { row < limits.now.rows }
+    requires place { place ≡ row_at limits.now row 0 }
+    requires seat { SitsAt limits.now actor Idle seat.old.me }
+    requires known { KnowsReadable (knows (seen_of seat.old.me) actor) row }
+    ensures same { seat.new ≡ seat.old }
+{
+    if limits.is_large {
+        look_at::<P>(words, seat, limits, actor, row, place, LINE_WORDS);
+        look_at::<P>(words, seat, limits, actor, row, place, 2 * LINE_WORDS);
+        look_at::<P>(words, seat, limits, actor, row, place, 3 * LINE_WORDS);
+        look_at::<P>(words, seat, limits, actor, row, place, 4 * LINE_WORDS);
+        look_at::<P>(words, seat, limits, actor, row, place, 5 * LINE_WORDS);
+    }
 }
 
 /// Looks at a word of a row whose record the seat's actor has read since it entered, by one load, and by the place of the row's first word. That is no
