@@ -73,8 +73,8 @@ place_below log command answer (suc many) = if is_told (take (suc many) log) com
 abbrev pub found_text : List Update → Option ℕ → List ℕ
 found_text log None = []
 found_text log (Some place) =
-    codes "<p>The place of this operation in the order is known only now, the latest at which its reply is right: behind " ++ decimal place
-    ++ codes " of the " ++ decimal (length log) ++ codes " updates.</p>\n"
+    codes "<p>The place of this operation in the order is known only now: its reply is that of the map after the first " ++ decimal place
+    ++ codes " of the " ++ decimal (length log) ++ codes " updates, and of no later one.</p>\n"
 
 -- Where an operation stands in the order that is done, and made no update. By the theorem the map was so at one of its own steps; the latest such place isn't
 -- earlier.

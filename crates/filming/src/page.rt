@@ -63,9 +63,9 @@ fn show_guide<O: Output>(out: &mut O)
         b"<li>Then it exchanges the slot: one compare-and-swap from the row that it has read to the new one. If another actor was faster, the slot\n",
     );
     out.show(
-        b"has another row by then. The exchange is lost, and nothing has changed. After most exchanges, lost or won, the actor begins anew at the root,\n",
+        b"has another row by then. The exchange is lost, nothing has changed, and the actor begins anew at the root. So it does after most that it wins\n",
     );
-    out.show(b"until its own update is linked. This one word takes the place of a lock.</li>\n");
+    out.show(b"before its own update is linked. This one word takes the place of a lock.</li>\n");
     out.show(
         b"<li>The newest record that names a key decides it. What newer records took away is grey and struck through.</li>\n",
     );
@@ -96,12 +96,12 @@ fn show_guide<O: Output>(out: &mut O)
         b"<li>Epochs: an actor announces the epoch in which it enters, and leaves at its end. What it took out of the tree waits in its limbo, the\n",
     );
     out.show(
-        b"cells beside it: with no epoch at first; then with the epoch that it read afterwards, as 'row 9, epoch 1'. Once each other actor was seen outside\n",
+        b"cells beside it: with no epoch at first; then with the epoch that it read afterwards (they are stamped), as 'row 9, epoch 1'. Once each other actor was seen outside\n",
     );
     out.show(
         b"or in a later epoch since then, the cell goes, and its actor frees the row next. So no row is used anew while somebody inside can still reach its\n",
     );
-    out.show(b"old record, no exchange takes one for the other, and nobody waits for a reader.</li>\n");
+    out.show(b"old record, no exchange takes one for the other, and no operation waits for a reader.</li>\n");
     out.show(
         b"<li>The log has all updates in their order. Each took effect at its exchange; an operation that changes nothing at one of its own steps,\n",
     );

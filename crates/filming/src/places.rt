@@ -151,11 +151,11 @@ fn show_found<O: Output>(out: &mut O, log: &[Update], place: Option<u64>)
     let Some(place) = place else {
         return;
     };
-    out.show(b"<p>The place of this operation in the order is known only now, the latest at which its reply is right: behind ");
+    out.show(b"<p>The place of this operation in the order is known only now: its reply is that of the map after the first ");
     show_number(out, place);
     out.show(b" of the ");
     show_number(out, log.len() as u64);
-    out.show(b" updates.</p>\n");
+    out.show(b" updates, and of no later one.</p>\n");
 }
 
 /// Where an operation stands in the order that is done, and made no update.

@@ -17,11 +17,11 @@ use Rattle.tree_picture.specs.Touches.{last_entry}
 -- of an exchange that was won, by what it linked
 abbrev pub link_reason : Link → List ℕ
 link_reason link.Put =
-    codes "one compare-and-swap. Had the slot changed since it was read, the exchange would be lost. It cannot have changed back: no row that this actor can reach is used anew."
+    codes "one compare-and-swap. Had another record been linked since the slot was read, it would be lost. The same row means the same record: none that was read here is used anew meanwhile."
 link_reason link.Delete =
-    codes "one compare-and-swap. Had the slot changed since it was read, the exchange would be lost. It cannot have changed back: no row that this actor can reach is used anew."
+    codes "one compare-and-swap. Had another record been linked since the slot was read, it would be lost. The same row means the same record: none that was read here is used anew meanwhile."
 link_reason link.Base =
-    codes "one compare-and-swap. The base has the items of the chain that it replaces, and who started at an older record still reads the page as it was then."
+    codes "one compare-and-swap, lost if another record was linked since. The base has the items of the chain, and who started at an older record still reads the page as it was then."
 link_reason link.Split =
     codes "the new page stands already, and the split leads there: who finds no term for it in the page above goes by the side link."
 link_reason link.Term = codes "who read the page above before goes to the left page, and on by the side link, to the same items."
@@ -39,7 +39,7 @@ link_reason link.Undo = codes "nobody else has seen this page."
 -- of a read of slot 0, which has the root, or of another one
 abbrev pub slot_reason : ℕ → List ℕ
 slot_reason slot =
-    if slot == 0 then codes "one load of one word. Who goes by an old root gets to the same keys by side links."
+    if slot == 0 then codes "one load of one word. If a new root is put over this one, who goes by this one still gets to the same keys."
     else codes "one load of one word. Who exchanges it later changes none of the records that are read from there."
 
 -- of a read of a row
@@ -49,7 +49,7 @@ row_reason _ = codes "a record that was linked never changes, in the tree or out
 
 -- of a look for another actor, by whether that is outside
 abbrev pub announce_reason : Answer Record → List ℕ
-announce_reason (Number 0) = codes "that actor is outside, so it can reach nothing that was taken out of the tree."
+announce_reason (Number 0) = codes "that actor is outside. If it enters right after this look, it begins at the slots, which lead to nothing that was taken out before."
 announce_reason _ = codes "that actor is inside: what was taken out in its epoch or later waits in the limbo, and this actor goes on."
 
 -- of a taking, and of a retiring
@@ -58,7 +58,7 @@ taking_reason (Whether true) = codes "one atomic operation on one word: of all w
 taking_reason _ = codes "another actor has this number, and the next one is tried."
 
 abbrev pub retiring_reason : Answer Record → List ℕ
-retiring_reason (Whether true) = codes "one compare-and-swap. Who reads the epoch from now on and enters by it keeps nothing that was taken out before."
+retiring_reason (Whether true) = codes "one compare-and-swap. Who enters by the new epoch begins at the slots, which lead to nothing that was stamped with the old one."
 retiring_reason _ = codes "another actor has done the same."
 
 -- of a step that isn't an exchange that was won
@@ -66,17 +66,17 @@ abbrev pub step_reason : StepOf Record → Answer Record → List ℕ
 step_reason (Slot slot) answer = slot_reason slot
 step_reason (Row row) answer = row_reason answer
 step_reason Epoch answer =
-    codes "the epoch may grow as soon as it is read: who enters by an old one keeps more rows, never fewer. Who can reach what was taken out before has entered by this epoch or an earlier one."
+    codes "the epoch may grow as soon as it is read: who enters by an old one keeps more rows waiting, never fewer. Cells that are stamped with it wait for all who entered by it or before."
 step_reason (Announce actor) answer = announce_reason answer
 step_reason (PidBits word) answer = codes "one load of one word, which only tells where to try. The taking decides."
 step_reason (RowBits word) answer = codes "one load of one word, which only tells where to try. The taking decides."
-step_reason (Place row content) answer = codes "nothing leads to this row now, so nobody else can read it half written."
+step_reason (Place row content) answer = codes "nothing leads to this row now, so nobody else looks there while it is written."
 step_reason (Exchange slot from to) answer =
     codes "another actor was faster, and has got on. Nothing has changed, so nothing has to be undone: this one begins anew with what stands there now."
 step_reason (TakePid pid) answer = taking_reason answer
 step_reason (TakeRow row) answer = taking_reason answer
 step_reason (Enter epoch) answer = codes "one store, which all can read: no row that this actor can reach is used anew from now on, until it leaves."
-step_reason Leave answer = codes "one store. It keeps no row from being used anew any more. What waits in its own limbo is freed in a later operation."
+step_reason Leave answer = codes "one store. From now on this actor keeps no row in the limbo of others. What waits in its own it frees in a later operation."
 step_reason (Retire epoch) answer = retiring_reason answer
 step_reason (ReusePids word bits) answer =
     codes "one atomic operation on one word. Since these were taken out, each other actor was seen outside or in an epoch later than theirs, so nobody can reach them."

@@ -27,10 +27,10 @@ fn link_reason(link: Link) -> &'static [u8]
 {
     match link {
         Link::Put | Link::Delete => {
-            b"one compare-and-swap. Had the slot changed since it was read, the exchange would be lost. It cannot have changed back: no row that this actor can reach is used anew."
+            b"one compare-and-swap. Had another record been linked since the slot was read, it would be lost. The same row means the same record: none that was read here is used anew meanwhile."
         }
         Link::Base => {
-            b"one compare-and-swap. The base has the items of the chain that it replaces, and who started at an older record still reads the page as it was then."
+            b"one compare-and-swap, lost if another record was linked since. The base has the items of the chain, and who started at an older record still reads the page as it was then."
         }
         Link::Split => {
             b"the new page stands already, and the split leads there: who finds no term for it in the page above goes by the side link."
@@ -69,14 +69,14 @@ fn step_reason(step: &Step<Record>, answer: &Answer<Record>) -> &'static [u8]
         Step::Slot(slot) => slot_reason(*slot),
         Step::Row(_) => row_reason(answer),
         Step::Epoch => {
-            b"the epoch may grow as soon as it is read: who enters by an old one keeps more rows, never fewer. Who can reach what was taken out before has entered by this epoch or an earlier one."
+            b"the epoch may grow as soon as it is read: who enters by an old one keeps more rows waiting, never fewer. Cells that are stamped with it wait for all who entered by it or before."
         }
         Step::Announce(_) => announce_reason(answer),
         Step::PidBits(_) | Step::RowBits(_) => {
             b"one load of one word, which only tells where to try. The taking decides."
         }
         Step::Place(_, _) => {
-            b"nothing leads to this row now, so nobody else can read it half written."
+            b"nothing leads to this row now, so nobody else looks there while it is written."
         }
         Step::Exchange(_, _, _) => {
             b"another actor was faster, and has got on. Nothing has changed, so nothing has to be undone: this one begins anew with what stands there now."
@@ -85,7 +85,7 @@ fn step_reason(step: &Step<Record>, answer: &Answer<Record>) -> &'static [u8]
         Step::Enter(_) => {
             b"one store, which all can read: no row that this actor can reach is used anew from now on, until it leaves."
         }
-        Step::Leave => b"one store. It keeps no row from being used anew any more. What waits in its own limbo is freed in a later operation.",
+        Step::Leave => b"one store. From now on this actor keeps no row in the limbo of others. What waits in its own it frees in a later operation.",
         Step::Retire(_) => retiring_reason(answer),
         Step::ReusePids(_, _) | Step::ReuseRows(_, _) => {
             b"one atomic operation on one word. Since these were taken out, each other actor was seen outside or in an epoch later than theirs, so nobody can reach them."
@@ -98,7 +98,7 @@ fn slot_reason(slot: u32) -> &'static [u8]
     ensures { result.now ≡ slot_reason slot }
 {
     if slot == 0 {
-        b"one load of one word. Who goes by an old root gets to the same keys by side links."
+        b"one load of one word. If a new root is put over this one, who goes by this one still gets to the same keys."
     } else {
         b"one load of one word. Who exchanges it later changes none of the records that are read from there."
     }
@@ -124,7 +124,7 @@ fn announce_reason(answer: &Answer<Record>) -> &'static [u8]
 {
     match answer {
         Answer::Number(0) => {
-            b"that actor is outside, so it can reach nothing that was taken out of the tree."
+            b"that actor is outside. If it enters right after this look, it begins at the slots, which lead to nothing that was taken out before."
         }
         _ => {
             b"that actor is inside: what was taken out in its epoch or later waits in the limbo, and this actor goes on."
@@ -148,7 +148,7 @@ fn retiring_reason(answer: &Answer<Record>) -> &'static [u8]
 {
     match answer {
         Answer::Whether(true) => {
-            b"one compare-and-swap. Who reads the epoch from now on and enters by it keeps nothing that was taken out before."
+            b"one compare-and-swap. Who enters by the new epoch begins at the slots, which lead to nothing that was stamped with the old one."
         }
         _ => b"another actor has done the same.",
     }
