@@ -32,15 +32,16 @@ fn filmed(alloc: Global, limits: Limits, lines: &[u8]) -> Film {
 const INSERT: &[u8] = b"begin 0 insert k02 <\nfinish 0\n";
 
 /// How often each text stands in the film of that insert, which takes ten steps; the ninth exchanges the slot.
-const SHOWN: [(&[u8], usize); 11] = [
+const SHOWN: [(&[u8], usize); 12] = [
     (b"<section id=\"", 10),
+    (b"<p class='why'>No lock: ", 10),
     (b"<svg ", 10),
     (
         b"<section id=\"1\">\n<h2>1: actor 0, insert k02 &lt;: read the epoch: 1</h2>\n",
         1,
     ),
     (
-        b"<h2>5: actor 0, insert k02 &lt;: read row 1: base, items: 0</h2>\n<p>The map is unchanged by this step.</p>\n<svg ",
+        b"<h2>5: actor 0, insert k02 &lt;: read row 1: base, items: 0</h2>\n<p>The map is unchanged by this step.</p>\n<p class='why'>No lock: a record that was linked never changes, ",
         1,
     ),
     (
@@ -52,7 +53,7 @@ const SHOWN: [(&[u8], usize); 11] = [
         1,
     ),
     (
-        b"<h2>9: actor 0, insert k02 &lt;: exchange slot 1 from row 1 to row 2: won, put: a key was given a value</h2>\n<p class=\"changed\">This step changes the map: k02 has the value &lt; now.</p>\n<svg ",
+        b"<h2>9: actor 0, insert k02 &lt;: exchange slot 1 from row 1 to row 2: won, put: a key was given a value</h2>\n<p class=\"changed\">This step changes the map: k02 has the value &lt; now.</p>\n<p class='why'>No lock: one compare-and-swap. Had another record ",
         1,
     ),
     (
@@ -82,42 +83,43 @@ fn each_step_has_a_frame(rt: HostRuntime) -> Result<(), Fail> {
     Ok(())
 }
 
-/// Lines of which the last one ends an operation without an update, and its place in the order: behind how many of how many updates. A reader that has read
-/// its leaf's slot doesn't see what is linked afterwards; and what is changed outside of its page's range doesn't matter.
+/// Lines of which the last one ends an operation without an update, and its place in the order: after how many of how many updates the map is as its reply
+/// tells, and no later one. A reader that has read its leaf's slot doesn't see what is linked afterwards; and what is changed outside of its page's range
+/// doesn't matter.
 const PLACES: [(&[u8], &[u8]); 8] = [
     (
         b"begin 0 insert a 1\nfinish 0\nbegin 0 insert c 3\nfinish 0\nbegin 1 page a\nturn 1 4\nbegin 0 insert b 2\nfinish 0\nfinish 1\n",
-        b"behind 2 of the 3 updates.",
+        b"the first 2 of the 3 updates, and of no later one.</p>\n<svg ",
     ),
     (
         b"begin 0 insert a 1\nfinish 0\nbegin 0 insert c 3\nfinish 0\nbegin 1 page b\nturn 1 4\nbegin 0 delete a\nfinish 0\nfinish 1\n",
-        b"behind 3 of the 3 updates.",
+        b"the first 3 of the 3 updates, and of no later one.</p>\n<svg ",
     ),
     (
         b"begin 0 insert a 1\nfinish 0\nbegin 0 insert c 3\nfinish 0\n\
         begin 1 page a\nturn 1 4\nbegin 0 upsert a 1\nfinish 0\nbegin 0 delete c\nfinish 0\nfinish 1\n",
-        b"behind 3 of the 4 updates.",
+        b"the first 3 of the 4 updates, and of no later one.</p>\n<svg ",
     ),
     (
         b"begin 0 insert a 1\nfinish 0\nbegin 0 insert c 3\nfinish 0\nbegin 1 back c\nturn 1 4\nbegin 0 insert b 2\nfinish 0\nfinish 1\n",
-        b"behind 2 of the 3 updates.",
+        b"the first 2 of the 3 updates, and of no later one.</p>\n<svg ",
     ),
     (
         b"begin 0 insert a 1\nfinish 0\nbegin 0 insert c 3\nfinish 0\n\
         begin 1 back b\nturn 1 4\nbegin 0 insert d 4\nfinish 0\nbegin 0 delete c\nfinish 0\nfinish 1\n",
-        b"behind 4 of the 4 updates.",
+        b"the first 4 of the 4 updates, and of no later one.</p>\n<svg ",
     ),
     (
         b"begin 0 insert a 1\nfinish 0\nbegin 0 insert c 3\nfinish 0\nbegin 1 back c\nturn 1 4\nbegin 0 upsert c 4\nfinish 0\nfinish 1\n",
-        b"behind 2 of the 3 updates.",
+        b"the first 2 of the 3 updates, and of no later one.</p>\n<svg ",
     ),
     (
         b"begin 1 page a\nturn 1 4\nbegin 0 insert a 1\nfinish 0\nfinish 1\n",
-        b"behind 0 of the 1 updates.",
+        b"the first 0 of the 1 updates, and of no later one.</p>\n<svg ",
     ),
     (
         b"begin 0 insert a 1\nfinish 0\nbegin 1 get a\nturn 1 4\nbegin 0 delete a\nfinish 0\nfinish 1\n",
-        b"behind 1 of the 2 updates.",
+        b"the first 1 of the 2 updates, and of no later one.</p>\n<svg ",
     ),
 ];
 
@@ -131,6 +133,17 @@ fn readers_have_a_place(rt: HostRuntime) -> Result<(), Fail> {
         assert!(rt; found == 1, "lines {number}: {found} places");
         assert!(rt; count(text.as_slice(), place) == 1, "place {number}");
     }
+    Ok(())
+}
+
+// One of two who insert loses its exchange, and begins anew.
+#[test]
+fn a_lost_exchange_is_explained(rt: HostRuntime) -> Result<(), Fail> {
+    let limits = Limits::new(2, 64, 256, 1)?;
+    let lines = b"begin 0 insert a 1\nturn 0 8\nbegin 1 insert b 2\nfinish 1\nfinish 0\n";
+    let text = filmed(rt.alloc(), limits, lines).text;
+    let lost = b": lost, the slot has another row by now</h2>\n<p>The map is unchanged by this step.</p>\n<p class='why'>No lock: another actor was faster, ";
+    assert_eq!(rt; count(text.as_slice(), lost), 1, "lost exchanges");
     Ok(())
 }
 
