@@ -27,7 +27,9 @@ fn show_looks<O: Output>(out: &mut O)
     out.show(
         b"section{scroll-margin-top:99rem}svg{max-width:100%;height:auto}pre,ol{margin:0;columns:10rem}.changed{font-weight:bold}.why{color:#57606a}.told{position:absolute;left:-99rem}\n",
     );
-    out.show(b"@media (prefers-color-scheme:dark){body{color:#e6edf3;background:#0d1117}.why{color:#9198a1}}\n");
+    out.show(
+        b"@media (prefers-color-scheme:dark){body{color:#e6edf3;background:#0d1117}.why{color:#9198a1}}\n",
+    );
 }
 
 /// What is to be seen in a frame.
@@ -101,7 +103,9 @@ fn show_guide<O: Output>(out: &mut O)
     out.show(
         b"or in a later epoch since then, the cell goes, and its actor frees the row next. So no row is used anew while somebody inside can still reach its\n",
     );
-    out.show(b"old record, no exchange takes one for the other, and no operation waits for a reader.</li>\n");
+    out.show(
+        b"old record, no exchange takes one for the other, and no operation waits for a reader.</li>\n",
+    );
     out.show(
         b"<li>The log has all updates in their order. Each took effect at its exchange; an operation that changes nothing at one of its own steps,\n",
     );

@@ -151,7 +151,9 @@ fn show_found<O: Output>(out: &mut O, log: &[Update], place: Option<u64>)
     let Some(place) = place else {
         return;
     };
-    out.show(b"<p>The place of this operation in the order is known only now: its reply is that of the map after the first ");
+    out.show(
+        b"<p>The place of this operation in the order is known only now: its reply is that of the map after the first ",
+    );
     show_number(out, place);
     out.show(b" of the ");
     show_number(out, log.len() as u64);

@@ -142,7 +142,8 @@ fn a_lost_exchange_is_explained(rt: HostRuntime) -> Result<(), Fail> {
     let limits = Limits::new(2, 64, 256, 1)?;
     let lines = b"begin 0 insert a 1\nturn 0 8\nbegin 1 insert b 2\nfinish 1\nfinish 0\n";
     let text = filmed(rt.alloc(), limits, lines).text;
-    let lost = b": lost, the slot has another row by now</h2>\n<p>The map is unchanged by this step.</p>\n<p class='why'>No lock: another actor was faster, ";
+    let lost =
+        b": lost, the slot has another row by now</h2>\n<p>The map is unchanged by this step.</p>\n<p class='why'>No lock: another actor was faster, ";
     assert_eq!(rt; count(text.as_slice(), lost), 1, "lost exchanges");
     Ok(())
 }

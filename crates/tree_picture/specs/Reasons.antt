@@ -44,7 +44,7 @@ slot_reason slot =
 
 -- of a read of a row
 abbrev pub row_reason : Answer Record → List ℕ
-row_reason (Content (Remove record)) = codes "the page was removed, and its records stand as they were, for whoever still comes here."
+row_reason (Content (Remove removal)) = codes "the page was removed, and its records stand as they were, for whoever still comes here."
 row_reason _ = codes "a record that was linked never changes, in the tree or out of it, and its row is not used anew before this actor leaves."
 
 -- of a look for another actor, by whether that is outside

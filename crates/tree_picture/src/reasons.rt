@@ -85,7 +85,8 @@ fn step_reason(step: &Step<Record>, answer: &Answer<Record>) -> &'static [u8]
         Step::Enter(_) => {
             b"one store, which all can read: no row that this actor can reach is used anew from now on, until it leaves."
         }
-        Step::Leave => b"one store. From now on this actor keeps no row in the limbo of others. What waits in its own it frees in a later operation.",
+        Step::Leave =>
+            b"one store. From now on this actor keeps no row in the limbo of others. What waits in its own it frees in a later operation.",
         Step::Retire(_) => retiring_reason(answer),
         Step::ReusePids(_, _) | Step::ReuseRows(_, _) => {
             b"one atomic operation on one word. Since these were taken out, each other actor was seen outside or in an epoch later than theirs, so nobody can reach them."
