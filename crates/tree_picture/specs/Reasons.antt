@@ -1,5 +1,5 @@
 -- Why no step needs a lock, in words.
-use Rattle.std.specs.Prelude.{ℕ, ◌==◌, List, [], Bool, true, false, Option, None, Some, codes, if◌then◌else◌}
+use Rattle.std.specs.Prelude.{ℕ, ◌==◌, List, [], true, Option, None, Some, codes, if◌then◌else◌}
 use Rattle.bw_model.specs.declared.step.Answer.{Answer}
 use Rattle.bw_model.specs.declared.step.Answer.TheVariants.{Content, Number, Whether}
 use Rattle.bw_model.specs.declared.step.Link.{Link}
@@ -48,9 +48,14 @@ row_reason (Content (Remove removal)) = codes "the page was removed, and its rec
 row_reason _ = codes "a record that was linked never changes, in the tree or out of it, and its row is not used anew before this actor leaves."
 
 -- of a look for another actor, by whether that is outside
+abbrev pub presence_reason : ℕ → List ℕ
+presence_reason epoch =
+    if epoch == 0 then codes "that actor is outside. If it enters right after this look, it begins at the slots, which lead to nothing that was taken out before."
+    else codes "that actor is inside: what was taken out in its epoch or later waits in the limbo, and this actor goes on."
+
 abbrev pub announce_reason : Answer Record → List ℕ
-announce_reason (Number 0) = codes "that actor is outside. If it enters right after this look, it begins at the slots, which lead to nothing that was taken out before."
-announce_reason _ = codes "that actor is inside: what was taken out in its epoch or later waits in the limbo, and this actor goes on."
+announce_reason (Number epoch) = presence_reason epoch
+announce_reason _ = []
 
 -- of a taking, and of a retiring
 abbrev pub taking_reason : Answer Record → List ℕ

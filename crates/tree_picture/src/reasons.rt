@@ -1,6 +1,6 @@
 //! Why no step needs a lock, in words.
 ghost use Rattle.std.specs.Prelude.{◌≡◌};
-ghost use Rattle.tree_picture.specs.Reasons.{announce_reason, link_reason, reason_text, retiring_reason, row_reason, slot_reason, step_reason, taking_reason};
+ghost use Rattle.tree_picture.specs.Reasons.{announce_reason, link_reason, presence_reason, reason_text, retiring_reason, row_reason, slot_reason, step_reason, taking_reason};
 
 use crate::touches::last_entry;
 use bw_model::{Answer, Link, Step};
@@ -124,12 +124,18 @@ fn announce_reason(answer: &Answer<Record>) -> &'static [u8]
     ensures { result.now ≡ announce_reason answer.now }
 {
     match answer {
-        Answer::Number(0) => {
-            b"that actor is outside. If it enters right after this look, it begins at the slots, which lead to nothing that was taken out before."
-        }
-        _ => {
-            b"that actor is inside: what was taken out in its epoch or later waits in the limbo, and this actor goes on."
-        }
+        Answer::Number(epoch) => presence_reason(*epoch),
+        _ => b"",
+    }
+}
+
+fn presence_reason(epoch: u64) -> &'static [u8]
+    ensures { result.now ≡ presence_reason epoch }
+{
+    if epoch == 0 {
+        b"that actor is outside. If it enters right after this look, it begins at the slots, which lead to nothing that was taken out before."
+    } else {
+        b"that actor is inside: what was taken out in its epoch or later waits in the limbo, and this actor goes on."
     }
 }
 
