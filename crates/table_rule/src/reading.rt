@@ -46,7 +46,8 @@ pub fn read_first<P: Law>(
     words.load::<Reading<P>>(seat, place)
 }
 
-/// Loads a word of each cache line in which a page of a large tree has heads and lengths, but for the first. What these words are tells nothing.
+/// Loads a word of each cache line in which a page of a large tree has heads and lengths, but for the first. What these words are tells nothing. A narrow
+/// row is left alone: lines behind its own are those of other rows, which other threads may write.
 #[inline(always)]
 fn look_ahead<P: Law>(
     words: &Words<P>,
@@ -64,7 +65,7 @@ fn look_ahead<P: Law>(
     requires known { KnowsReadable (knows (seen_of seat.old.me) actor) row }
     ensures same { seat.new ≡ seat.old }
 {
-    if limits.is_large {
+    if limits.is_large && u64::from(row) >= limits.narrow_rows {
         look_at::<P>(words, seat, limits, actor, row, place, LINE_WORDS);
         look_at::<P>(words, seat, limits, actor, row, place, 2 * LINE_WORDS);
         look_at::<P>(words, seat, limits, actor, row, place, 3 * LINE_WORDS);
