@@ -105,8 +105,8 @@ static double slice(struct build *build, enum kind kind) {
     for (int i = 0; i < many; i++) {
         const bwtree_bytes *key = &drawn[i];
         if (kind == SCANS_OF_PAIRS) scan(build, *key);
-        else if (kind == HALF_UPSERTS && i % 2) build->upsert(&build->tree, 0, key->bytes, key->length, &value, VALUE, &old);
-        else build->get(&build->tree, 0, key->bytes, key->length, &old);
+        else if (kind == HALF_UPSERTS && i % 2) must(build->upsert(&build->tree, 0, key->bytes, key->length, &value, VALUE, &old) == BWTREE_REPLACED, "an upsert");
+        else must(build->get(&build->tree, 0, key->bytes, key->length, &old) == BWTREE_OK, "a lookup");
     }
     return many / (now() - begin);
 }
