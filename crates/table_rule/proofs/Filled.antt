@@ -2,9 +2,8 @@
 use Rattle.std.proofs.Common.{◌≡◌, ◌≢◌, inl, inr, ℕ, zero, suc, ◌+◌, ◌<◌, ◌≤◌, List, [], ◌∷◌, ◌++◌, length, get_or, set, sym, refl, ap, ◌∙◌, subst, ⊎_elim, arith}
 use Rattle.std.proofs.Common.{add-one, length-append, get_or-set_same, get_or-set_other}
 use Rattle.std.specs.Prelude.{if◌then◌else◌, Bool, true, false, Option, None, Some}
-use Rattle.std.proofs.Math.Seq.{get_or-append_seam}
 use Rattle.std.proofs.lemmas.Bool.{cases_Bool, cases_lt}
-use Rattle.std.proofs.lemmas.List.{get_or-take, get_or_append_left, length-take-le}
+use Rattle.std.proofs.lemmas.List.{get_or-take, length-take-le}
 use Rattle.std.proofs.lemmas.Option.{same_Some}
 use mathlib.Core.Logic.{dite}
 use mathlib.Core.Option.{some}
@@ -25,20 +24,17 @@ use Rattle.compact_rows.specs.Spelling.{compact_words}
 use Rattle.record_slots.specs.Spells.{HasSpelling}
 use Rattle.tree_words.proofs.RowWidths.{few_words, one_width, row_within, some_words}
 use Rattle.tree_words.specs.Layout.{row_at, width_of}
-use Rattle.table_rule.proofs.RowPlaces.{same_place}
 use Rattle.tree_words.specs.Words.{stored, used_in, words_in}
 use Rattle.table_rule.specs.declared.view.Reach.{Reach}
 use Rattle.table_rule.specs.declared.view.Reach.TheVariants.{Idle, Writing, Noted}
 use Rattle.table_rule.specs.declared.view.Part.{Part}
-use Rattle.table_rule.specs.Running.{IsPartWritten, IsSettled, KnowsPlaceable, KeepsRowsApart}
+use Rattle.table_rule.specs.Running.{IsPartWritten, IsSettled, KnowsPlaceable, KeepsRowsApart, LeavesRow}
 use Rattle.table_rule.specs.Steps.{IsLawfulStep, Took, Fills, IsStored, Places, tail_from, used_by, words_over, written_over}
 use Rattle.table_rule.specs.Views.{alone, Mine, seen_of, SitsAt}
 use Rattle.table_rule.proofs.ByWord.{spells_row}
+use Rattle.table_rule.proofs.OwnRows.{may_now, no_other, other_row, others_row, part_stored, stand_with}
 use Rattle.table_rule.proofs.UsedWords.{over_few, over_large, over_small, zero_behind_in}
-use Rattle.table_rule.proofs.Measured.{no_other}
-use Rattle.table_rule.proofs.Parts.{settled_back, starts_self}
-use Rattle.table_rule.proofs.Roster.{set_at}
-use Rattle.table_rule.proofs.Turns.{TableState, Rule, at_each, extends_now, fits_now, knows_now, turn, event_telling}
+use Rattle.table_rule.proofs.Turns.{TableState, Rule, at_each, fits_now, event_telling}
 use Rattle.deltas.proofs.Replaced.{replaced_same, replaced_other}
 
 -- where a seat stands that has written one more word
@@ -59,69 +55,33 @@ pub record IsEnough (limits : Limits) (content : Record) (header first : ℕ) (w
 module _ (limits : Limits) (law : Limits → List Entry → Type 0) (apart : KeepsRowsApart limits (law limits)) where
   module _ (slots id actor : ℕ) (me : Mine) (row first : ℕ) (written : List ℕ) (within : row < limits.rows)
       (is : SitsAt limits actor (Writing row first written) me) (owned : KnowsPlaceable (knows (seen_of me) actor) row) where
-    -- what the seat knows now
-    module _ (s : TableState) (h : Rule limits law s) (there : get_elem? s.views id ≡ some (alone limits actor (seen_of me) (Writing row first written))) where
-      may_now : KnowsPlaceable (knows h.run actor) row
-      may_now = subst (λ k. KnowsPlaceable k row) (sym (knows_now limits law s h id actor (seen_of me) (Writing row first written) tt there)) owned
-
-      -- a row of which the seat has written no word
-      other_row : (i k x other j : ℕ) (view : List Part) → i ≡ row_at limits row k → k < width_of limits row → other < limits.rows → j < width_of limits other
-          → j < used_in limits ((memory_of limits h.run).rows other) → row ≢ other → IsSettled (set s.views id view) other
-          → get_or (set s.words i x) (row_at limits other j) 0 ≡ get_or (words_in limits ((memory_of limits h.run).rows other)) j 0
-      other_row i k x other j view at small below short used ne st =
-          get_or-set_other s.words i (row_at limits other j) x 0 (λ e. ne (same_place limits row other k j small short (omega (arith, e, at))))
-          ∙ h.spells.rows other j below short used (settled_back s.views id limits actor (seen_of me) (Writing row first written) view other there ne st)
-
-      -- a row into which another seat writes
-      others_row : (k x other row' j : ℕ) → k < width_of limits row → other ≢ actor → KnowsPlaceable (knows h.run other) row' → j < width_of limits row'
-          → get_or (set s.words (row_at limits row k) x) (row_at limits row' j) 0 ≡ get_or s.words (row_at limits row' j) 0
-      others_row k x other row' j small ne may short =
-          let no : row' ≢ row = no_other limits law apart actor other row row' h.run h.legal may_now ne may in
-          get_or-set_other s.words (row_at limits row k) (row_at limits row' j) x 0 (λ e. no (same_place limits row' row j k short small (omega (arith, e))))
-
-    -- the words that are written, with one more
-    stand_with : (words : List ℕ) (x : ℕ) → row_at limits row (length written + 1) < length words → ((j : ℕ) → j < length written → get_or words (row_at limits row (j + 1)) 0 ≡ get_or written j 0)
-        → (j : ℕ) → j < length (written ++ x ∷ []) → get_or (set words (row_at limits row (length written + 1)) x) (row_at limits row (j + 1)) 0 ≡ get_or (written ++ x ∷ []) j 0
-    stand_with words x small stand j below = let at : ℕ = row_at limits row (length written + 1) in let more = length-append written (x ∷ []) in dite (ℕ_discrete j (length written))
-        (λ e. ap (λ (k : ℕ). get_or (set words at x) (row_at limits row (k + 1)) 0) e ∙ get_or-set_same words at x 0 small ∙ sym (get_or-append_seam written x [] 0) ∙
-        ap (λ (k : ℕ). get_or (written ++ x ∷ []) k 0) (sym e))
-        (λ ne. get_or-set_other words at (row_at limits row (j + 1)) x 0 (λ e. ne (omega arith)) ∙ stand j (omega arith) ∙ sym (get_or_append_left written (x ∷ []) 0 j (omega arith)))
+    -- The seat is in the midst of placing a record into no other row.
+    leaves : (other : ℕ) → row ≢ other → LeavesRow other (Writing row first written)
+    leaves other ne = ne
 
     pub fills : (x : ℕ) → length written + 1 < width_of limits row → Allows (Rule limits law) slots id me (row_at limits row (length written + 1)) (λ _. x) (λ _. Fills me x)
     fills x short s h _ here _ =
         let there : get_elem? s.views id ≡ some (alone limits actor (seen_of me) (Writing row first written)) = here ∙ ap (λ (z : Mine). some z.0) is in
         let at : ℕ = row_at limits row (length written + 1) in
-        let now = may_now s h there in
         let now_fits = (fits_now limits law s h id actor (seen_of me) (Writing row first written) tt there).reach in
         let more : length (written ++ x ∷ []) ≡ suc (length written) = omega (arith, length-append written (x ∷ [])) in
         let wide = h.wide in
         let inside = row_within limits row within in
         let few = few_words limits row in
-        let view : List Part = alone limits actor (seen_of me) (Writing row first (written ++ x ∷ [])) in
-        let stands : get_elem? (set s.views id view) id ≡ some view = set_at s.views id (alone limits actor (seen_of me) (Writing row first written)) view there in (
+        let view : List Part = alone limits actor (seen_of me) (Writing row first (written ++ x ∷ [])) in (
           view,
           keeps,
           tt,
-          turn limits law s h id actor (seen_of me) (Writing row first written) tt there me.1 at x h.run (seen_of me) (Writing row first (written ++ x ∷ [])) tt h.legal
+          part_stored limits law apart s h id actor (seen_of me) (Writing row first written) tt there row within owned leaves
+              (length written + 1) x first (written ++ x ∷ []) me.1 short
               record {
-                grows = starts_self h.run;
-                extends = λ other seen ne t. t;
-                same = λ other ne. refl;
-                writes = λ other row' ne may _ j small. others_row s h there (length written + 1) x other row' j (omega arith) ne may small;
-                records = λ other row' ne may. refl;
-              }
-              (extends_now limits law s h id actor (seen_of me) (Writing row first written) tt there) h.kept h.begins h.actors
-              record {
-                may = now;
+                may = may_now limits law apart s h id actor (seen_of me) (Writing row first written) tt there row within owned leaves;
                 there = within;
                 short = omega arith;
                 old = now_fits.old;
-                front = stand_with s.words x (omega arith) now_fits.front;
+                front = stand_with limits row written s.words x (omega arith) now_fits.front;
                 behind = λ kind j above small. get_or-set_other s.words at (row_at limits row j) x 0 (λ e. absurd (omega arith)) ∙ now_fits.behind kind j (omega arith) small;
-              }
-              (spells_row limits s.words (memory_of limits h.run) (memory_of limits h.run) (IsSettled s.views) (IsSettled (set s.views id view)) h.spells row
-              (length written + 1) x within (omega arith) refl
-              (λ other j below small used st. other_row s h there at (length written + 1) x other j view refl (omega arith) below small used (st id view stands).0 st)),
+              },
           λ limits' actor' row' first' written' is'. (
             at_each (λ l b reach. SitsAt l b (with_word x reach) (view, me.1)) limits actor (Writing row first written) me is
                 (ap (λ (c : List (ℕ × Unit {0})). (view, c)) (ap (λ (z : Mine). z.1) is)) limits' actor' (Writing row' first' written') is',
@@ -154,8 +114,8 @@ module _ (limits : Limits) (law : Limits → List Entry → Type 0) (apart : Kee
 
         behind : limits.is_large ≡ false → length written ≤ j → get_or s.words (row_at limits row (suc j)) 0 ≡ get_or (stored limits content) (suc j) 0
         behind kind above =
-            let old : used_by (get_or (words_in limits there) 0 0) ≤ length written + 1 = subst (λ (u : ℕ). used_by u ≤ length written + 1) fits.old (enough.both kind).1 in
-            let new : used_by (get_or (stored limits content) 0 0) ≤ length written + 1 = subst (λ (u : ℕ). used_by u ≤ length written + 1) enough.head (enough.both kind).0 in
+            let old : used_by (get_or (words_in limits there) 0 0) ≤ length written + 1 = rw (← fits.old kind) (enough.both kind).1 in
+            let new : used_by (get_or (stored limits content) 0 0) ≤ length written + 1 = rw (← enough.head) (enough.both kind).0 in
             fits.behind kind (suc j) (omega (arith, above)) (let is = (one_width limits kind row).1 in omega (arith, is, small))
             ∙ zero_behind_in limits kind there (λ one e. (h.kept row one e).spelling) (suc j) (omega (arith, old, above))
             ∙ sym (zero_behind_in limits kind (Some content) (λ one e. subst HasSpelling (same_Some content one e) enough.spelled) (suc j) (omega (arith, new, above)))
@@ -169,7 +129,9 @@ module _ (limits : Limits) (law : Limits → List Entry → Type 0) (apart : Kee
         (λ s h there.
         let at : ℕ = row_at limits row 0 in
         let memory : Memory = memory_of limits h.run in
-        let now = may_now s h there in
+        let now = may_now limits law apart s h id actor (seen_of me) (Writing row first written) tt there row within owned leaves in
+        let another = other_row limits law apart s h id actor (seen_of me) (Writing row first written) tt there row within owned leaves in
+        let others = others_row limits law apart s h id actor (seen_of me) (Writing row first written) tt there row within owned leaves in
         let some = some_words limits row in
         let rows : ℕ → Option Record = replaced_at row (Some content) memory.rows in (
           Done,
@@ -181,7 +143,7 @@ module _ (limits : Limits) (law : Limits → List Entry → Type 0) (apart : Kee
                 (placed_word s h header content j (fits_now limits law s h id actor (seen_of me) (Writing row first written) tt there).reach enough (subst (λ (z : ℕ). j < width_of limits z) e small)
                 (subst (λ (o : Option Record). j < used_in limits o) (ap rows e ∙ replaced_same row (Some content) memory.rows) used) ∙ ap
                 (λ o. get_or (words_in limits o) j 0) (sym (replaced_same row (Some content) memory.rows))))
-                (λ ne. other_row s h there at 0 header other j view refl (omega arith) below small
+                (λ ne. another 0 header other j view (omega arith) below small
                 (subst (λ (o : Option Record). j < used_in limits o) (replaced_other row (Some content) memory.rows other ne) used) (λ e. ne (sym e)) st ∙ ap (λ o. get_or (words_in limits o) j 0)
                 (sym (replaced_other row (Some content) memory.rows other ne))));
             kept = λ other stays e. dite (ℕ_discrete other row)
@@ -192,7 +154,7 @@ module _ (limits : Limits) (law : Limits → List Entry → Type 0) (apart : Kee
                   fills = subst (λ (z : Record × ℕ). length (stored limits z.0) ≤ width_of limits z.1) (λ k. (same_Some content stays new k, sym same k)) fits;
                 })
                 (λ ne. h.kept other stays (sym (replaced_other row (Some content) memory.rows other ne) ∙ e));
-            writes = λ other row' ne may' _ j small. others_row s h there 0 header other row' j (omega arith) ne may' small;
+            writes = λ other row' ne may' _ j small. others 0 header other row' j (omega arith) ne may' small;
             records = λ other row' ne may'. replaced_other row (Some content) memory.rows row' (no_other limits law apart actor other row row' h.run h.legal now ne may');
           },
           λ me' is_after took limits' actor' row' first' written' is'.

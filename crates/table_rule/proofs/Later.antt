@@ -235,6 +235,17 @@ operations_turn law = record {
     sits = told.0;
     saw = told.1;
   };
+  begins = λ limits actor row made me me' found large sat word h. let told = h limits actor row large sat word in places record {
+    limits = limits;
+    actor = actor;
+    reach = Idle;
+    reach' = Writing row 0 (found ∷ []);
+    stands = idle_stands;
+    stands' = writing_stands row 0 (found ∷ []);
+    sat = sat;
+    sits = told.0;
+    saw = told.1;
+  };
   fills = λ limits actor row first written me me' found sat h. let told = h limits actor row first written sat in places record {
     limits = limits;
     actor = actor;

@@ -5,7 +5,9 @@ mod ByWord
 mod RowPlaces
 mod RowReads
 mod UsedWords
+mod OwnRows
 mod Measured
+mod Begun
 mod Filled
 mod Roster
 mod Watched

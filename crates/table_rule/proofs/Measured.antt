@@ -1,5 +1,5 @@
 -- The look at an own row's first word, by which a record begins to be placed there, keeps the rule.
-use Rattle.std.proofs.Common.{◌≡◌, ◌≢◌, ℕ, ◌<◌, ◌≤◌, List, [], get_or, sym, refl, ap, ◌∙◌, subst, arith}
+use Rattle.std.proofs.Common.{◌≡◌, ℕ, ◌<◌, ◌≤◌, List, [], get_or, sym, refl, ap, ◌∙◌, subst, arith}
 use Rattle.std.proofs.lemmas.List.{set-get_or}
 use mathlib.Core.Logic.{dite}
 use mathlib.Core.Option.{some, none}
@@ -22,16 +22,13 @@ use Rattle.table_rule.specs.declared.view.Part.{Part}
 use Rattle.table_rule.specs.Running.{Each, IsSettled, KnowsPlaceable, KeepsRowsApart, LeavesRow, PartFits, ReachFits}
 use Rattle.table_rule.specs.Steps.{Measures, used_by}
 use Rattle.table_rule.specs.Views.{alone, Mine, seen_of, SitsAt}
+use Rattle.table_rule.proofs.OwnRows.{no_other}
 use Rattle.table_rule.proofs.UsedWords.{all_used, few_in, some_used}
 use Rattle.table_rule.proofs.Parts.{IsApart, apart_ne, each_zip, elsewhere, times_alone}
 use Rattle.table_rule.proofs.Roster.{same_view}
 use Rattle.table_rule.proofs.Turns.{TableState, Rule, extends_now, knows_now, turn, same_actor, same_limits, spares_quiet, spells_quiet}
 
 module _ (limits : Limits) (law : Limits → List Entry → Type 0) (apart : KeepsRowsApart limits (law limits)) where
-  -- The row into which one actor may place a record is no other's.
-  pub no_other : (actor other row row' : ℕ) (run : List Entry) → law limits run → KnowsPlaceable (knows run actor) row → other ≢ actor → KnowsPlaceable (knows run other) row' → row' ≢ row
-  no_other actor other row row' run legal may ne may' e = ne (apart.one_owner other actor row run legal (subst (λ (z : ℕ). KnowsPlaceable (knows run other) z) e may') may)
-
   -- No seat writes into a row of an idle seat's own.
   module _ (s : TableState) (h : Rule limits law s) (id actor : ℕ) (seen : List Entry) (there : get_elem? s.views id ≡ some (alone limits actor seen Idle)) (row : ℕ)
       (may : KnowsPlaceable (knows h.run actor) row) where
@@ -41,7 +38,7 @@ module _ (limits : Limits) (law : Limits → List Entry → Type 0) (apart : Kee
         go : (reach : Reach) → IsApart actor other.actor reach → ReachFits limits s.words h.run other.actor reach → LeavesRow row reach
         go Idle away fits = tt
         go Noted away fits = tt
-        go (Writing at first written) away fits = no_other actor other.actor row at h.run h.legal may (apart_ne actor other.actor away) fits.may
+        go (Writing at first written) away fits = no_other limits law apart actor other.actor row at h.run h.legal may (apart_ne actor other.actor away) fits.may
 
     own_settled : IsSettled s.views row
     own_settled j view here = let one = times_alone limits actor seen Idle tt in dite (ℕ_discrete j id)
@@ -71,7 +68,7 @@ module _ (limits : Limits) (law : Limits → List Entry → Type 0) (apart : Kee
                 may = may;
                 there = within;
                 short = omega arith;
-                old = first;
+                old = λ small. first;
                 front = λ j below. absurd (omega arith);
                 behind = λ kind j above small. ap (λ (words : List ℕ). get_or words (row_at limits row j) 0) (set-get_or s.words at 0)
                     ∙ h.spells.rows row j within (let is = (one_width limits kind row).1 in omega (arith, is, small)) (all_used limits kind (memory.rows row) j small) settled;
@@ -79,7 +76,7 @@ module _ (limits : Limits) (law : Limits → List Entry → Type 0) (apart : Kee
               (spells_quiet limits law s h id actor (seen_of me) there at view),
           λ limits' actor' row' is' word.
               let tree : limits ≡ limits' = same_limits limits limits' actor actor' Idle Idle me is is' in
-              let row_same : row ≡ row' = same_row limits limits' tree row row' word in
+              let row_same : row ≡ row' = same_row limits limits' tree row row' 0 (omega arith) word in
               let sits : SitsAt limits actor (Writing row n []) (view, me.1) = ap (λ (c : List (ℕ × Unit {0})). (view, c)) (ap (λ (z : Mine). z.1) is) in (
                 subst (λ (z : Limits × ℕ × ℕ). SitsAt z.0 z.1 (Writing z.2 n []) (view, me.1))
                     (λ k. (same_limits limits limits' actor actor' Idle Idle me is is' k, same_actor limits limits' actor actor' Idle Idle me is is' k, row_same k)) sits,

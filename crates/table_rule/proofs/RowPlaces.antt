@@ -10,9 +10,10 @@ use Rattle.tree_words.specs.Layout.{row_at, width_of}
 pub same_place : (limits : Limits) (row other i j : ℕ) → i < width_of limits row → j < width_of limits other → row_at limits row i ≡ row_at limits other j → row ≡ other
 same_place limits row other i j a b e = dite (ℕ_discrete row other) (λ same. same) (λ ne. absurd (rows_apart limits row other i j ne a b (omega (arith, e))))
 
-pub same_row : (limits limits' : Limits) → limits ≡ limits' → (row other : ℕ) → row_at limits row 0 ≡ row_at limits' other 0 → row ≡ other
-same_row limits limits' tree row other e =
-    let here : row_at limits row 0 ≡ row_at limits other 0 = subst (λ (l : Limits). row_at limits row 0 ≡ row_at l other 0) (sym tree) e in
+-- rows whose words at one place are one
+pub same_row : (limits limits' : Limits) → limits ≡ limits' → (row other i : ℕ) → i < 8 → row_at limits row i ≡ row_at limits' other i → row ≡ other
+same_row limits limits' tree row other i few e =
+    let here : row_at limits row i ≡ row_at limits other i = subst (λ (l : Limits). row_at limits row i ≡ row_at l other i) (sym tree) e in
     let one = some_words limits row in
     let two = some_words limits other in
-    same_place limits row other 0 0 (omega (arith, one)) (omega (arith, two)) here
+    same_place limits row other i i (omega (arith, one, few)) (omega (arith, two, few)) here

@@ -140,7 +140,7 @@ module _ (limits : Limits) (law : Limits → List Entry → Type 0) (apart : Kee
           },
           λ me' is_after took limits' actor' row' is' word.
               let tree : limits ≡ limits' = same_limits limits limits' actor actor' Idle Idle me is is' in
-              let row_same : row ≡ row' = same_row limits limits' tree row row' word in
+              let row_same : row ≡ row' = same_row limits limits' tree row row' 0 (omega arith) word in
               subst (λ (z : Limits × ℕ × ℕ). SitsAt z.0 z.1 Idle me' × ReadsFirst law z.0 z.1 (seen_of me) z.2 n (seen_of me'))
               (λ k. (same_limits limits limits' actor actor' Idle Idle me is is' k, same_actor limits limits' actor actor' Idle Idle me is is' k, row_same k))
               (is_after, (x.0, x.2, first, took)),

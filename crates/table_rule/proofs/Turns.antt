@@ -99,7 +99,7 @@ module _ (limits : Limits) (law : Limits → List Entry → Type 0) where
           may = subst (λ k. KnowsPlaceable k row) (sym (spares.same other ne)) fits.may;
           there = fits.there;
           short = fits.short;
-          old = fits.old ∙ ap (λ o. get_or (words_in limits o) 0 0) still;
+          old = λ kind. fits.old kind ∙ ap (λ o. get_or (words_in limits o) 0 0) still;
           front = λ j below. stay (j + 1) (omega arith) ∙ fits.front j below;
           behind = λ kind j above small. stay j (let is = (one_width limits kind row).1 in omega (arith, is, small)) ∙ fits.behind kind j above small ∙ ap (λ o. get_or (words_in limits o) j 0) still;
         },

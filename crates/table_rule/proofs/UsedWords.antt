@@ -17,7 +17,7 @@ use Rattle.compact_rows.proofs.Parts.{count_is}
 use Rattle.tree_words.proofs.RowWidths.{one_width, some_words}
 use Rattle.tree_words.specs.Layout.{width_of}
 use Rattle.tree_words.specs.Words.{stored, used_in, words_in}
-use Rattle.table_rule.specs.Steps.{IsStored, tail_from, used_by, used_by_either, words_over}
+use Rattle.table_rule.specs.Steps.{IsStored, begun_over, tail_from, used_by, used_by_either, words_over}
 
 zeros_are : (n j : ℕ) → ◌≡◌ {A = ℕ} (get_or (replicate n 0) j 0) 0
 zeros_are n j = ⊎_elim (λ below. get_or-replicate n j 0 0 below) (λ above. get_or_past (replicate n 0) j 0 (omega (arith, above, length-replicate {A = ℕ} n 0))) (cases_lt j n)
@@ -100,6 +100,18 @@ pub tail_length : (xs : List ℕ) → length (tail_from xs) ≡ length xs - 1
 tail_length [] = refl
 tail_length (x ∷ xs) = omega arith
 
+-- what is written by the operation with which a record begins to be placed
+pub begun_two : (limits : Limits) (words : List ℕ) → limits.is_large ≡ true → 1 < length words → begun_over limits words ≡ get_or words 1 0 ∷ []
+begun_two limits words large two = rw large (by words two)
+  where
+    by : (words : List ℕ) → 1 < length words → take 1 (tail_from words) ≡ get_or words 1 0 ∷ []
+    by [] two = absurd (omega arith)
+    by (one ∷ []) two = absurd (omega arith)
+    by (one ∷ other ∷ words) two = refl
+
+pub begun_none : (limits : Limits) (words : List ℕ) → limits.is_large ≡ false → begun_over limits words ≡ []
+begun_none limits words small = rw small refl
+
 -- The words that are written over are words of the row, and of those that are placed.
 module _ (limits : Limits) (first : ℕ) (content : Record) (words : List ℕ) (is : IsStored limits content words) where
   pub stored_some : 0 < length words
@@ -108,6 +120,14 @@ module _ (limits : Limits) (first : ℕ) (content : Record) (words : List ℕ) (
       by : (large : Bool) → (if large then compact_words content else words_of content) ≡ words → 0 < length words
       by true are = let l = ap length are in omega arith
       by false are = let l = ap length are in let m = spelling_length content (words_of content) is.spelling in omega arith
+
+  -- in a large tree each record has a second word
+  pub stored_two : limits.is_large ≡ true → 1 < length words
+  stored_two large = by limits.is_large large is.are
+    where
+      by : (b : Bool) → b ≡ true → (if b then compact_words content else words_of content) ≡ words → 1 < length words
+      by true e are = let l = ap length are in omega arith
+      by false e are = cc
 
   pub over_few : (row : ℕ) → length words ≤ width_of limits row → used_by first ≤ row_size
       → (words_over limits first words < width_of limits row) × (words_over limits first words ≤ length (tail_from words))
@@ -129,6 +149,15 @@ module _ (limits : Limits) (first : ℕ) (content : Record) (words : List ℕ) (
           let few = few_of_either first content words room spelt in
           let tail = tail_length words in
           (omega arith, omega arith)
+
+  -- The operation with which it begins to be placed writes no more words than are written over.
+  pub begun_few : (if limits.is_large then 1 else 0) ≤ words_over limits first words
+  begun_few = by limits.is_large refl
+    where
+      by : (large : Bool) → limits.is_large ≡ large
+          → (if large then 1 else 0) ≤ (if large then length words - 1 else used_by_either first (get_or words 0 0) - 1)
+      by true e = let two = stored_two e in omega arith
+      by false e = omega arith
 
   pub over_large : limits.is_large ≡ true → length (compact_words content) ≤ words_over limits first words + 1
   over_large large = by limits.is_large large is.are

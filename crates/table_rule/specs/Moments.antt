@@ -1,5 +1,5 @@
 -- What one atomic operation of a seat makes of a table, and which moments of a table come after one.
-use Rattle.std.specs.Prelude.{◌≡◌, ◌≢◌, ◌<◌, ℕ, List, [], ◌∷◌, ◌++◌, Option, length, slice_index, slice_set}
+use Rattle.std.specs.Prelude.{◌≡◌, ◌≢◌, ◌<◌, ℕ, List, [], ◌∷◌, ◌++◌, Option, true, length, slice_index, slice_set}
 use mathlib.Core.Option.{some}
 use lib.ListN.{get_elem?}
 use Rattle.atomic_table.specs.Table.{Act, Allows, Enters, Joins, Splits, State, Step as Made, carried_after, stepped}
@@ -18,7 +18,7 @@ use Rattle.table_rule.specs.declared.view.Part.{Part}
 use Rattle.table_rule.specs.declared.view.Reach.{Reach}
 use Rattle.table_rule.specs.declared.view.Reach.TheVariants.{Idle, Noted, Writing}
 use Rattle.table_rule.specs.Running.{Running}
-use Rattle.table_rule.specs.Steps.{Acts, Fills, Looks, Measures, Places, ReadsRow, Took, Watches}
+use Rattle.table_rule.specs.Steps.{Acts, Begins, Fills, Looks, Measures, Places, ReadsRow, Took, Watches}
 use Rattle.table_rule.specs.Views.{HasPart, IsBlank, IsRefreshed, Mine, Refreshes, SitsAt, first_part, other_parts, part_note, seen_of}
 
 -- a moment of a table: its words, and what each of its seats knows, those seats and notes included that were let go
@@ -94,6 +94,8 @@ pub record OperationsTurn (law : Limits → List Entry → Type 0) : Type 0 wher
       → Watches law made me found me' → Turns law me me'
   pub measures : (limits : Limits) (actor row : ℕ) (made : Made (Unit {0})) (me me' : Mine) (found : ℕ)
       → SitsAt limits actor Idle me → made.word ≡ row_at limits row 0 → Measures made me found me' → Turns law me me'
+  pub begins : (limits : Limits) (actor row : ℕ) (made : Made (Unit {0})) (me me' : Mine) (found : ℕ)
+      → limits.is_large ≡ true → SitsAt limits actor Idle me → made.word ≡ row_at limits row 1 → Begins made me found me' → Turns law me me'
   pub fills : (limits : Limits) (actor row first : ℕ) (written : List ℕ) (me me' : Mine) (found : ℕ)
       → SitsAt limits actor (Writing row first written) me → Fills me found me' → Turns law me me'
   pub places : (limits : Limits) (actor row first : ℕ) (written : List ℕ) (step : StepOf Record) (me me' : Mine) (found : ℕ)

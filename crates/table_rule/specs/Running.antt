@@ -65,12 +65,13 @@ everywhere actor [] = 0
 everywhere actor (view ∷ views) = times actor view + everywhere actor views
 
 -- A row of the actor's own, into which it may place a record, is in part written: what was written stands behind the first word. In a small tree
--- the words of the record that the memory has there stand behind that, or zeros where it has none. This is the first word that it has there.
+-- the words of the record that the memory has there stand behind that, or zeros where it has none, and `first` is the first word that it has there.
+-- In a large tree that word isn't known: it is not loaded, and `first` may be any number.
 pub record IsPartWritten (limits : Limits) (words : List ℕ) (run : List Entry) (actor row first : ℕ) (written : List ℕ) : Type 0 where
   pub may : KnowsPlaceable (knows run actor) row
   pub there : row < limits.rows
   pub short : length written < width_of limits row
-  pub old : first ≡ slice_index (words_in limits ((memory_of limits run).rows row)) 0
+  pub old : limits.is_large ≡ false → first ≡ slice_index (words_in limits ((memory_of limits run).rows row)) 0
   pub front : (j : ℕ) → j < length written → slice_index words (row_at limits row (j + 1)) ≡ slice_index written j
   pub behind : limits.is_large ≡ false → (j : ℕ) → length written < j → j < row_size → slice_index words (row_at limits row j) ≡ slice_index (words_in limits ((memory_of limits run).rows row)) j
 

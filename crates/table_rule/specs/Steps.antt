@@ -1,5 +1,5 @@
 -- Steps of an actor by its seat: what one is asked, and what it tells.
-use Rattle.std.specs.Prelude.{◌≡◌, ℕ, ◌+◌, ◌-◌, ◌*◌, ◌/◌, ◌%◌, ◌<◌, ◌≤◌, if◌then◌else◌, List, [], ◌∷◌, ◌++◌, length, max, slice_index, take, Option, None, Some}
+use Rattle.std.specs.Prelude.{◌≡◌, ℕ, ◌+◌, ◌-◌, ◌*◌, ◌/◌, ◌%◌, ◌<◌, ◌≤◌, if◌then◌else◌, List, [], ◌∷◌, ◌++◌, true, length, max, slice_index, take, Option, None, Some}
 use Rattle.atomic_table.specs.Table.{Step as Made}
 use Rattle.bw_model.specs.declared.command.Command.{Command}
 use Rattle.bw_model.specs.declared.command.Reply.{Reply}
@@ -124,11 +124,22 @@ words_over limits first words = if limits.is_large then length words - 1 else us
 abbrev pub written_over : Limits → ℕ → List ℕ → List ℕ
 written_over limits first words = take (words_over limits first words) (tail_from words)
 
+-- what is written behind the header by the operation with which a record begins to be placed: in a large tree, where each record has a
+-- second word, that one
+abbrev pub begun_over : Limits → List ℕ → List ℕ
+begun_over limits words = take (if limits.is_large then 1 else 0) (tail_from words)
+
 -- The first word of an own row is looked at, by which a record begins to be placed there; the row has all words that it says are used.
 -- No step is taken.
 abbrev pub Measures : Made (Unit {0}) → Mine → ℕ → Mine → Type 0
 Measures made me found me' = (limits : Limits) (actor row : ℕ) → SitsAt limits actor Idle me → made.word ≡ row_at limits row 0
     → SitsAt limits actor (Writing row found []) me' × (seen_of me' ≡ seen_of me) × (used_by found ≤ row_size)
+
+-- The second word of an own row is written, by which a record begins to be placed there in a large tree, whatever the first word is.
+-- No step is taken.
+abbrev pub Begins : Made (Unit {0}) → Mine → ℕ → Mine → Type 0
+Begins made me found me' = (limits : Limits) (actor row : ℕ) → limits.is_large ≡ true → SitsAt limits actor Idle me → made.word ≡ row_at limits row 1
+    → SitsAt limits actor (Writing row 0 (found ∷ [])) me' × (seen_of me' ≡ seen_of me)
 
 -- One more word of a row is written behind the header, and the header, which is the step: it is told with the record.
 abbrev pub Fills : Mine → ℕ → Mine → Type 0

@@ -12,8 +12,8 @@
 //!   bits. An operation's begin is appended with its first step, and a reply with the leave.
 //! - *Reading a record* (`read_first`): the load of the row's first word is the step. Later loads of its words (`look_at`) are no steps: the record cannot
 //!   change while its reader is inside.
-//! - *Placing a record* (`place_row`): one load of the first word, stores of the words behind it, and last a store of the first word, which is the step. Until
-//!   then the row counts as it was. No other seat may read or place in that row, so nobody sees the words in between.
+//! - *Placing a record* (`place_row`): in a small tree one load of the first word; then stores of the words behind it, and last a store of the first word,
+//!   which is the step. Until then the row counts as it was. No other seat may read or place in that row, so nobody sees the words in between.
 //! - *Watching and refreshing* (`watch`, `refresh`): one load each, which is no step. The seat has then seen the longest run.
 //!
 //! Nobody helps here: a step is one seat's, and ends with its atomic operation. A thread that stops while it places a row keeps that row, and no other.

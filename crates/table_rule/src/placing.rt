@@ -1,5 +1,6 @@
-//! The step that goes word by word: a record is placed. Behind the words that a record uses a row has zeros, so only those are written that
-//! the new record uses, or the one that stood there before.
+//! The step that goes word by word: a record is placed. In a small tree a row has zeros behind the words that its record uses, so only those are written
+//! that the new record uses, or the one that was placed there before. How many that one uses is in its first word, which is loaded. In a large tree nobody
+//! looks behind the words that a record uses, so only those are written, and nothing is loaded.
 ghost use Rattle.std.specs.Prelude.{◌≡◌, ◌<◌, ◌≤◌, [], None, length};
 ghost use Rattle.tree_words.specs.Layout.{width_of};
 ghost use Rattle.bw_model.specs.declared.step.Answer.TheVariants.{Done};
@@ -9,10 +10,10 @@ ghost use Rattle.deltas.specs.declared.record.Record.{Record};
 ghost use Rattle.record_slots.specs.declared.layout.TheConstants.{ROW_WORDS};
 ghost use Rattle.table_rule.specs.declared.view.Reach.TheVariants.{Idle, Writing};
 ghost use Rattle.table_rule.specs.Running.{KeepsRowsApart, KnowsPlaceable};
-ghost use Rattle.table_rule.specs.Steps.{IsLawfulStep, IsStored, Took, used_by, written_over};
+ghost use Rattle.table_rule.specs.Steps.{IsLawfulStep, IsStored, Took, begun_over, used_by, written_over};
 ghost use Rattle.table_rule.specs.Views.{SitsAt, IsOf, seen_of};
 
-use crate::plays::{Filling, Measuring, Placing, Telling};
+use crate::plays::{Beginning, Filling, Measuring, Placing, Telling};
 use crate::rule::{Law, TableSeat, Words};
 use crate::used::words_over;
 use bw_model::Limits;
@@ -20,8 +21,19 @@ use deltas::Record;
 use std::marker::Brand;
 use tree_words::row_place;
 
-/// Places a record into a row of the seat's own actor, by one load of the row's first word, and one store of each word that the record
-/// uses, or the one that was placed there before. The last store, of the header, is the step.
+/// A record that is to be placed.
+#[derive(Clone, Copy)]
+struct Placed<'a> {
+    /// The row into which it is placed.
+    row: u32,
+    /// The record, for the contracts alone.
+    content: &'a Record,
+    /// Its words.
+    spelt: &'a [u64],
+}
+
+/// Places a record into a row of the seat's own actor, by one store of each word that is written over. The last store, of the header, is the step. In a
+/// small tree one load of the row's first word comes before.
 pub fn place_row<P: Law>(
     words: &Words<P>,
     seat: &mut TableSeat,
@@ -43,92 +55,99 @@ pub fn place_row<P: Law>(
     ensures seat { SitsAt limits.now actor Idle seat.new.me }
     ensures took { Took P.law limits.now actor (seen_of seat.old.me) None (Place row content.now) Done None (seen_of seat.new.me) }
 {
-    let first = measure_row::<P>(words, seat, limits, actor, row);
-    fill_row::<P>(words, seat, limits, actor, row, first, content, spelt);
-    place_header::<P, Brand>(words, seat, limits, actor, row, first, content, spelt);
+    let placed = Placed {
+        row,
+        content,
+        spelt,
+    };
+    let first = begin_row::<P>(words, seat, limits, actor, &placed);
+    fill_row::<P>(words, seat, limits, actor, first, &placed);
+    place_header::<P, Brand>(words, seat, limits, actor, first, &placed);
 }
 
-/// Begins to place a record into a row, whose first word tells how many words are to be written over.
-fn measure_row<P: Law>(
+/// Begins to place a record into a row. In a small tree it loads the row's first word, which contains how many words the record there uses, and returns
+/// it. In a large tree, where that is not needed, it stores the new record's second word, and returns 0.
+fn begin_row<P: Law>(
     words: &Words<P>,
     seat: &mut TableSeat,
     limits: &Limits,
     actor: u8,
-    row: u32,
+    placed: &Placed,
 ) -> u64
     requires law { KeepsRowsApart limits.now (P.law limits.now) }
     requires table { IsOf limits.now words.now.key words.now.table_id seat.old.table_id }
-    requires range { row < limits.now.rows }
+    requires range { placed.now.row < limits.now.rows }
+    requires spelt { IsStored limits.now placed.now.content.now placed.now.spelt.now }
     requires seat { SitsAt limits.now actor Idle seat.old.me }
-    requires owned { KnowsPlaceable (knows (seen_of seat.old.me) actor) row }
+    requires owned { KnowsPlaceable (knows (seen_of seat.old.me) actor) placed.now.row }
     ensures same { seat.new.table_id ≡ seat.old.table_id }
-    ensures seat { SitsAt limits.now actor (Writing row result []) seat.new.me }
+    ensures seat { SitsAt limits.now actor (Writing placed.now.row result (begun_over limits.now placed.now.spelt.now)) seat.new.me }
     ensures seen { seen_of seat.new.me ≡ seen_of seat.old.me }
     ensures room { used_by result ≤ ROW_WORDS }
 {
     let _ = actor;
-    words.load::<Measuring>(seat, row_place(limits, row))
+    let base = row_place(limits, placed.row);
+    if limits.is_large {
+        words.store::<Beginning>(seat, base + 1, placed.spelt[1]);
+        0
+    } else {
+        words.load::<Measuring>(seat, base)
+    }
 }
 
-/// Writes the words behind the header, by one store each.
+/// Writes the other words behind the header, by one store each.
 fn fill_row<P: Law>(
     words: &Words<P>,
     seat: &mut TableSeat,
     limits: &Limits,
     actor: u8,
-    row: u32,
     first: u64,
-    content: &Record,
-    spelt: &[u64],
+    placed: &Placed,
 )
     requires law { KeepsRowsApart limits.now (P.law limits.now) }
     requires table { IsOf limits.now words.now.key words.now.table_id seat.old.table_id }
-    requires range { row < limits.now.rows }
-    requires spelt { IsStored limits.now content.now spelt.now }
-    requires fits { length spelt.now ≤ width_of limits.now row }
+    requires range { placed.now.row < limits.now.rows }
+    requires spelt { IsStored limits.now placed.now.content.now placed.now.spelt.now }
+    requires fits { length placed.now.spelt.now ≤ width_of limits.now placed.now.row }
     requires room { used_by first ≤ ROW_WORDS }
-    requires seat { SitsAt limits.now actor (Writing row first []) seat.old.me }
-    requires owned { KnowsPlaceable (knows (seen_of seat.old.me) actor) row }
+    requires seat { SitsAt limits.now actor (Writing placed.now.row first (begun_over limits.now placed.now.spelt.now)) seat.old.me }
+    requires owned { KnowsPlaceable (knows (seen_of seat.old.me) actor) placed.now.row }
     ensures same { seat.new.table_id ≡ seat.old.table_id }
-    ensures seat { SitsAt limits.now actor (Writing row first (written_over limits.now first spelt.now)) seat.new.me }
+    ensures seat { SitsAt limits.now actor (Writing placed.now.row first (written_over limits.now first placed.now.spelt.now)) seat.new.me }
     ensures seen { seen_of seat.new.me ≡ seen_of seat.old.me }
 {
-    let _ = content;
-    let base = row_place(limits, row);
-    let behind = words_over(limits, first, spelt);
-    let mut i = 0;
+    let base = row_place(limits, placed.row);
+    let behind = words_over(limits, first, placed.spelt);
+    let mut i = usize::from(limits.is_large);
     while i < behind {
-        words.store::<Filling>(seat, base + i + 1, spelt[i + 1]);
+        words.store::<Filling>(seat, base + i + 1, placed.spelt[i + 1]);
         i += 1;
     }
 }
 
-/// Writes the header of a row whose other words stand.
+/// Writes the header of a row whose other words are written.
 fn place_header<P: Law, C: Telling>(
     words: &Words<P>,
     seat: &mut TableSeat,
     limits: &Limits,
     actor: u8,
-    row: u32,
     first: u64,
-    content: &Record,
-    spelt: &[u64],
+    placed: &Placed,
 )
-    requires told { Place row content.now ≡ C.step }
+    requires told { Place placed.now.row placed.now.content.now ≡ C.step }
     requires law { KeepsRowsApart limits.now (P.law limits.now) }
     requires table { IsOf limits.now words.now.key words.now.table_id seat.old.table_id }
-    requires range { row < limits.now.rows }
-    requires spelt { IsStored limits.now content.now spelt.now }
-    requires fits { length spelt.now ≤ width_of limits.now row }
+    requires range { placed.now.row < limits.now.rows }
+    requires spelt { IsStored limits.now placed.now.content.now placed.now.spelt.now }
+    requires fits { length placed.now.spelt.now ≤ width_of limits.now placed.now.row }
     requires room { used_by first ≤ ROW_WORDS }
-    requires seat { SitsAt limits.now actor (Writing row first (written_over limits.now first spelt.now)) seat.old.me }
-    requires owned { KnowsPlaceable (knows (seen_of seat.old.me) actor) row }
-    requires may { IsLawfulStep P.law limits.now actor (seen_of seat.old.me) None (Place row content.now) None }
+    requires seat { SitsAt limits.now actor (Writing placed.now.row first (written_over limits.now first placed.now.spelt.now)) seat.old.me }
+    requires owned { KnowsPlaceable (knows (seen_of seat.old.me) actor) placed.now.row }
+    requires may { IsLawfulStep P.law limits.now actor (seen_of seat.old.me) None (Place placed.now.row placed.now.content.now) None }
     ensures same { seat.new.table_id ≡ seat.old.table_id }
     ensures seat { SitsAt limits.now actor Idle seat.new.me }
-    ensures took { Took P.law limits.now actor (seen_of seat.old.me) None (Place row content.now) Done None (seen_of seat.new.me) }
+    ensures took { Took P.law limits.now actor (seen_of seat.old.me) None (Place placed.now.row placed.now.content.now) Done None (seen_of seat.new.me) }
 {
     let _ = first;
-    let _ = content;
-    words.store::<Placing<P, C>>(seat, row_place(limits, row), spelt[0]);
+    words.store::<Placing<P, C>>(seat, row_place(limits, placed.row), placed.spelt[0]);
 }

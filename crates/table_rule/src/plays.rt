@@ -74,13 +74,22 @@ impl<P: Law> Play<(), View> for Watching<P> {
     ghost then = { Watches P.law };
 }
 
-/// The first word of an own row is looked at, by which a record begins to be placed there.
+/// The first word of an own row is looked at, by which a record begins to be placed there, in a small tree.
 pub(crate) struct Measuring;
 
 impl Play<(), View> for Measuring {
     ghost use Rattle.table_rule.specs.Steps.{Measures};
 
     ghost then = { Measures };
+}
+
+/// The second word of an own row is written, by which a record begins to be placed there, in a large tree.
+pub(crate) struct Beginning;
+
+impl Play<(), View> for Beginning {
+    ghost use Rattle.table_rule.specs.Steps.{Begins};
+
+    ghost then = { Begins };
 }
 
 /// One more word of a row is written, behind the header.

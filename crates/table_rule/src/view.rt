@@ -8,8 +8,8 @@ use traces::Entry;
 pub enum Reach {
     /// Between two steps.
     Idle,
-    /// In the midst of placing a record into this row, with the first word that stands there until then, and the words that the seat has
-    /// written behind it.
+    /// In the midst of placing a record into this row, with the words that the seat has written behind the first one. In a small tree the
+    /// number is the first word that stands there until then; in a large tree, where that word is not loaded, it is 0.
     Writing(u32, u64, LinkedList<u64>),
     /// Nowhere: this is a note of what the actor had seen, with which no step is taken.
     Noted,

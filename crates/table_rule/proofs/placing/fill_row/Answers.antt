@@ -1,9 +1,8 @@
-use Rattle.std.proofs.Common.{◌≡◌, ℕ, ◌+◌, List, [], ◌∷◌, ◌++◌, length, take, get_or, sym, ap, ◌∙◌, subst, arith, add-one}
+use Rattle.std.proofs.Common.{◌≡◌, ℕ, ◌+◌, List, [], ◌∷◌, ◌++◌, length, take, get_or, ◌∙◌, arith, add-one}
 use Rattle.std.proofs.lemmas.List.{length-take-le}
 use Rattle.std.proofs.Math.Seq.{take-suc}
-use Rattle.table_rule.specs.declared.view.Reach.TheVariants.{Writing}
 use Rattle.table_rule.specs.Steps.{tail_from}
-use Rattle.table_rule.specs.Views.{seen_of, SitsAt}
+use Rattle.table_rule.specs.Views.{seen_of}
 use Rattle.tree_words.proofs.RowWidths.{few_words, row_few, row_within}
 use Rattle.table_rule.proofs.UsedWords.{over_few, stored_some, tail_length}
 use Rattle.table_rule.proofs.Filled.{fills_at, next_in_tail}
@@ -11,56 +10,62 @@ use Rattle.table_rule.proofs.placing.fill_row.Goals as goal
 
 pub store-requires : goal.store-requires
 store-requires g c =
+    let placed = c.args.placed.now in
     let v = c.loop-i.invariant in
-    let few = over_few c.args.limits.now c.args.first c.args.content.now c.args.spelt.now c.requires.spelt c.args.row c.requires.fits c.requires.room in
+    let few = over_few c.args.limits.now c.args.first placed.content.now placed.spelt.now c.requires.spelt placed.row c.requires.fits c.requires.room in
     let over = c.words_over-behind.ensures in
     let test = c.loop-i-test.true in
-    let written : List ℕ = take c.loop-i.i (tail_from c.args.spelt.now) in
-    let k : length written ≡ c.loop-i.i = length-take-le c.loop-i.i (tail_from c.args.spelt.now) (omega (arith, few.1, over, test)) in
+    let written : List ℕ = take c.loop-i.i (tail_from placed.spelt.now) in
+    let k : length written ≡ c.loop-i.i = length-take-le c.loop-i.i (tail_from placed.spelt.now) (omega (arith, few.1, over, test)) in
     let base = c.row_place-base.ensures in
     let wide = c.requires.table.wide in
-    let inside = row_within c.args.limits.now c.args.row c.requires.range in
-    let width = few_words c.args.limits.now c.args.row in (
+    let inside = row_within c.args.limits.now placed.row c.requires.range in
+    let width = few_words c.args.limits.now placed.row in (
       v.table ∙ c.requires.table.same,
       omega (arith, c.requires.range, wide, base, few.0, over, test, inside, width),
-      fills_at g.P.Law.law _ c.args.limits.now c.requires.table.own c.requires.law _ _ c.args.actor _ c.args.row c.args.first written _
+      fills_at g.P.Law.law _ c.args.limits.now c.requires.table.own c.requires.law _ _ c.args.actor _ placed.row c.args.first written _
           (seen_of c.args.seat.now.me) v.seen c.requires.range v.at c.requires.owned _ (omega (arith, base, k)) (omega (arith, few.0, over, test, k)),
     )
 
 pub loop-i-preserved : goal.loop-i-preserved
 loop-i-preserved g c =
+    let placed = c.args.placed.now in
     let v = c.loop-i.invariant in
-    let few = over_few c.args.limits.now c.args.first c.args.content.now c.args.spelt.now c.requires.spelt c.args.row c.requires.fits c.requires.room in
+    let few = over_few c.args.limits.now c.args.first placed.content.now placed.spelt.now c.requires.spelt placed.row c.requires.fits c.requires.room in
     let over = c.words_over-behind.ensures in
     let test = c.loop-i-test.true in
-    let written : List ℕ = take c.loop-i.i (tail_from c.args.spelt.now) in
-    let told = c.store.ensures.2 c.args.limits.now c.args.actor c.args.row c.args.first written v.at in
-    let more : take (c.loop-i.i + 1) (tail_from c.args.spelt.now) ≡ written ++ get_or c.args.spelt.now (c.loop-i.i + 1) 0 ∷ [] =
-    ap (λ (j : ℕ). take j (tail_from c.args.spelt.now)) (add-one c.loop-i.i) ∙ take-suc (tail_from c.args.spelt.now) c.loop-i.i 0 (omega (arith, few.1, over, test)) ∙
-    ap (λ (u : ℕ). written ++ u ∷ []) (sym (next_in_tail c.args.spelt.now c.loop-i.i)) in
+    let written : List ℕ = take c.loop-i.i (tail_from placed.spelt.now) in
+    let told = c.store.ensures.2 c.args.limits.now c.args.actor placed.row c.args.first written v.at in
+    let more : take (c.loop-i.i + 1) (tail_from placed.spelt.now) ≡ written ++ get_or placed.spelt.now (c.loop-i.i + 1) 0 ∷ [] =
+    rw (next_in_tail placed.spelt.now c.loop-i.i, add-one c.loop-i.i)
+    (take-suc (tail_from placed.spelt.now) c.loop-i.i 0 (omega (arith, few.1, over, test))) in
     record {
       within = omega (arith, c.loop-i-test.true);
       table = c.store.ensures.0 ∙ v.table;
       seen = told.1 ∙ v.seen;
-      at = subst (λ (words : List ℕ). SitsAt c.args.limits.now c.args.actor (Writing c.args.row c.args.first words) c.store.new.seat.me) (sym more) told.0;
+      at = rw more told.0;
     }
 
 pub words_over-behind-requires : goal.words_over-behind-requires
-words_over-behind-requires g c = stored_some c.args.limits.now c.args.first c.args.content.now c.args.spelt.now c.requires.spelt
+words_over-behind-requires g c =
+    let placed = c.args.placed.now in
+    stored_some c.args.limits.now c.args.first placed.content.now placed.spelt.now c.requires.spelt
 
-pub bounds-spelt-i : goal.bounds-spelt-i
-bounds-spelt-i g c =
-    let few = over_few c.args.limits.now c.args.first c.args.content.now c.args.spelt.now c.requires.spelt c.args.row c.requires.fits c.requires.room in
+pub bounds-placed-i : goal.bounds-placed-i
+bounds-placed-i g c =
+    let placed = c.args.placed.now in
+    let few = over_few c.args.limits.now c.args.first placed.content.now placed.spelt.now c.requires.spelt placed.row c.requires.fits c.requires.room in
     let over = c.words_over-behind.ensures in
     let test = c.loop-i-test.true in
-    let tail = tail_length c.args.spelt.now in
+    let tail = tail_length placed.spelt.now in
     omega arith
 
 pub overflow_add-base : goal.overflow_add-base
 overflow_add-base g c =
-    let few = over_few c.args.limits.now c.args.first c.args.content.now c.args.spelt.now c.requires.spelt c.args.row c.requires.fits c.requires.room in
-    let width = few_words c.args.limits.now c.args.row in
-    let place = row_few c.args.limits.now c.args.row c.requires.range in
+    let placed = c.args.placed.now in
+    let few = over_few c.args.limits.now c.args.first placed.content.now placed.spelt.now c.requires.spelt placed.row c.requires.fits c.requires.room in
+    let width = few_words c.args.limits.now placed.row in
+    let place = row_few c.args.limits.now placed.row c.requires.range in
     let over = c.words_over-behind.ensures in
     let test = c.loop-i-test.true in
     let base = c.row_place-base.ensures in
@@ -68,9 +73,10 @@ overflow_add-base g c =
 
 pub overflow_add-base-in-loop-i : goal.overflow_add-base-in-loop-i
 overflow_add-base-in-loop-i g c =
-    let few = over_few c.args.limits.now c.args.first c.args.content.now c.args.spelt.now c.requires.spelt c.args.row c.requires.fits c.requires.room in
-    let width = few_words c.args.limits.now c.args.row in
-    let place = row_few c.args.limits.now c.args.row c.requires.range in
+    let placed = c.args.placed.now in
+    let few = over_few c.args.limits.now c.args.first placed.content.now placed.spelt.now c.requires.spelt placed.row c.requires.fits c.requires.room in
+    let width = few_words c.args.limits.now placed.row in
+    let place = row_few c.args.limits.now placed.row c.requires.range in
     let over = c.words_over-behind.ensures in
     let test = c.loop-i-test.true in
     let base = c.row_place-base.ensures in
