@@ -23,7 +23,7 @@ use Rattle.tree_words.specs.Changes.{ChangesOneWord, OperationsLeaveWords, Steps
 use Rattle.tree_words.specs.declared.operations.Operation.{Operation}
 use Rattle.tree_words.specs.declared.operations.Operation.TheVariants as operation
 use Rattle.tree_words.specs.Layout.{row_at, width_of}
-use Rattle.tree_words.specs.Words.{used_in, words_in, SpellsWhere}
+use Rattle.tree_words.specs.Words.{words_in, SpellsWhere}
 use Rattle.table_rule.specs.declared.view.Reach.TheVariants.{Idle}
 use Rattle.table_rule.specs.Running.{IsSettled}
 use Rattle.table_rule.specs.Steps.{IsLawfulStep, Acts, Event}
@@ -43,7 +43,7 @@ with_rows limits words words' m m' settled stay records sp parts = record {
   announced = parts.announced;
   pads = parts.pads;
   rows = λ row j within below used is. stay row j within below
-      ∙ sp.rows row j within below (subst (λ (rows : ℕ → Option Record). j < used_in limits (rows row)) records used) is
+      ∙ sp.rows row j within below (rw (← records) used) is
       ∙ ap (λ (rows : ℕ → Option Record). get_or (words_in limits (rows row)) j 0) (sym records);
 }
 

@@ -1,5 +1,5 @@
 -- The store of the second word of an own row, by which a record begins to be placed there in a large tree, keeps the rule.
-use Rattle.std.proofs.Common.{◌≡◌, ℕ, ◌<◌, true, List, [], ◌∷◌, refl, ap, ◌∙◌, subst, arith}
+use Rattle.std.proofs.Common.{◌≡◌, ℕ, ◌<◌, true, List, [], ◌∷◌, refl, ap, ◌∙◌, arith}
 use mathlib.Core.Option.{some, none}
 use lib.ListN.{get_elem?}
 use Rattle.atomic_table.specs.Table.{step, keeps, Allows}
@@ -40,12 +40,8 @@ module _ (limits : Limits) (law : Limits → List Entry → Type 0) (apart : Kee
           behind = λ small. cc;
         },
         λ limits' actor' row' large' is' word. (
-          subst (λ (z : Limits × ℕ × ℕ). SitsAt z.0 z.1 (Writing z.2 0 (x ∷ [])) (view, me.1))
-              (λ k. (
-                same_limits limits limits' actor actor' Idle Idle me is is' k,
-                same_actor limits limits' actor actor' Idle Idle me is is' k,
-                same_row limits limits' (same_limits limits limits' actor actor' Idle Idle me is is') row row' 1 (omega arith) word k,
-              ))
+          let tree : limits ≡ limits' = same_limits limits limits' actor actor' Idle Idle me is is' in
+              rw (← tree, ← same_actor limits limits' actor actor' Idle Idle me is is', ← same_row limits limits' tree row row' 1 (omega arith) word)
               (ap (λ (z : Mine). (view, z.1)) is),
           refl,
         ),

@@ -15,7 +15,7 @@ module _ (limits : Limits) where
       → get_or (set words (row_at limits row k) x) (row_at limits other j) 0 ≡ get_or (words_in limits (memory'.rows other)) j 0)
       → SpellsWhere limits (set words (row_at limits row k) x) memory' Q
   spells_row words memory memory' P Q sp row k x within small same rows = let at : ℕ = row_at limits row k in let inside = row_within limits row within in
-      let few = few_words limits row in subst (λ z. SpellsWhere limits (set words at x) z Q) (sym same) (record {
+      let few = few_words limits row in rw same (record {
         slots = λ pid below. get_or-set_other words at (slot_at limits pid) x 0 (λ e. absurd (omega arith)) ∙ sp.slots pid below;
         pid_bits = λ word below. subst (IsWordOf memory.free_pids word) (sym (get_or-set_other words at (pid_bits_at limits word) x 0 (λ e. absurd (omega arith)))) (sp.pid_bits word below);
         row_bits = λ word below. subst (IsWordOf memory.free_rows word) (sym (get_or-set_other words at (row_bits_at limits word) x 0 (λ e. absurd (omega arith)))) (sp.row_bits word below);

@@ -96,7 +96,7 @@ module _ (limits : Limits) where
           record {
             there = omega (arith, limits.allowed.some_rows);
             spelling = subst HasSpelling (same_Some (Base empty_leaf) content e) empty_is_spelt;
-            fills = rw one (subst (λ (stays : Record). length (stored limits stays) ≤ width_of limits 1) (same_Some (Base empty_leaf) content e) leaf_fills);
+            fills = rw one (rw (← same_Some (Base empty_leaf) content e) leaf_fills);
           }
       go false is e = cc
 
@@ -114,5 +114,5 @@ module _ (limits : Limits) where
     each = only;
   } where
     only : (id : ℕ) (view : List Part) → get_elem? (dealt limits ∷ []) id ≡ some view → Each (PartFits limits words []) view
-    only zero view at = subst (λ z. Each (PartFits limits words []) z) (some-injective _ _ at) (dealt_fits words 0 limits.actors (omega arith))
+    only zero view at = rw (← some-injective _ _ at) (dealt_fits words 0 limits.actors (omega arith))
     only (suc id) view at = absurd (some-ne-none view (sym at))

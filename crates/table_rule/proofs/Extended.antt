@@ -147,7 +147,7 @@ module _ (limits : Limits) (law : Limits → List Entry → Type 0) (s t : Momen
   is_mine : (b : ℕ) (h : Seated t.views b) → h.id ≡ id → mine ≡ h.part
   is_mine b h e =
       let view : me'.0 ≡ h.view = same_view t.views id h.id me'.0 h.view here h.at e in
-      only mine h.part h.place (subst (λ (v : List Part). slice_get v h.place ≡ Some h.part) (sym view ∙ ap (λ (m : Mine). m.0) did.sits) h.there)
+      only mine h.part h.place (rw (← sym view ∙ ap (λ (m : Mine). m.0) did.sits) h.there)
 
   -- a part of another view is as it was
   was : (b : ℕ) (h : Seated t.views b) → h.id ≢ id → HasSat s.views b h.part.seen
@@ -172,7 +172,7 @@ module _ (limits : Limits) (law : Limits → List Entry → Type 0) (s t : Momen
       record { id = found.id; view = found.view; at = found.at; place = found.place; part = found.part; there = found.there; own = refl; saw = found.saw } in
       let kept = on_set s.views id me.0 me'.0 at (turns_on law me me' (steps did)) found.part.actor now.run had in
       starts_on now.run kept.0 later.run kept.2
-      (begun_by limits (law limits) t later found.part.actor kept.0 (subst (λ vs. HasSeen vs found.part.actor kept.0) (sym is) kept.1))
+      (begun_by limits (law limits) t later found.part.actor kept.0 (rw is kept.1))
 
   -- the run of the moment before has no more entries of the actor's than were seen
   no_more : (more : List Entry) → now.run ≡ run ++ more → 1 ≤ many actor more → ⊥
@@ -209,7 +209,7 @@ module _ (limits : Limits) (law : Limits → List Entry → Type 0) (s t : Momen
       dite (ℕ_discrete h.id id)
       (λ e.
       let own : actor ≡ all.0 = ap (λ (p : Part). p.actor) (is_mine all.0 h e) ∙ h.own in
-      let saw : seen_of me ≡ run = all.2 (seen_of me) (subst (λ b. Extends b (seen_of me) run) own did.took.extends) in
+      let saw : seen_of me ≡ run = all.2 (seen_of me) (rw (← own) did.took.extends) in
       subst (StartsWith now.run) saw (saw_old.0, saw_old.1))
       (λ ne.
       let extends : Extends all.0 h.part.seen now.run = sat_extends limits (law limits) s now all.0 h.part.seen (was all.0 h ne) in

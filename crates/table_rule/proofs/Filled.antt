@@ -1,7 +1,7 @@
 -- The stores of a row that is written keep the rule.
 use Rattle.std.proofs.Common.{◌≡◌, ◌≢◌, inl, inr, ℕ, zero, suc, ◌+◌, ◌<◌, ◌≤◌, List, [], ◌∷◌, ◌++◌, length, get_or, set, sym, refl, ap, ◌∙◌, subst, ⊎_elim, arith}
 use Rattle.std.proofs.Common.{add-one, length-append, get_or-set_same, get_or-set_other}
-use Rattle.std.specs.Prelude.{if◌then◌else◌, Bool, true, false, Option, None, Some}
+use Rattle.std.specs.Prelude.{true, false, Option, None, Some}
 use Rattle.std.proofs.lemmas.Bool.{cases_Bool, cases_lt}
 use Rattle.std.proofs.lemmas.List.{get_or-take, length-take-le}
 use Rattle.std.proofs.lemmas.Option.{same_Some}
@@ -103,7 +103,7 @@ module _ (limits : Limits) (law : Limits → List Entry → Type 0) (apart : Kee
         (λ above. elim (cases_Bool limits.is_large) [
           | inl large ↦
               let all : length (compact_words content) ≤ length written + 1 = enough.all large in
-              let within : suc j < length (compact_words content) = subst (λ (b : Bool). suc j < (if b then length (compact_words content) else row_size)) large used in
+              let within : suc j < length (compact_words content) = rw large at used in
               absurd (omega (arith, above, all, within))
           | inr kind ↦ behind kind above
         ])
@@ -139,19 +139,19 @@ module _ (limits : Limits) (law : Limits → List Entry → Type 0) (apart : Kee
             answered = refl;
             spells = λ view _. spells_row limits s.words memory (record memory { rows = rows }) (IsSettled s.views) (IsSettled (set s.views id view)) h.spells row 0 header within (omega arith) refl
                 (λ other j below small used st. dite (ℕ_discrete other row)
-                (λ e. subst (λ (z : ℕ). get_or (set s.words at header) (row_at limits z j) 0 ≡ get_or (words_in limits (rows z)) j 0) (sym e)
-                (placed_word s h header content j (fits_now limits law s h id actor (seen_of me) (Writing row first written) tt there).reach enough (subst (λ (z : ℕ). j < width_of limits z) e small)
-                (subst (λ (o : Option Record). j < used_in limits o) (ap rows e ∙ replaced_same row (Some content) memory.rows) used) ∙ ap
-                (λ o. get_or (words_in limits o) j 0) (sym (replaced_same row (Some content) memory.rows))))
+                (λ e. rw e
+                (placed_word s h header content j (fits_now limits law s h id actor (seen_of me) (Writing row first written) tt there).reach enough
+                (rw (← e) small) (rw (ap rows e ∙ replaced_same row (Some content) memory.rows) at used)
+                ∙ ap (λ o. get_or (words_in limits o) j 0) (sym (replaced_same row (Some content) memory.rows))))
                 (λ ne. another 0 header other j view (omega arith) below small
-                (subst (λ (o : Option Record). j < used_in limits o) (replaced_other row (Some content) memory.rows other ne) used) (λ e. ne (sym e)) st ∙ ap (λ o. get_or (words_in limits o) j 0)
+                (rw (← replaced_other row (Some content) memory.rows other ne) used) (λ e. ne (sym e)) st ∙ ap (λ o. get_or (words_in limits o) j 0)
                 (sym (replaced_other row (Some content) memory.rows other ne))));
             kept = λ other stays e. dite (ℕ_discrete other row)
                 (λ same. let new : Some content ≡ Some stays = sym (ap rows same ∙ replaced_same row (Some content) memory.rows) ∙ e in
                 record {
-                  there = subst (λ z. z < limits.rows) (sym same) within;
+                  there = rw same within;
                   spelling = subst HasSpelling (same_Some content stays new) enough.spelled;
-                  fills = subst (λ (z : Record × ℕ). length (stored limits z.0) ≤ width_of limits z.1) (λ k. (same_Some content stays new k, sym same k)) fits;
+                  fills = rw (← same_Some content stays new, same) fits;
                 })
                 (λ ne. h.kept other stays (sym (replaced_other row (Some content) memory.rows other ne) ∙ e));
             writes = λ other row' ne may' _ j small. others 0 header other row' j (omega arith) ne may' small;
@@ -167,19 +167,18 @@ module _ (law : Limits → List Entry → Type 0) (key limits : Limits) (own : k
     (me : Mine) (row first : ℕ) (written : List ℕ) (word : ℕ) (seen : List Entry) (is_seen : seen_of me ≡ seen)
     (within : row < limits.rows) (is : SitsAt limits actor (Writing row first written) me) (owned : KnowsPlaceable (knows seen actor) row) where
   owned_of : KnowsPlaceable (knows (seen_of me) actor) row
-  owned_of = subst (λ (z : List Entry). KnowsPlaceable (knows z actor) row) (sym is_seen) owned
+  owned_of = rw is_seen owned
 
   pub fills_at : (x : ℕ) → word ≡ row_at limits row (length written + 1) → length written + 1 < width_of limits row → Allows (Rule key law) slots id me word (λ _. x) (λ _. Fills me x)
-  fills_at x at short = subst (λ (z : Limits × ℕ). Allows (Rule z.0 law) slots id me z.1 (λ _. x) (λ _. Fills me x)) (λ k. (sym own k, sym at k))
-      (fills limits law apart slots id actor me row first written within is owned_of x short)
+  fills_at x at short = rw (own, at) (fills limits law apart slots id actor me row first written within is owned_of x short)
 
   pub places_at : (header : ℕ) (content : Record) (told : StepOf Record) → word ≡ row_at limits row 0 → Place row content ≡ told → IsEnough limits content header first written
       → length (stored limits content) ≤ width_of limits row → IsLawfulStep law limits actor seen None (Place row content) None
       → Allows (Rule key law) slots id me word (λ _. header) (λ _. Places law told me header)
   places_at header content told at is_told enough fits may =
-      subst (λ (z : Limits × ℕ × StepOf Record). Allows (Rule z.0 law) slots id me z.1 (λ _. header) (λ _. Places law z.2 me header)) (λ k. (sym own k, sym at k, is_told k))
+      rw (own, at, ← is_told)
       (places limits law apart slots id actor me row first written within is owned_of header content enough fits
-      (subst (λ (z : List Entry). IsLawfulStep law limits actor z None (Place row content) None) (sym is_seen) may))
+      (rw is_seen may))
 
 pub next_in_tail : (xs : List ℕ) (i : ℕ) → get_or xs (i + 1) 0 ≡ get_or (tail_from xs) i 0
 next_in_tail [] i = refl

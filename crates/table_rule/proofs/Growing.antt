@@ -72,7 +72,7 @@ sat_extends limits law s now actor seen sat =
     let one : Part = sat.saw.part in
     let fit : PartFits limits s.words now.run one = each_get (PartFits limits s.words now.run) sat.saw.view sat.saw.place one (now.each sat.saw.id sat.saw.view sat.saw.at) sat.saw.there in
     let goes : Extends one.actor one.seen now.run = goes_extends one.reach one.actor one.seen now.run (stands_by one.reach sat.stands) fit.extends in
-    subst (λ (run : List Entry). Extends actor run now.run) sat.saw.saw (subst (λ (a : ℕ). Extends a one.seen now.run) sat.saw.own goes)
+    rw (← sat.saw.saw) (rw (← sat.saw.own) goes)
 
 pub real_time : (limits : Limits) (law : Limits → List Entry → Type 0) → KeepsRealTime limits law
 real_time limits law s t u now later on on' actor other before old run rest command saw sat has extends =

@@ -47,12 +47,12 @@ only one other (suc place) there = cc
 alone_on : (limits : Limits) (actor : ℕ) (reach reach' : Reach) (me me' : Mine) → SitsAt limits actor reach me → SitsAt limits actor reach' me'
     → StartsWith (seen_of me') (seen_of me) → PartsOn me.0 me'.0
 alone_on limits actor reach reach' me me' sat sits grows place old there =
-    let is : part limits actor (seen_of me) reach ≡ old = only (part limits actor (seen_of me) reach) old place (subst (λ (m : Mine). slice_get m.0 place ≡ Some old) sat there) in (
+    let is : part limits actor (seen_of me) reach ≡ old = only (part limits actor (seen_of me) reach) old place (rw sat at there) in (
       0,
       part limits actor (seen_of me') reach',
       ap (λ (m : Mine). slice_get m.0 0) sits,
       ap (λ (p : Part). p.actor) is,
-      subst (λ (p : Part). StartsWith (seen_of me') p.seen) is grows,
+      rw (← is) grows,
     )
 
 took_grows : (law : Limits → List Entry → Type 0) (me me' : Mine) (took : TakesStep law me me') → StartsWith (seen_of me') (seen_of me)
@@ -63,8 +63,7 @@ took_grows law me me' h =
 
 mapped : (run : List Entry) (view : List Part) → Each (λ p. ExtendsFor p.reach p.actor p.seen run) view → PartsOn view (map (with_run run) view)
 mapped run [] each place old there = cc
-mapped run (first ∷ view) each zero old there = let is : first ≡ old = cc in subst
-    (λ (p : Part). (place' : ℕ) × (new : Part) × (slice_get (map (with_run run) (first ∷ view)) place' ≡ Some new) × (new.actor ≡ p.actor) × StartsWith new.seen p.seen) is
+mapped run (first ∷ view) each zero old there = let is : first ≡ old = cc in rw (← is)
     (0, with_run run first, refl, refl, starts first.reach first.actor first.seen run each.0)
 mapped run (first ∷ view) each (suc place) old there = let rest = mapped run view each.1 place old there in (suc rest.0, rest.1, rest.2, rest.3, rest.4)
 
@@ -73,9 +72,9 @@ stays_on view place old there = (place, old, there, refl, starts_self old.seen)
 
 pub turns_on : (law : Limits → List Entry → Type 0) (me me' : Mine) → Turns law me me' → PartsOn me.0 me'.0
 turns_on law me me' (steps h) = alone_on h.limits h.actor h.reach Idle me me' h.sat h.sits (took_grows law me me' h)
-turns_on law me me' (places h) = alone_on h.limits h.actor h.reach h.reach' me me' h.sat h.sits (subst (λ seen. StartsWith seen (seen_of me)) (sym h.saw) (starts_self (seen_of me)))
-turns_on law me me' (sees limits h) = subst (λ (m : Mine). PartsOn me.0 m.0) (sym h.saw) (mapped h.run me.0 h.extends)
-turns_on law me me' (looks is) = subst (λ (m : Mine). PartsOn me.0 m.0) (sym is) (stays_on me.0)
+turns_on law me me' (places h) = alone_on h.limits h.actor h.reach h.reach' me me' h.sat h.sits (rw h.saw (starts_self (seen_of me)))
+turns_on law me me' (sees limits h) = rw h.saw (mapped h.run me.0 h.extends)
+turns_on law me me' (looks is) = rw is (stays_on me.0)
 
 -- a part among the views that has seen as much
 found : (views : List (List Part)) (actor : ℕ) (seen : List Entry) (id : ℕ) (view : List Part) (place : ℕ) (one : Part) → get_elem? views id ≡ some view → slice_get view place ≡ Some one
@@ -102,7 +101,7 @@ on_then one two three first second actor seen h =
 pub on_set : (views : List (List Part)) (id : ℕ) (view view' : List Part) → get_elem? views id ≡ some view → PartsOn view view' → SeeOn views (set views id view')
 on_set views id view view' at on actor seen h = dite (ℕ_discrete h.id id)
     (λ e. let is : view ≡ h.view = same_view views id h.id view h.view at h.at e in
-    let now = on h.place h.part (subst (λ (v : List Part). slice_get v h.place ≡ Some h.part) (sym is) h.there) in
+    let now = on h.place h.part (rw is h.there) in
     kept views (set views id view') actor seen h id view' now.0 now.1 (set_at views id view view' at) now.2 now.3 now.4)
     (λ ne. kept views (set views id view') actor seen h h.id h.view h.place h.part (set_else views id h.id view' ne ∙ h.at) h.there refl (starts_self h.part.seen))
 
@@ -111,7 +110,7 @@ on_longer views more actor seen h = kept views (views ++ more) actor seen h h.id
 
 on_cut : (views : List (List Part)) (id : ℕ) (view : List Part) → get_elem? views id ≡ some view → SeeOn views (set views id (first_part view) ++ other_parts view ∷ [])
 on_cut views id view at actor seen h = dite (ℕ_discrete h.id id)
-    (λ e. let is : view ≡ h.view = same_view views id h.id view h.view at h.at e in by view h.place at (subst (λ (v : List Part). slice_get v h.place ≡ Some h.part) (sym is) h.there))
+    (λ e. let is : view ≡ h.view = same_view views id h.id view h.view at h.at e in by view h.place at (rw is h.there))
     (λ ne. kept views (first ++ other_parts view ∷ []) actor seen h h.id h.view h.place h.part
     (at_longer first (other_parts view ∷ []) h.id h.view (set_else views id h.id (first_part view) ne ∙ h.at)) h.there refl (starts_self h.part.seen))
   where
@@ -127,7 +126,7 @@ on_cut views id view at actor seen h = dite (ℕ_discrete h.id id)
         (at_last (set views id (p ∷ [])) ps (length (set views id (p ∷ []))) refl) there refl (starts_self h.part.seen)
 
 on_note : (views : List (List Part)) (id : ℕ) (view : List Part) → get_elem? views id ≡ some view → SeeOn views (set views id view ++ part_note view ∷ [])
-on_note views id view at = subst (λ (vs : List (List Part)). SeeOn views (vs ++ part_note view ∷ [])) (sym (set_again views id view at)) (on_longer views (part_note view ∷ []))
+on_note views id view at = rw (set_again views id view at) (on_longer views (part_note view ∷ []))
 
 left_of : (front back : List Part) (place : ℕ) (one : Part) → slice_get front place ≡ Some one → slice_get (front ++ back) place ≡ Some one
 left_of [] back place one there = cc
@@ -143,10 +142,10 @@ on_join : (views : List (List Part)) (id other : ℕ) (view others : List Part) 
 on_join views id other view others at ne there actor seen h = dite (ℕ_discrete h.id id)
     (λ e. let is : view ≡ h.view = same_view views id h.id view h.view at h.at e in
     kept views last actor seen h id (view ++ others) h.place h.part here
-    (left_of view others h.place h.part (subst (λ (v : List Part). slice_get v h.place ≡ Some h.part) (sym is) h.there)) refl (starts_self h.part.seen))
+    (left_of view others h.place h.part (rw is h.there)) refl (starts_self h.part.seen))
     (λ nid. dite (ℕ_discrete h.id other)
     (λ e. let is : others ≡ h.view = same_view views other h.id others h.view there h.at e in
-    let moved = right_of view others h.place h.part (subst (λ (v : List Part). slice_get v h.place ≡ Some h.part) (sym is) h.there) in
+    let moved = right_of view others h.place h.part (rw is h.there) in
     kept views last actor seen h id (view ++ others) moved.0 h.part here moved.1 refl (starts_self h.part.seen))
     (λ nother. kept views last actor seen h h.id h.view h.place h.part
     (set_else first other h.id [] nother ∙ set_else views id h.id (view ++ others) nid ∙ h.at) h.there refl (starts_self h.part.seen)))
@@ -162,12 +161,12 @@ on_join views id other view others at ne there actor seen h = dite (ℕ_discrete
 
 operates_on : (law : Limits → List Entry → Type 0) (s t : Moment) → Operates law s t → SeeOn s.views t.views
 operates_on law s t (turns id word number me view did at is turned) =
-    subst (λ (m : Moment). SeeOn s.views m.views) (sym is) (on_set s.views id me.0 view at (turns_on law me (view, carried_after me.1 did) turned))
-operates_on law s t (cuts id view at is) = subst (λ (m : Moment). SeeOn s.views m.views) (sym is) (on_cut s.views id view at)
-operates_on law s t (notes id view at is) = subst (λ (m : Moment). SeeOn s.views m.views) (sym is) (on_note s.views id view at)
-operates_on law s t (joins id other view others at ne there is) = subst (λ (m : Moment). SeeOn s.views m.views) (sym is) (on_join s.views id other view others at ne there)
-operates_on law s t (seats is) = subst (λ (m : Moment). SeeOn s.views m.views) (sym is) (on_longer s.views ([] ∷ []))
-operates_on law s t (lets_go is) = subst (λ (m : Moment). SeeOn s.views m.views) (sym is) (on_self s.views)
+    rw is (on_set s.views id me.0 view at (turns_on law me (view, carried_after me.1 did) turned))
+operates_on law s t (cuts id view at is) = rw is (on_cut s.views id view at)
+operates_on law s t (notes id view at is) = rw is (on_note s.views id view at)
+operates_on law s t (joins id other view others at ne there is) = rw is (on_join s.views id other view others at ne there)
+operates_on law s t (seats is) = rw is (on_longer s.views ([] ∷ []))
+operates_on law s t (lets_go is) = rw is (on_self s.views)
 
 pub sees_on : (law : Limits → List Entry → Type 0) → SeesOn law
 sees_on law s t later = by later
@@ -190,7 +189,7 @@ watched_sees law limits actor step found me me' sat sits h = record {
   legal = h.legal;
   begins = h.begins;
   saw = sits ∙ ap (λ (m : Mine). (map (with_run (seen_of me')) m.0, m.1)) (sym sat);
-  extends = subst (λ (m : Mine). Each (λ p. ExtendsFor p.reach p.actor p.seen (seen_of me')) m.0) (sym sat) (h.extends, tt);
+  extends = rw sat (h.extends, tt);
 }
 
 pub operations_turn : (law : Limits → List Entry → Type 0) → OperationsTurn law

@@ -1,5 +1,5 @@
 -- A table that is closed with a seat in which all actors stand leaves the words of one run's memory.
-use Rattle.std.proofs.Common.{◌≡◌, ℕ, zero, suc, ◌+◌, ◌<◌, ◌≤◌, eqb, List, [], ◌∷◌, length, refl, sym, ap, subst, arith, eq-eqb, ne_eqb}
+use Rattle.std.proofs.Common.{◌≡◌, ℕ, zero, suc, ◌+◌, ◌<◌, ◌≤◌, eqb, List, [], ◌∷◌, length, refl, ap, subst, arith, eq-eqb, ne_eqb}
 use mathlib.Core.Logic.{dite}
 use mathlib.Core.Option.{some}
 use native.Mathlib.Decide.{ℕ_discrete}
@@ -12,7 +12,7 @@ use Rattle.tree_words.specs.Words.{AreWordsOf}
 use Rattle.table_rule.specs.declared.view.Reach.TheVariants.{Idle, Writing, Noted}
 use Rattle.table_rule.specs.declared.view.Reach.{Reach}
 use Rattle.table_rule.specs.declared.view.Part.{Part}
-use Rattle.table_rule.specs.Running.{Each, ExtendsFor, LeavesRow, IsSettled, is_at, times, PartFits, Running}
+use Rattle.table_rule.specs.Running.{Each, LeavesRow, IsSettled, is_at, times, PartFits, Running}
 use Rattle.table_rule.specs.Closing.{LeavesWords}
 use Rattle.table_rule.proofs.Parts.{IsApart, apart_ne, mark, each_map, each_zip, elsewhere, everywhere_one, spells_views}
 use Rattle.table_rule.proofs.Roster.{same_view}
@@ -52,7 +52,7 @@ all_ones zero f once all k below = absurd (omega arith)
 all_ones (suc n) f once all k below =
     let rest = total_most n f once in
     let here = once n in dite (ℕ_discrete k n)
-    (λ e. subst (λ (j : ℕ). 1 ≤ f j) (sym e) (omega arith))
+    (λ e. rw e (omega arith))
     (λ ne. all_ones n f once (omega arith) k (omega arith))
 
 module _ (limits : Limits) (law : List Entry → Type 0) where
@@ -65,7 +65,7 @@ module _ (limits : Limits) (law : List Entry → Type 0) where
   all_times words run (part ∷ parts) fits idle =
       let rest = all_times words run parts fits.1 idle.1 in
       let here : total limits.actors (λ actor. mark (is_at actor part.actor part.reach)) ≡ 1
-      = subst (λ reach. total limits.actors (λ actor. mark (is_at actor part.actor reach)) ≡ 1) (sym idle.0) (marked_once limits.actors part.actor fits.0.there) in
+      = rw idle.0 (marked_once limits.actors part.actor fits.0.there) in
       let sum = total_plus limits.actors (λ actor. mark (is_at actor part.actor part.reach)) (λ actor. times actor parts) in omega arith
 
   all_stand : (s : TableState) (h : Running limits law s) (id : ℕ) (parts : List Part) → get_elem? s.views id ≡ some parts → limits.actors ≤ length parts
@@ -75,7 +75,7 @@ module _ (limits : Limits) (law : List Entry → Type 0) where
       (let sum = all_times s.words h.run parts (h.each id parts at) idle in omega arith)
 
   leaves_idle : (row : ℕ) (part : Part) → part.reach ≡ Idle → LeavesRow row part.reach
-  leaves_idle row part e = subst (λ reach. LeavesRow row reach) (sym e) tt
+  leaves_idle row part e = rw e tt
 
   -- a part that is no seat of its own actor's is a note
   apart_leaves : (row actor : ℕ) (reach : Reach) → IsApart actor actor reach → LeavesRow row reach
@@ -98,14 +98,14 @@ module _ (limits : Limits) (law : List Entry → Type 0) where
       let at : get_elem? s.views id ≡ some parts = f.1.1 in
       let all : (actor : ℕ) → actor < limits.actors → 1 ≤ times actor parts = all_stand s h id parts at stand.all stand.idle in
       let settled : (row : ℕ) → IsSettled s.views row = λ row j view there. dite (ℕ_discrete j id)
-      (λ e. subst (λ z. Each (λ part. LeavesRow row part.reach) z) (same_view s.views id j parts view at there e)
+      (λ e. rw (← same_view s.views id j parts view at there e)
       (each_map (λ part. part.reach ≡ Idle) (λ part. LeavesRow row part.reach) (leaves_idle row) parts stand.idle))
       (λ ne. notes_leave s.words h.run row view (h.each j view there) (λ actor below. elsewhere s.views id j parts view actor h.once at (all actor below) there ne)) in record {
         run = h.run;
         legal = h.legal;
         begins = h.begins;
         extends = each_zip (PartFits limits s.words h.run) (λ part. part.reach ≡ Idle) (λ part. Extends part.actor part.seen h.run)
-            (λ part fit idle. subst (λ reach. ExtendsFor reach part.actor part.seen h.run) idle fit.extends) parts (h.each id parts at) stand.idle;
+            (λ part fit idle. rw idle at fit.extends) parts (h.each id parts at) stand.idle;
         kept = h.kept;
         are = subst (AreWordsOf limits (memory_of limits h.run)) f.2
             record { wide = h.wide; spells = spells_views limits s.words (memory_of limits h.run) (IsSettled s.views) (λ _. Unit {0}) (λ row _. settled row) h.spells };

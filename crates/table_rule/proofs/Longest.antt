@@ -110,5 +110,5 @@ longest_seen limits law s h =
       part = part;
       there = mine.2;
       stands = λ e. subst Stands e is.0;
-      saw = all.2 part.seen (subst (λ (actor : ℕ). Extends actor part.seen h.run) is.1 (goes_extends part.reach part.actor part.seen h.run is.0 fit.extends));
+      saw = all.2 part.seen (rw is.1 at (goes_extends part.reach part.actor part.seen h.run is.0 fit.extends));
     }

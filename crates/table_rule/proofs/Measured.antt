@@ -1,5 +1,5 @@
 -- The look at an own row's first word, by which a record begins to be placed there, keeps the rule.
-use Rattle.std.proofs.Common.{◌≡◌, ℕ, ◌<◌, ◌≤◌, List, [], get_or, sym, refl, ap, ◌∙◌, subst, arith}
+use Rattle.std.proofs.Common.{◌≡◌, ℕ, ◌<◌, List, [], get_or, refl, ap, ◌∙◌, arith}
 use Rattle.std.proofs.lemmas.List.{set-get_or}
 use mathlib.Core.Logic.{dite}
 use mathlib.Core.Option.{some, none}
@@ -11,7 +11,6 @@ use Rattle.deltas.specs.Memory.{Memory}
 use Rattle.traces.specs.declared.trace.Entry.{Entry}
 use Rattle.traces.specs.discipline.Knowledge.{knows}
 use Rattle.traces.specs.trace.Trace.{memory_of}
-use Rattle.record_slots.specs.Layout.{row_size}
 use Rattle.tree_words.proofs.RowWidths.{one_width, some_words}
 use Rattle.tree_words.specs.Layout.{row_at}
 use Rattle.table_rule.proofs.RowPlaces.{same_row}
@@ -19,8 +18,8 @@ use Rattle.tree_words.specs.Words.{words_in}
 use Rattle.table_rule.specs.declared.view.Reach.{Reach}
 use Rattle.table_rule.specs.declared.view.Reach.TheVariants.{Idle, Writing, Noted}
 use Rattle.table_rule.specs.declared.view.Part.{Part}
-use Rattle.table_rule.specs.Running.{Each, IsSettled, KnowsPlaceable, KeepsRowsApart, LeavesRow, PartFits, ReachFits}
-use Rattle.table_rule.specs.Steps.{Measures, used_by}
+use Rattle.table_rule.specs.Running.{IsSettled, KnowsPlaceable, KeepsRowsApart, LeavesRow, PartFits, ReachFits}
+use Rattle.table_rule.specs.Steps.{Measures}
 use Rattle.table_rule.specs.Views.{alone, Mine, seen_of, SitsAt}
 use Rattle.table_rule.proofs.OwnRows.{no_other}
 use Rattle.table_rule.proofs.UsedWords.{all_used, few_in, some_used}
@@ -42,7 +41,7 @@ module _ (limits : Limits) (law : Limits → List Entry → Type 0) (apart : Kee
 
     own_settled : IsSettled s.views row
     own_settled j view here = let one = times_alone limits actor seen Idle tt in dite (ℕ_discrete j id)
-        (λ e. subst (λ v. Each (λ p. LeavesRow row p.reach) v) (same_view s.views id j (alone limits actor seen Idle) view there here e) (tt, tt))
+        (λ e. rw (← same_view s.views id j (alone limits actor seen Idle) view there here e) (tt, tt))
         (λ ne. each_zip (λ p. IsApart actor p.actor p.reach) (PartFits limits s.words h.run) (λ p. LeavesRow row p.reach) other_leaves view
         (elsewhere s.views id j (alone limits actor seen Idle) view actor h.once there (omega arith) here ne) (h.each j view here))
 
@@ -51,7 +50,7 @@ module _ (limits : Limits) (law : Limits → List Entry → Type 0) (apart : Kee
     measures s h _ here _ =
         let there : get_elem? s.views id ≡ some (alone limits actor (seen_of me) Idle) = here ∙ ap (λ (z : Mine). some z.0) is in
         let extends = extends_now limits law s h id actor (seen_of me) Idle tt there in
-        let may : KnowsPlaceable (knows h.run actor) row = subst (λ k. KnowsPlaceable k row) (sym (knows_now limits law s h id actor (seen_of me) Idle tt there)) owned in
+        let may : KnowsPlaceable (knows h.run actor) row = rw (knows_now limits law s h id actor (seen_of me) Idle tt there) owned in
         let at : ℕ = row_at limits row 0 in
         let n : ℕ = get_or s.words at 0 in
         let memory : Memory = memory_of limits h.run in
@@ -78,10 +77,9 @@ module _ (limits : Limits) (law : Limits → List Entry → Type 0) (apart : Kee
               let tree : limits ≡ limits' = same_limits limits limits' actor actor' Idle Idle me is is' in
               let row_same : row ≡ row' = same_row limits limits' tree row row' 0 (omega arith) word in
               let sits : SitsAt limits actor (Writing row n []) (view, me.1) = ap (λ (c : List (ℕ × Unit {0})). (view, c)) (ap (λ (z : Mine). z.1) is) in (
-                subst (λ (z : Limits × ℕ × ℕ). SitsAt z.0 z.1 (Writing z.2 n []) (view, me.1))
-                    (λ k. (same_limits limits limits' actor actor' Idle Idle me is is' k, same_actor limits limits' actor actor' Idle Idle me is is' k, row_same k)) sits,
+                rw (← tree, ← same_actor limits limits' actor actor' Idle Idle me is is', ← row_same) sits,
                 refl,
-                subst (λ (u : ℕ). used_by u ≤ row_size) (sym first) (few_in limits (memory.rows row) (λ content e. (h.kept row content e).spelling)),
+                rw first (few_in limits (memory.rows row) (λ content e. (h.kept row content e).spelling)),
               ),
         )
 
@@ -89,6 +87,4 @@ module _ (limits : Limits) (law : Limits → List Entry → Type 0) (apart : Kee
 module _ (law : Limits → List Entry → Type 0) (key limits : Limits) (own : key ≡ limits) (apart : KeepsRowsApart limits (law limits)) (slots id actor : ℕ) (me : Mine) (row word : ℕ)
     (within : row < limits.rows) (is : SitsAt limits actor Idle me) (owned : KnowsPlaceable (knows (seen_of me) actor) row) where
   pub measures_at : word ≡ row_at limits row 0 → Allows (Rule key law) slots id me word (λ n. n) (Measures (step slots word 0 0 none) me)
-  measures_at at =
-      subst (λ (z : Limits × ℕ). Allows (Rule z.0 law) slots id me z.1 (λ n. n) (Measures (step slots z.1 0 0 none) me)) (λ k. (sym own k, sym at k))
-      (measures limits law apart slots id actor me row within is owned)
+  measures_at at = rw (own, at) (measures limits law apart slots id actor me row within is owned)

@@ -1,5 +1,5 @@
 -- Lists of parts, and runs that go on.
-use Rattle.std.proofs.Common.{◌≡◌, ◌≢◌, ℕ, zero, suc, ◌+◌, ◌<◌, ◌≤◌, eqb, Bool, false, List, [], ◌∷◌, ◌++◌, set, sym, refl, ap, ◌∙◌, subst, arith, append_assoc, append-nil, eq-eqb, ne_eqb}
+use Rattle.std.proofs.Common.{◌≡◌, ◌≢◌, ℕ, zero, suc, ◌+◌, ◌<◌, ◌≤◌, eqb, Bool, false, List, [], ◌∷◌, ◌++◌, set, sym, refl, ap, ◌∙◌, arith, append_assoc, append-nil, eq-eqb, ne_eqb}
 use Rattle.std.specs.Prelude.{if◌then◌else◌, None, Some, Option, ⊤}
 use mathlib.Core.Option.{some, some-injective, some-ne-none}
 use mathlib.Core.Logic.{dite}
@@ -116,7 +116,7 @@ pub settled_back : (views : List (List Part)) (id : ℕ) (limits : Limits) (a : 
     → get_elem? views id ≡ some (alone limits a seen h) → LeavesRow r h
     → IsSettled (set views id w) r → IsSettled views r
 settled_back views id limits a seen h w r at leaves settled j v here = dite (ℕ_discrete j id)
-    (λ e. subst (λ u. Each (λ p. LeavesRow r p.reach) u) (some-injective _ _ (sym at ∙ ap (get_elem? views) (sym e) ∙ here)) (leaves, tt))
+    (λ e. rw (← some-injective _ _ (sym at ∙ ap (get_elem? views) (sym e) ∙ here)) (leaves, tt))
     (λ ne. settled j v (set_else views id j w ne ∙ here))
 
 abbrev pub mark : Bool → ℕ

@@ -1,11 +1,11 @@
 -- Refreshing, splitting and joining seats keeps the rule, and so does a new seat.
-use Rattle.std.proofs.Common.{◌≡◌, ◌≢◌, ℕ, zero, suc, ◌+◌, ◌<◌, ◌≤◌, List, [], ◌∷◌, ◌++◌, map, length, set, sym, refl, ap, ◌∙◌, subst, ⊎_elim, arith}
+use Rattle.std.proofs.Common.{◌≡◌, ◌≢◌, ℕ, zero, suc, ◌+◌, ◌<◌, ◌≤◌, List, [], ◌∷◌, ◌++◌, map, length, set, sym, refl, ap, ◌∙◌, ⊎_elim, arith}
 use Rattle.std.proofs.lemmas.List.{set-get_or}
 use mathlib.Core.Logic.{dite}
 use mathlib.Core.Option.{none, some, some-injective, some-ne-none}
 use native.Mathlib.Decide.{ℕ_discrete}
 use lib.ListN.{get_elem?}
-use Rattle.atomic_table.specs.Table.{step, keeps, Allows, Splits, Joins, Enters as NewSeat, carried_after}
+use Rattle.atomic_table.specs.Table.{step, keeps, Allows, Splits, Joins, Enters as NewSeat}
 use Rattle.atomic_table.proofs.Lists.{at_set, set_else, at_snoc, at_longer, at_last}
 use Rattle.tree_limits.specs.declared.limits.Limits.{Limits}
 use Rattle.deltas.specs.Memory.{Memory}
@@ -87,12 +87,12 @@ module _ (limits : Limits) (law : List Entry → Type 0) where
       → R record { words = s.words; homes = s.homes; views = set s.views id (map (with_run h.run) v) }
   view_refreshed s h id v at = let w : List Part = map (with_run h.run) v in reviewed s h (set s.views id w)
       (λ r st j u there. dite (ℕ_discrete j id)
-      (λ e. subst (λ z. Each (λ p. LeavesRow r p.reach) z) (same_view s.views id j v u at there e) (leaves_refreshed r h.run v (st id w (set_at s.views id v w at))))
+      (λ e. rw (← same_view s.views id j v u at there e) (leaves_refreshed r h.run v (st id w (set_at s.views id v w at))))
       (λ ne. st j u (set_else s.views id j w ne ∙ there)))
       (λ a. let t = everywhere_set s.views id v w a at in let o = h.once a in let same = times_refreshed a h.run v in omega arith)
       (λ a below. let t = everywhere_set s.views id v w a at in let o = h.somewhere a below in let same = times_refreshed a h.run v in omega arith)
       (λ j u there. ⊎_elim
-      (λ t. subst (λ z. Each (Fits s.words h.run) z) t.1 (fits_refreshed s.words h.run v (h.each id v at)))
+      (λ t. rw (← t.1) (fits_refreshed s.words h.run v (h.each id v at)))
       (λ t. h.each j u t.1)
       (at_set s.views id j w u there))
 
@@ -101,7 +101,7 @@ module _ (limits : Limits) (law : List Entry → Type 0) where
     map (with_run h.run) me.0,
     keeps,
     tt,
-    subst (λ (ws : List ℕ). R record { words = ws; homes = s.homes; views = set s.views id (map (with_run h.run) me.0) }) (sym (set-get_or s.words i 0)) (view_refreshed s h id me.0 at),
+    rw (set-get_or s.words i 0) (view_refreshed s h id me.0 at),
     record {
       run = h.run;
       legal = h.legal;
@@ -120,17 +120,17 @@ module _ (limits : Limits) (law : List Entry → Type 0) where
       let there' : get_elem? s.views other ≡ some w = sym (set_else s.views id other (v ++ w) ne) ∙ there in
       let here : get_elem? last id ≡ some (v ++ w) = set_else first other id [] away ∙ set_at s.views id v (v ++ w) at in reviewed s h last
       (λ r st j u is. let both = st id (v ++ w) here in dite (ℕ_discrete j id)
-      (λ e. subst (λ z. Each (λ p. LeavesRow r p.reach) z) (same_view s.views id j v u at is e) (each_left (λ p. LeavesRow r p.reach) v w both))
+      (λ e. rw (← same_view s.views id j v u at is e) (each_left (λ p. LeavesRow r p.reach) v w both))
       (λ nid. dite (ℕ_discrete j other)
-      (λ e. subst (λ z. Each (λ p. LeavesRow r p.reach) z) (same_view s.views other j w u there' is e) (each_right (λ p. LeavesRow r p.reach) v w both))
+      (λ e. rw (← same_view s.views other j w u there' is e) (each_right (λ p. LeavesRow r p.reach) v w both))
       (λ nother. st j u (set_else first other j [] nother ∙ set_else s.views id j (v ++ w) nid ∙ is))))
       (λ a. let t = everywhere_set s.views id v (v ++ w) a at in let u = everywhere_set first other w [] a there in let o = h.once a in let sum = times_append a v w in omega arith)
       (λ a below. let t = everywhere_set s.views id v (v ++ w) a at in let u = everywhere_set first other w [] a there in let o = h.somewhere a below in
       let sum = times_append a v w in omega arith)
       (λ j u is. ⊎_elim
-      (λ t. subst (λ z. Each (Fits s.words h.run) z) t.1 tt)
+      (λ t. rw (← t.1) tt)
       (λ t. ⊎_elim
-      (λ y. subst (λ z. Each (Fits s.words h.run) z) y.1 (each_append (Fits s.words h.run) v w (h.each id v at) (h.each other w there')))
+      (λ y. rw (← y.1) (each_append (Fits s.words h.run) v w (h.each id v at) (h.each other w there')))
       (λ y. h.each j u y.1)
       (at_set s.views id j (v ++ w) u t.1))
       (at_set first other j [] u is))
@@ -139,11 +139,11 @@ module _ (limits : Limits) (law : List Entry → Type 0) where
   splits id v left right cut s h at =
       let first : List (List Part) = set s.views id left in
       let last : List (List Part) = first ++ right ∷ [] in
-      let fit : Each (Fits s.words h.run) (left ++ right) = subst (λ z. Each (Fits s.words h.run) z) cut (h.each id v at) in
+      let fit : Each (Fits s.words h.run) (left ++ right) = rw (← cut) (h.each id v at) in
       let here : get_elem? last id ≡ some left = at_longer first (right ∷ []) id left (set_at s.views id v left at) in
       let there : get_elem? last (length first) ≡ some right = at_last first right (length first) refl in reviewed s h last
       (λ r st j u is. dite (ℕ_discrete j id)
-      (λ e. subst (λ z. Each (λ p. LeavesRow r p.reach) z) (sym cut ∙ same_view s.views id j v u at is e)
+      (λ e. rw (← sym cut ∙ same_view s.views id j v u at is e)
       (each_append (λ p. LeavesRow r p.reach) left right (st id left here) (st (length first) right there)))
       (λ ne. st j u (at_longer first (right ∷ []) j u (set_else s.views id j left ne ∙ is))))
       (λ a. let t = everywhere_set s.views id v left a at in let u = everywhere_snoc first right a in let o = h.once a in let sum = times_append a left right in
@@ -152,10 +152,10 @@ module _ (limits : Limits) (law : List Entry → Type 0) where
       let whole : times a v ≡ times a (left ++ right) = ap (times a) cut in omega arith)
       (λ j u is. ⊎_elim
       (λ t. ⊎_elim
-      (λ y. subst (λ z. Each (Fits s.words h.run) z) y.1 (each_left (Fits s.words h.run) left right fit))
+      (λ y. rw (← y.1) (each_left (Fits s.words h.run) left right fit))
       (λ y. h.each j u y.1)
       (at_set s.views id j left u t))
-      (λ e. subst (λ z. Each (Fits s.words h.run) z) e (each_right (Fits s.words h.run) left right fit))
+      (λ e. rw (← e) (each_right (Fits s.words h.run) left right fit))
       (at_snoc first right u j is))
 
   note_times : (a : ℕ) (v : List Part) → times a (part_note v) ≡ 0
@@ -177,16 +177,16 @@ module _ (limits : Limits) (law : List Entry → Type 0) where
       let last : List (List Part) = first ++ part_note v ∷ [] in
       let here : get_elem? last id ≡ some v = at_longer first (part_note v ∷ []) id v (set_at s.views id v v at) in reviewed s h last
       (λ r st j u is. dite (ℕ_discrete j id)
-      (λ e. subst (λ z. Each (λ p. LeavesRow r p.reach) z) (same_view s.views id j v u at is e) (st id v here))
+      (λ e. rw (← same_view s.views id j v u at is e) (st id v here))
       (λ ne. st j u (at_longer first (part_note v ∷ []) j u (set_else s.views id j v ne ∙ is))))
       (λ a. let t = everywhere_set s.views id v v a at in let u = everywhere_snoc first (part_note v) a in let o = h.once a in let none = note_times a v in omega arith)
       (λ a below. let t = everywhere_set s.views id v v a at in let u = everywhere_snoc first (part_note v) a in let o = h.somewhere a below in let none = note_times a v in omega arith)
       (λ j u is. ⊎_elim
       (λ t. ⊎_elim
-      (λ y. subst (λ z. Each (Fits s.words h.run) z) y.1 (h.each id v at))
+      (λ y. rw (← y.1) (h.each id v at))
       (λ y. h.each j u y.1)
       (at_set s.views id j v u t))
-      (λ e. subst (λ z. Each (Fits s.words h.run) z) e (note_fits s.words h.run v (h.each id v at)))
+      (λ e. rw (← e) (note_fits s.words h.run v (h.each id v at)))
       (at_snoc first (part_note v) u j is))
 
 module _ (limits : Limits) (law : List Entry → Type 0) where
@@ -197,14 +197,14 @@ module _ (limits : Limits) (law : List Entry → Type 0) where
         (λ r st j u is. st j u (at_longer s.views ([] ∷ []) j u is))
         (λ a. let t = everywhere_snoc s.views [] a in let o = h.once a in omega arith)
         (λ a below. let t = everywhere_snoc s.views [] a in let o = h.somewhere a below in omega arith)
-        (λ j u is. ⊎_elim (λ t. h.each j u t) (λ e. subst (λ z. Each (PartFits limits s.words h.run) z) e tt) (at_snoc s.views [] u j is)),
+        (λ j u is. ⊎_elim (λ t. h.each j u t) (λ e. rw (← e) tt) (at_snoc s.views [] u j is)),
     refl,
   )
 
 first_limits : (limits : Limits) (words : List ℕ) (run : List Entry) (v : List Part) (p : Part) (ps : List Part) → v ≡ p ∷ ps → Each (PartFits limits words run) v → p.limits ≡ limits
-first_limits limits words run v p ps e fits = let all : Each (PartFits limits words run) (p ∷ ps) = subst (λ z. Each (PartFits limits words run) z) e fits in all.0.own_limits
+first_limits limits words run v p ps e fits = let all : Each (PartFits limits words run) (p ∷ ps) = rw e at fits in all.0.own_limits
 
 pub refreshes_of : (limits key : Limits) (law : Limits → List Entry → Type 0) → key ≡ limits → (slots id : ℕ) (me : Mine) (i : ℕ)
     → Allows (Running key (law key)) slots id me i (λ n. n) (Refreshes law (step slots i 0 0 none) me)
 refreshes_of limits key law own slots id me i s h count at small = let t = refreshes key (law key) slots id me i s h count at small in
-    (t.0, t.1, t.2, t.3, λ p ps e. subst (λ l. IsRefreshed (law l) me (t.0, carried_after me.1 t.1)) (sym (first_limits key s.words h.run me.0 p ps e (h.each id me.0 at))) t.4)
+    (t.0, t.1, t.2, t.3, λ p ps e. rw (first_limits key s.words h.run me.0 p ps e (h.each id me.0 at)) t.4)

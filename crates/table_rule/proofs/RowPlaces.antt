@@ -1,5 +1,5 @@
 -- A word of a row is of no other one.
-use Rattle.std.proofs.Common.{◌≡◌, ◌<◌, ℕ, sym, subst, arith}
+use Rattle.std.proofs.Common.{◌≡◌, ◌<◌, ℕ, arith}
 use mathlib.Core.Logic.{dite}
 use native.Mathlib.Decide.{ℕ_discrete}
 use Rattle.tree_limits.specs.declared.limits.Limits.{Limits}
@@ -13,7 +13,7 @@ same_place limits row other i j a b e = dite (ℕ_discrete row other) (λ same. 
 -- rows whose words at one place are one
 pub same_row : (limits limits' : Limits) → limits ≡ limits' → (row other i : ℕ) → i < 8 → row_at limits row i ≡ row_at limits' other i → row ≡ other
 same_row limits limits' tree row other i few e =
-    let here : row_at limits row i ≡ row_at limits other i = subst (λ (l : Limits). row_at limits row i ≡ row_at l other i) (sym tree) e in
+    let here : row_at limits row i ≡ row_at limits other i = rw (← tree) at e in
     let one = some_words limits row in
     let two = some_words limits other in
     same_place limits row other i i (omega (arith, one, few)) (omega (arith, two, few)) here

@@ -1,6 +1,6 @@
 -- The load of a row's first word, which is the step, and looks at its words keep the rule.
-use Rattle.std.proofs.Common.{◌≡◌, ℕ, ◌<◌, List, [], ◌∷◌, get_or, sym, refl, ap, ◌∙◌, subst, arith}
-use Rattle.std.specs.Prelude.{Option, None, Some}
+use Rattle.std.proofs.Common.{◌≡◌, ℕ, ◌<◌, List, [], ◌∷◌, get_or, sym, refl, ap, ◌∙◌, arith}
+use Rattle.std.specs.Prelude.{None, Some}
 use Rattle.std.proofs.lemmas.List.{set-get_or}
 use mathlib.Core.Option.{some, none}
 use lib.ListN.{get_elem?}
@@ -21,8 +21,8 @@ use Rattle.tree_words.specs.Words.{stored, used_in, words_in}
 use Rattle.table_rule.specs.declared.view.Reach.TheVariants.{Idle, Writing, Noted}
 use Rattle.table_rule.specs.declared.view.Reach.{Reach}
 use Rattle.table_rule.specs.declared.view.Part.{Part}
-use Rattle.table_rule.specs.Running.{Each, IsSettled, IsSpelledRow, KnowsPlaceable, KnowsReadable, KeepsRowsApart, LeavesRow, PartFits, ReachFits}
-use Rattle.table_rule.specs.Steps.{HasReadRecord, IsLawfulStep, Looks, ReadsRow, ReadsFirst}
+use Rattle.table_rule.specs.Running.{Each, IsSettled, IsSpelledRow, KnowsReadable, KeepsRowsApart, LeavesRow, PartFits, ReachFits}
+use Rattle.table_rule.specs.Steps.{HasReadRecord, IsLawfulStep, Looks, ReadsRow}
 use Rattle.table_rule.specs.Views.{alone, Mine, seen_of, SitsAt}
 use Rattle.table_rule.proofs.UsedWords.{some_used, used_few}
 use Rattle.table_rule.proofs.Turns.{TableState, Rule, extends_now, knows_now, turn, event_telling, same_actor, same_limits, spares_quiet, spells_quiet}
@@ -35,7 +35,7 @@ module _ (limits : Limits) (law : Limits → List Entry → Type 0) (apart : Kee
       go : (reach : Reach) → ReachFits limits words run other.actor reach → LeavesRow row reach
       go Idle fits = tt
       go Noted fits = tt
-      go (Writing at first written) fits = λ e. absurd (apart.unread other.actor actor row run legal (subst (λ (z : ℕ). KnowsPlaceable (knows run other.actor) z) e fits.may) may)
+      go (Writing at first written) fits = λ e. absurd (apart.unread other.actor actor row run legal (rw (← e) fits.may) may)
 
   each_leaves : (words : List ℕ) (run : List Entry) (actor row : ℕ) (view : List Part) → law limits run → KnowsReadable (knows run actor) row
       → Each (PartFits limits words run) view → Each (λ p. LeavesRow row p.reach) view
@@ -61,7 +61,7 @@ module _ (limits : Limits) (law : Limits → List Entry → Type 0) (apart : Kee
     -- what the seat knows now
     module _ (s : TableState) (h : Rule limits law s) (there : get_elem? s.views id ≡ some (alone limits actor (seen_of me) Idle)) where
       may_now : KnowsReadable (knows h.run actor) row
-      may_now = subst (λ k. KnowsReadable k row) (sym (knows_now limits law s h id actor (seen_of me) Idle tt there)) known
+      may_now = rw (knows_now limits law s h id actor (seen_of me) Idle tt there) known
 
       -- a record that the seat has read since it entered is still in its row
       stands_now : (actor' : ℕ) → actor ≡ actor' → (row' : ℕ) (content : Record) → HasReadRecord (knows (seen_of me) actor') row' content → (memory_of limits h.run).rows row' ≡ Some content
@@ -73,7 +73,7 @@ module _ (limits : Limits) (law : Limits → List Entry → Type 0) (apart : Kee
       read_word : (limits' : Limits) → limits ≡ limits' → (actor' : ℕ) → actor ≡ actor' → (row' place' : ℕ) (content : Record) → place' < used_in limits' (Some content)
           → HasReadRecord (knows (seen_of me) actor') row' content → get_or s.words (row_at limits' row' place') 0 ≡ get_or (stored limits' content) place' 0
       read_word limits' tree actor' who row' place' content used has =
-          subst (λ (l : Limits). place' < used_in l (Some content) → get_or s.words (row_at l row' place') 0 ≡ get_or (stored l content) place' 0) tree by used
+          rw (← tree) (by (rw tree used))
         where
           stays : (memory_of limits h.run).rows row' ≡ Some content
           stays = stands_now actor' who row' content has
@@ -83,14 +83,14 @@ module _ (limits : Limits) (law : Limits → List Entry → Type 0) (apart : Kee
 
           may : KnowsReadable (knows h.run actor) row'
           may =
-              subst (λ k. KnowsReadable k row') (sym (knows_now limits law s h id actor (seen_of me) Idle tt there))
-              (subst (λ (z : ℕ). KnowsReadable (knows (seen_of me) z) row') (sym who) has.may)
+              rw (knows_now limits law s h id actor (seen_of me) Idle tt there)
+              (rw who has.may)
 
           by : place' < used_in limits (Some content) → get_or s.words (row_at limits row' place') 0 ≡ get_or (stored limits content) place' 0
           by used =
               let fills = kept.fills in
               let few = used_few limits content kept.spelling in
-              word_is s h actor row' place' may kept.there (omega (arith, used, fills, few)) (subst (λ (o : Option Record). place' < used_in limits o) (sym stays) used)
+              word_is s h actor row' place' may kept.there (omega (arith, used, fills, few)) (rw stays used)
               ∙ ap (λ o. get_or (words_in limits o) place' 0) stays
 
     looks : (place : ℕ) → place < row_size → Allows (Rule limits law) slots id me (row_at limits row place) (λ n. n) (Looks (step slots (row_at limits row place) 0 0 none) me)
@@ -141,8 +141,7 @@ module _ (limits : Limits) (law : Limits → List Entry → Type 0) (apart : Kee
           λ me' is_after took limits' actor' row' is' word.
               let tree : limits ≡ limits' = same_limits limits limits' actor actor' Idle Idle me is is' in
               let row_same : row ≡ row' = same_row limits limits' tree row row' 0 (omega arith) word in
-              subst (λ (z : Limits × ℕ × ℕ). SitsAt z.0 z.1 Idle me' × ReadsFirst law z.0 z.1 (seen_of me) z.2 n (seen_of me'))
-              (λ k. (same_limits limits limits' actor actor' Idle Idle me is is' k, same_actor limits limits' actor actor' Idle Idle me is is' k, row_same k))
+              rw (← tree, ← same_actor limits limits' actor actor' Idle Idle me is is', ← row_same)
               (is_after, (x.0, x.2, first, took)),
         ))
 
@@ -150,10 +149,8 @@ module _ (limits : Limits) (law : Limits → List Entry → Type 0) (apart : Kee
 module _ (law : Limits → List Entry → Type 0) (key limits : Limits) (own : key ≡ limits) (apart : KeepsRowsApart limits (law limits)) (slots id actor : ℕ) (me : Mine) (row word : ℕ)
     (within : row < limits.rows) (is : SitsAt limits actor Idle me) (known : KnowsReadable (knows (seen_of me) actor) row) where
   pub looks_at : (place : ℕ) → place < row_size → word ≡ row_at limits row place → Allows (Rule key law) slots id me word (λ n. n) (Looks (step slots word 0 0 none) me)
-  looks_at place small at = subst (λ (z : Limits × ℕ). Allows (Rule z.0 law) slots id me z.1 (λ n. n) (Looks (step slots z.1 0 0 none) me)) (λ k. (sym own k, sym at k))
-      (looks limits law apart slots id actor me row within is known place small)
+  looks_at place small at = rw (own, at) (looks limits law apart slots id actor me row within is known place small)
 
   pub reads_at : word ≡ row_at limits row 0 → IsLawfulStep law limits actor (seen_of me) None (Row row) None
       → Allows (Rule key law) slots id me word (λ n. n) (ReadsRow law (step slots word 0 0 none) me)
-  reads_at at may = subst (λ (z : Limits × ℕ). Allows (Rule z.0 law) slots id me z.1 (λ n. n) (ReadsRow law (step slots z.1 0 0 none) me)) (λ k. (sym own k, sym at k))
-      (reads limits law apart slots id actor me row within is known may)
+  reads_at at may = rw (own, at) (reads limits law apart slots id actor me row within is known may)

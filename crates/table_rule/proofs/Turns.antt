@@ -58,8 +58,7 @@ pub at_each : (P : Limits → ℕ → Reach → Type 0) (limits : Limits) (actor
     → (limits' : Limits) (actor' : ℕ) (reach' : Reach) → SitsAt limits' actor' reach' me → P limits' actor' reach'
 at_each P limits actor reach me is p limits' actor' reach' is' =
     let same : reach ≡ reach' = ap (λ (z : Mine). reach_in z.0) (sym is ∙ is') in
-    subst (λ (z : Limits × ℕ × Reach). P z.0 z.1 z.2)
-    (λ k. (same_limits limits limits' actor actor' reach reach' me is is' k, same_actor limits limits' actor actor' reach reach' me is is' k, same k)) p
+    rw (← same_limits limits limits' actor actor' reach reach' me is is', ← same_actor limits limits' actor actor' reach reach' me is is', ← same) p
 
 module _ (limits : Limits) (law : Limits → List Entry → Type 0) where
   abbrev pub Rule : TableState → Type 0
@@ -96,7 +95,7 @@ module _ (limits : Limits) (law : Limits → List Entry → Type 0) where
       let still : (memory_of limits run).rows row ≡ (memory_of limits run').rows row = sym (spares.records other row ne fits.may) in (
         spares.extends other seen ne goes,
         record {
-          may = subst (λ k. KnowsPlaceable k row) (sym (spares.same other ne)) fits.may;
+          may = rw (spares.same other ne) fits.may;
           there = fits.there;
           short = fits.short;
           old = λ kind. fits.old kind ∙ ap (λ o. get_or (words_in limits o) 0 0) still;
@@ -127,7 +126,7 @@ module _ (limits : Limits) (law : Limits → List Entry → Type 0) where
 
   pub spells_quiet : (s : TableState) (h : Rule s) (id actor : ℕ) (seen : List Entry) → get_elem? s.views id ≡ some (alone limits actor seen Idle) → (at : ℕ) (view : List Part)
       → SpellsWhere limits (set s.words at (get_or s.words at 0)) (memory_of limits h.run) (IsSettled (set s.views id view))
-  spells_quiet s h id actor seen there at view = subst (λ (words : List ℕ). SpellsWhere limits words (memory_of limits h.run) (IsSettled (set s.views id view))) (sym (set-get_or s.words at 0))
+  spells_quiet s h id actor seen there at view = rw (set-get_or s.words at 0)
       (spells_views limits s.words (memory_of limits h.run) (IsSettled s.views) (IsSettled (set s.views id view))
       (λ other st. settled_back s.views id limits actor seen Idle view other there tt st) h.spells)
 
@@ -151,7 +150,7 @@ module _ (limits : Limits) (law : Limits → List Entry → Type 0) where
         once = λ b. let same = moved b in let o = h.once b in omega arith;
         somewhere = λ b below. let same = moved b in let o = h.somewhere b below in omega arith;
         each = λ j view here. ⊎_elim
-            (λ t. subst (λ u. Each (PartFits limits (set s.words i x) run') u) t.1
+            (λ t. rw (← t.1)
             (record { extends = extends_goes reach' actor seen' run' extends; reach = fits; there = mine.0.there; own_limits = mine.0.own_limits }, tt))
             (λ t. each_zip (λ p. IsApart actor p.actor p.reach) (PartFits limits s.words h.run) (PartFits limits (set s.words i x) run') (part_spared actor s.words (set s.words i x) h.run run' spares)
             view (elsewhere s.views id j (alone limits actor seen reach) view actor h.once at (omega arith) t.1 t.0) (h.each j view t.1))
@@ -202,11 +201,11 @@ module _ (limits : Limits) (law : Limits → List Entry → Type 0) where
         keeps,
         tt,
         turn s h id actor (seen_of me) reach stands at' me.1 i (f (get_or s.words i 0)) later later Idle tt legal spares (extends_self actor later)
-            (subst (λ m. (row : ℕ) (content : Record) → m.rows row ≡ Some content → IsSpelledRow limits row content) (sym after) r.kept)
+            (rw after r.kept)
             begins (subst (Each (λ entry. entry_actor entry < limits.actors)) (sym grown)
             (each_append (λ entry. entry_actor entry < limits.actors) h.run more h.actors (actors_events limits actor begun step answer reply fit.there)))
             tt
-            (subst (λ m. SpellsWhere limits (set s.words i (f (get_or s.words i 0))) m (IsSettled (set s.views id (alone limits actor later Idle)))) (sym after) (r.spells _ refl)),
+            (rw after (r.spells _ refl)),
         t.2 (alone limits actor later Idle, me.1) (ap (λ (c : List (ℕ × Unit {0})). (alone limits actor later Idle, c)) (ap (λ (z : Mine). z.1) is))
             record { run = h.run; legal = h.legal; extends = extends; answered = r.answered; grown = refl; begins = begins; kept = legal },
       )

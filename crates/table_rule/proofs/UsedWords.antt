@@ -1,5 +1,5 @@
 -- Which words a record uses.
-use Rattle.std.proofs.Common.{◌≡◌, ◌<◌, ◌≤◌, Bool, true, false, [], ◌∷◌, ◌+◌, ◌*◌, ◌-◌, ℕ, List, ◌++◌, drop, length, get_or, replicate, take, refl, sym, ap, subst, ◌∙◌, ⊎_elim, arith}
+use Rattle.std.proofs.Common.{◌≡◌, ◌<◌, ◌≤◌, Bool, true, false, [], ◌∷◌, ◌+◌, ◌*◌, ◌-◌, ℕ, List, ◌++◌, drop, length, get_or, replicate, take, refl, sym, ap, ◌∙◌, ⊎_elim, arith}
 use Rattle.std.specs.Prelude.{if◌then◌else◌, Option, None, Some}
 use Rattle.tree_limits.specs.declared.limits.Limits.{Limits}
 use Rattle.std.proofs.Math.Nat.{le-max_left, le-max_right}
@@ -87,13 +87,13 @@ some_used limits (Some content) = by limits.is_large
 
 pub all_used : (limits : Limits) → limits.is_large ≡ false → (there : Option Record) (j : ℕ) → j < row_size → j < used_in limits there
 all_used limits small None j low = low
-all_used limits small (Some content) j low = subst (λ (b : Bool). j < (if b then length (compact_words content) else row_size)) (sym small) low
+all_used limits small (Some content) j low = rw small low
 
 -- Each record of a row uses words of the row, and so do two.
 pub few_of_either : (first : ℕ) (content : Record) (words : List ℕ) → used_by first ≤ row_size → IsSpelling content words → used_by_either first (get_or words 0 0) ≤ row_size
 few_of_either first content words room spelt =
     let spelled : HasSpelling content = record { spellable = spelt.spellable; short = spelt.short; are = refl } in
-    let new : used_by (get_or words 0 0) ≤ row_size = subst (λ (us : List ℕ). used_by (get_or us 0 0) ≤ row_size) spelt.are (few content spelled) in
+    let new : used_by (get_or words 0 0) ≤ row_size = rw (← spelt.are) (few content spelled) in
     ⊎_elim (λ low. omega (arith, low, room, new)) (λ high. omega (arith, high, room, new)) (cases_lt (used_by first) (used_by (get_or words 0 0)))
 
 pub tail_length : (xs : List ℕ) → length (tail_from xs) ≡ length xs - 1

@@ -1,5 +1,5 @@
 -- A word is watched, which keeps the rule: the words stay, and the seat has seen the longest run.
-use Rattle.std.proofs.Common.{◌≡◌, ℕ, ◌<◌, List, [], map, get_or, set, sym, refl, ap, subst, arith}
+use Rattle.std.proofs.Common.{◌≡◌, ℕ, ◌<◌, List, [], map, get_or, refl, ap, subst, arith}
 use Rattle.std.proofs.lemmas.List.{set-get_or}
 use mathlib.Core.Option.{none}
 use Rattle.atomic_table.specs.Table.{Allows, step as made, keeps}
@@ -18,8 +18,8 @@ use Rattle.tree_words.specs.Changes.{HasWord, SetsBits, StepsChangeOneWord, Word
 use Rattle.tree_words.specs.declared.operations.Operation.TheVariants.{Load}
 use Rattle.table_rule.specs.declared.view.Part.{Part}
 use Rattle.table_rule.specs.declared.view.Reach.TheVariants.{Idle}
-use Rattle.table_rule.specs.Running.{Each, IsSettled, PartFits}
-use Rattle.table_rule.specs.Steps.{Watched, Watches}
+use Rattle.table_rule.specs.Running.{IsSettled, PartFits}
+use Rattle.table_rule.specs.Steps.{Watches}
 use Rattle.table_rule.specs.Views.{IsOf, Mine, alone, part, with_run, seen_of}
 use Rattle.table_rule.proofs.Parts.{spells_views}
 use Rattle.table_rule.proofs.Roster.{view_refreshed}
@@ -52,7 +52,7 @@ module _ (change : StepsChangeOneWord) (limits : Limits) (law : Limits → List 
       let found : ℕ = get_or s.words (changed_word limits actor step) 0 in
       let told_is : IsAnswer m step (answer_by step found) = (change limits s.words m actor step h.wide parts few has (reads_none step reads)).answers in
       let number : IsAnswer m step (Number found) = subst (IsAnswer m step) (reads_number limits step found has reads) told_is in
-      subst (λ (j : ℕ). IsAnswer m step (Number (get_or s.words j 0))) (sym at) number
+      rw at number
 
   watches : (slots id : ℕ) (me : Mine) (i : ℕ) → Allows (Rule limits law) slots id me i (λ n. n) (Watches law (made slots i 0 0 none) me)
   watches slots id me i s h _ at _ =
@@ -61,20 +61,20 @@ module _ (change : StepsChangeOneWord) (limits : Limits) (law : Limits → List 
         view,
         keeps,
         tt,
-        subst (λ (ws : List ℕ). Rule limits law record { words = ws; homes = s.homes; views = set s.views id view }) (sym (set-get_or s.words i 0)) (view_refreshed limits (law limits) s h id me.0 at),
+        rw (set-get_or s.words i 0) (view_refreshed limits (law limits) s h id me.0 at),
         λ limits' actor step is few has reads word.
-            let fits : PartFits limits s.words run (part limits' actor (seen_of me) Idle) = (subst (λ (m : Mine). Each (PartFits limits s.words run) m.0) is (h.each id me.0 at)).0 in
+            let fits : PartFits limits s.words run (part limits' actor (seen_of me) Idle) = (rw is at (h.each id me.0 at)).0 in
             let now : (view, me.1) ≡ (alone limits' actor run Idle, []) = ap (λ (m : Mine). (map (with_run run) m.0, m.1)) is in
             let saw : seen_of (view, me.1) ≡ run = ap seen_of now in (
-              subst (λ (seen : List Entry). (view, me.1) ≡ (alone limits' actor seen Idle, [])) (sym saw) now,
-              subst (λ (z : Limits × List Entry). Watched law z.0 actor (seen_of me) step (get_or s.words i 0) z.1) (λ k. (sym fits.own_limits k, sym saw k))
+              rw saw now,
+              rw (fits.own_limits, saw)
                   record {
                     legal = h.legal;
                     extends = fits.extends;
                     begins = h.begins;
                     answered = answered s h actor i step few
-                        (subst (λ (l : Limits). HasWord l step) fits.own_limits has) reads
-                        (subst (λ (l : Limits). i ≡ changed_word l actor step) fits.own_limits word);
+                        (rw (← fits.own_limits) has) reads
+                        (rw (← fits.own_limits) word);
                   },
             ),
       )

@@ -1,4 +1,4 @@
-use Rattle.std.proofs.Common.{◌≡◌, ℕ, zero, suc, List, [], ◌∷◌, ◌∙◌, ap, refl, subst, sym}
+use Rattle.std.proofs.Common.{◌≡◌, ℕ, zero, suc, List, [], ◌∷◌, ◌∙◌, ap, refl, sym}
 use Rattle.std.specs.Prelude.{Some, slice_get}
 use mathlib.Core.Option.{some, some-injective, some-ne-none}
 use lib.ListN.{get_elem?}
@@ -29,7 +29,7 @@ module _ (law : Limits → List Entry → Type 0) (limits : Limits) where
   of_view : (id : ℕ) (view : List Part) (place : ℕ) (one : Part) → get_elem? (alone limits 1 [] Idle ∷ []) id ≡ some view → slice_get view place ≡ Some one → one.actor ≡ 0 → ⊥
   of_view zero view place one at there own =
       let is : alone limits 1 [] Idle ≡ view = some-injective (alone limits 1 [] Idle) view at in
-      let same_part : part limits 1 [] Idle ≡ one = only (part limits 1 [] Idle) one place (subst (λ (v : List Part). slice_get v place ≡ Some one) (sym is) there) in
+      let same_part : part limits 1 [] Idle ≡ one = only (part limits 1 [] Idle) one place (rw is there) in
       let one_is_none : 1 ≡ 0 = ap (λ (p : Part). p.actor) same_part ∙ own in cc
   of_view (suc id) view place one at there own = some-ne-none view (sym at)
 

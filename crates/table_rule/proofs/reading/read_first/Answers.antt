@@ -1,11 +1,6 @@
 use Rattle.std.proofs.Common.{ap, arith, subst, sym, ◌∙◌}
-use Rattle.std.specs.Prelude.{None}
 use Rattle.tree_words.proofs.RowWidths.{row_within}
-use Rattle.bw_model.specs.declared.step.Step.TheVariants.{Row}
-use Rattle.traces.specs.discipline.Knowledge.{knows}
-use Rattle.table_rule.specs.Running.{KnowsReadable}
-use Rattle.table_rule.specs.Steps.{IsLawfulStep, ReadsFirst}
-use Rattle.table_rule.specs.Views.{Mine, SitsAt, seen_of}
+use Rattle.table_rule.specs.Views.{SitsAt}
 use Rattle.table_rule.specs.declared.view.Reach.TheVariants.{Idle}
 use Rattle.table_rule.proofs.RowReads.{reads_at}
 use Rattle.table_rule.proofs.reading.read_first.Goals as goal
@@ -21,9 +16,9 @@ load-requires g c =
       omega (arith, c.requires.range, wide, base, inside),
       reads_at g.P.Law.law _ c.args.limits.now c.requires.table.own c.requires.law _ _ c.args.actor _ c.args.row _ c.requires.range
           (subst (SitsAt c.args.limits.now c.args.actor Idle) me c.requires.seat)
-          (subst (λ (m : Mine). KnowsReadable (knows (seen_of m) c.args.actor) c.args.row) me c.requires.known)
+          (rw (← me) c.requires.known)
           base
-          (subst (λ (m : Mine). IsLawfulStep g.P.Law.law c.args.limits.now c.args.actor (seen_of m) None (Row c.args.row) None) me c.requires.may),
+          (rw (← me) c.requires.may),
     )
 
 pub returns-clause-seat : goal.returns-clause-seat
@@ -35,5 +30,5 @@ pub returns-clause-took : goal.returns-clause-took
 returns-clause-took g c =
     let back = ap (λ s. s.me) c.look_ahead.ensures.same in
     let sits = subst (SitsAt c.args.limits.now c.args.actor Idle) (sym back) c.requires.seat in
-    subst (λ (m : Mine). ReadsFirst g.P.Law.law c.args.limits.now c.args.actor (seen_of m) c.args.row c.load.result (seen_of c.load.new.seat.me)) back
+    rw (← back)
     (c.load.ensures.2 c.args.limits.now c.args.actor c.args.row sits c.row_place-place.ensures).1
