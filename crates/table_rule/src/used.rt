@@ -19,7 +19,7 @@ pub(crate) fn words_of_either(one: u64, other: u64) -> usize
     used_words(one).max(used_words(other))
 }
 
-/// How many words are to be written behind the header of a row, where this first word stands until then.
+/// How many words are to be written behind the header of a row. In a small tree the first word is the one that stands there until then.
 pub(crate) fn words_over(limits: &Limits, first: u64, spelt: &[u64]) -> usize
     requires { 0 < length spelt.now }
     ensures { result ≡ words_over limits.now first spelt.now }
