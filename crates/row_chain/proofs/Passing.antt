@@ -1,5 +1,5 @@
 -- Which of ascending items are left of a bound.
-use Rattle.std.proofs.Common.{◌≡◌, ◌≤◌, ◌+◌, ◌-◌, ℕ, List, [], ◌∷◌, ◌++◌, length, get_or, take, drop, Bool, true, false, sym, ap, subst, ◌∙◌, arith}
+use Rattle.std.proofs.Common.{◌≡◌, ◌<◌, ◌≤◌, ◌+◌, ◌-◌, ℕ, List, [], ◌∷◌, ◌++◌, length, get_or, take, drop, Bool, true, false, sym, ap, subst, ◌∙◌, arith}
 use Rattle.std.specs.Prelude.{IsTrue, not}
 use Rattle.std.specs.List.{AllByRecursion}
 use Rattle.std.specs.Ordering.{is_lt}
@@ -70,3 +70,9 @@ one_further rows place row within is =
 
 pub parted : (rows : List PlacedRecord) (place : ℕ) → contents rows ≡ contents (take place rows) ++ contents (drop place rows)
 parted rows place = ap contents (sym (take-append-drop place rows)) ∙ map-append (λ (placed : PlacedRecord). placed.content) (take place rows) (drop place rows)
+
+-- the records of a row that stands alone
+pub lone : (rows : List PlacedRecord) (row : PlacedRecord) → length rows ≤ 1 → 0 < length (contents rows) → row ≡ get_or rows 0 row → row.content ∷ [] ≡ contents rows
+lone [] row few some is = absurd (omega (arith, some))
+lone (one ∷ []) row few some is = ap (λ (r : PlacedRecord). r.content ∷ []) is
+lone (one ∷ other ∷ rest) row few some is = absurd (omega (arith, few))

@@ -3,7 +3,7 @@ use Rattle.traces.specs.chain.Chains.{content_in}
 use Rattle.row_chain.specs.Walks.{is_left}
 use Rattle.row_chain.specs.Placed.{contents}
 use Rattle.row_chain.proofs.ChildWalks.{IsBest}
-use Rattle.row_chain.proofs.chain.Chain.greatest_child.Given as goal
+use Rattle.row_chain.proofs.chain.Chain.greatest_over_base.Given as goal
 
 abbrev pub invariant-loop-place : goal.invariant-loop-place
 invariant-loop-place g l = record {
