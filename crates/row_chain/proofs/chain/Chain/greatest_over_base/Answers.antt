@@ -1,14 +1,7 @@
-use Rattle.std.proofs.Common.{◌≡◌, ◌≤◌, ◌+◌, ℕ, List, [], ◌∷◌, ◌++◌, length, get_or, take, drop, sym, ap, subst, ◌∙◌, arith}
+use Rattle.row_chain.proofs.Words.{◌≡◌, ◌≤◌, ◌+◌, ◌∷◌, ◌++◌, length, get_or, take, drop, sym, ap, subst, ◌∙◌, arith, take_all, Child, Item, IsGreatest, Record, items_said, content_in, contents}
+use Rattle.row_chain.proofs.Words.{is_left, IsGreatestKey}
+use Rattle.std.proofs.Common.{ℕ, List, []}
 use Rattle.std.specs.Prelude.{Option, false}
-use Rattle.std.proofs.lemmas.List.{take_all}
-use Rattle.base_page.specs.declared.item.Content.TheVariants.{Child}
-use Rattle.base_page.specs.declared.item.Item.{Item}
-use Rattle.base_page.specs.Places.{IsGreatest}
-use Rattle.deltas.specs.declared.record.Record.{Record}
-use Rattle.row_search.specs.Items.{items_said}
-use Rattle.traces.specs.chain.Chains.{content_in}
-use Rattle.row_chain.specs.Placed.{contents}
-use Rattle.row_chain.specs.Walks.{is_left, IsGreatestKey}
 use Rattle.row_chain.proofs.ChildWalks.{IsBest, at_bound, best_kept, best_new, child_best, child_found}
 use Rattle.row_chain.proofs.Passing.{one_further, parted}
 use Rattle.row_chain.proofs.chain.Chain.greatest_over_base.Goals.{in-None, in-Some+else-is_last+else-place-records}
@@ -70,7 +63,7 @@ returns-then-is_last-clause-child g c =
     let all : whole ++ rest ≡ chain = ap (λ records. records ++ rest) (sym further) ∙ sym (parted rows (place + 1)) ∙ c.as_read-records.ensures.records in
     let greatest = at_bound whole rest c.args.below c.args.bound.now item.key item.content at.0 key_is after in
     child_found chain c.keeps_rules.ensures.fitted passes item.key item.content c.child_at-child.result
-    (subst (λ (records : List Record). IsGreatest (content_in records) passes item.key item.content) all greatest) (c.child_at-child.ensures.child none)
+    (rw (← all) greatest) (c.child_at-child.ensures.child none)
 
 -- of the last record
 pub returns-then-place-records-clause-child : goal.returns-then-place-records-clause-child
@@ -91,7 +84,7 @@ returns-then-place-records-clause-child g c =
     let end : length rows ≤ place + 1 = (let last = c.if-place-records.true in omega (arith, last)) in
     let all : whole ≡ chain = sym further ∙ ap contents (take_all (place + 1) rows end) ∙ c.as_read-records.ensures.records in
     child_found chain c.keeps_rules.ensures.fitted passes item.key item.content c.child_at-child.result
-    (subst (λ (records : List Record). IsGreatest (content_in records) passes item.key item.content) all after) (c.child_at-child.ensures.child none)
+    (rw (← all) after) (c.child_at-child.ensures.child none)
 
 -- after the last one
 pub returns-clause-child : goal.returns-clause-child
@@ -103,4 +96,4 @@ returns-clause-child g c =
     let end : length rows ≤ place = c.loop-place-test.false in
     let all : contents (take place rows) ≡ chain = ap contents (take_all place rows end) ∙ c.as_read-records.ensures.records in
     child_best chain c.keeps_rules.ensures.fitted passes c.loop-place.best c.loop-place.child
-    (subst (λ (records : List Record). IsBest (content_in records) passes c.loop-place.best c.loop-place.child) all c.loop-place.invariant.best)
+    (rw (← all) c.loop-place.invariant.best)

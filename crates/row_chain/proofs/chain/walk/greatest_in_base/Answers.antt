@@ -1,9 +1,6 @@
-use Rattle.std.proofs.Common.{[], ◌∷◌, ◌≡◌, ◌<◌, ◌≤◌, ◌-◌, ℕ, get_or, refl, arith}
+use Rattle.row_chain.proofs.Words.{◌∷◌, refl, arith, Child, Item, is_left}
+use Rattle.std.proofs.Common.{[]}
 use Rattle.std.specs.Prelude.{None, false}
-use Rattle.base_page.specs.declared.item.Content.TheVariants.{Child}
-use Rattle.base_page.specs.declared.item.Item.{Item}
-use Rattle.row_search.specs.Items.{items_said}
-use Rattle.row_chain.specs.Walks.{is_left}
 use Rattle.row_chain.proofs.ChildWalks.{child_best, child_found}
 use Rattle.row_chain.proofs.Winners.{none_left, wins}
 use Rattle.row_chain.proofs.chain.walk.greatest_in_base.Goals as goal
