@@ -1,14 +1,9 @@
 -- What a fitted chain is: deltas over a base. No delta changes the level, the lowest key, or whether an older one removed the page.
-use Rattle.std.proofs.Common.{◌≡◌, ◌<◌, ℕ, zero, suc, List, [], ◌∷◌, length, get_or, refl, sym, ap, ◌∙◌, arith, true, false}
-use Rattle.std.specs.Prelude.{is_some}
-use Rattle.base_page.specs.Pages.{Page}
-use Rattle.deltas.specs.declared.record.Record.{Record}
-use Rattle.deltas.specs.declared.record.Record.TheVariants.{Base, Put, Delete, Split, Term, Hold, Remove, Merge, Unterm}
-use Rattle.deltas.specs.Fits.{FitsOnPage}
+use Rattle.row_chain.proofs.Words.{◌≡◌, ◌<◌, zero, suc, ◌∷◌, length, get_or, refl, sym, ap, ◌∙◌, arith, true, is_some, Page, Record, Base, FitsOnPage}
+use Rattle.row_chain.proofs.Words.{row_of, low_in, IsFitted}
+use Rattle.std.proofs.Common.{ℕ, List, [], false}
 use Rattle.deltas.specs.Records.{level_after, low_after, next_row}
-use Rattle.record_slots.specs.Parts.{row_of}
-use Rattle.traces.specs.chain.Chains.{level_in, low_in}
-use Rattle.traces.specs.chain.Fitted.{IsFitted}
+use Rattle.traces.specs.chain.Chains.{level_in}
 
 pub some : (chain : List Record) → IsFitted chain → 0 < length chain
 some [] h = absurd h

@@ -1,18 +1,11 @@
 -- The child of the greatest term that a walk finds.
-use Rattle.std.proofs.Common.{◌≡◌, ◌<◌, ℕ, List, ◌++◌, Bool, true, false, Option, Some, None, refl, sym, ap, subst, ◌∙◌, arith}
-use Rattle.std.specs.Prelude.{MatchOption}
-use Rattle.bw_model.specs.Bytes.{is_below}
-use Rattle.base_page.specs.declared.item.Content.{Content}
-use Rattle.base_page.specs.declared.item.Content.TheVariants.{Value, Child}
+use Rattle.row_chain.proofs.Words.{◌≡◌, ◌<◌, ◌++◌, true, refl, sym, ap, ◌∙◌, arith, MatchOption, is_below, Content, Child, IsGreatest, belongs, Record, content_in, IsFitted, page_of}
+use Rattle.row_chain.proofs.Words.{ruled, is_left, IsGreatestKey}
+use Rattle.std.proofs.Common.{ℕ, List, Bool, false, Option, Some, None}
+use Rattle.base_page.specs.declared.item.Content.TheVariants.{Value}
 use Rattle.base_page.specs.Pages.{child_in}
-use Rattle.base_page.specs.Places.{IsGreatest, IsGreatestChild, HasNoChild}
+use Rattle.base_page.specs.Places.{IsGreatestChild, HasNoChild}
 use Rattle.base_page.proofs.KeyLaws.{not_true}
-use Rattle.base_page.proofs.PageLaws.{belongs}
-use Rattle.deltas.specs.declared.record.Record.{Record}
-use Rattle.traces.specs.chain.Chains.{content_in}
-use Rattle.traces.specs.chain.Fitted.{IsFitted}
-use Rattle.traces.proofs.FittedLaws.{page_of, ruled}
-use Rattle.row_chain.specs.Walks.{is_left, IsGreatestKey}
 use Rattle.row_chain.proofs.WalkLaws.{kept}
 
 no_child : (o : Option Content) → ((child : ℕ) (held : Bool) → o ≡ Some (Child child held) → ⊥) → child_in o ≡ None
@@ -41,7 +34,7 @@ at_bound front rest true bound key content e is g = cc
 at_bound front rest false bound key content e is g = record {
   has = kept front rest key content g.has;
   passing = g.passing;
-  greatest = λ other pass some. subst (λ k. is_below k other ≡ false) (sym is) (not_true (is_below bound other) pass);
+  greatest = λ other pass some. rw is (not_true (is_below bound other) pass);
 }
 
 module _ (chain : List Record) (fitted : IsFitted chain) where
@@ -63,10 +56,10 @@ module _ (chain : List Record) (fitted : IsFitted chain) where
   pub child_found : (passes : List ℕ → Bool) (key : List ℕ) (content : Content) (child : Option ℕ) → IsGreatest (content_in chain) passes key content → child ≡ child_in (Some content)
       → MatchOption child (HasNoChild (content_in chain) passes) (IsGreatestChild (content_in chain) passes)
   child_found passes key content child g e =
-      subst (λ r. MatchOption r (HasNoChild (content_in chain) passes) (IsGreatestChild (content_in chain) passes)) (sym e) (child_at_greatest passes key content g)
+      rw e (child_at_greatest passes key content g)
 
   pub child_best : (passes : List ℕ → Bool) (best : Option (List ℕ)) (child : Option ℕ) → IsBest (content_in chain) passes best child
       → MatchOption child (HasNoChild (content_in chain) passes) (IsGreatestChild (content_in chain) passes)
   child_best passes None child b =
-      subst (λ r. MatchOption r (HasNoChild (content_in chain) passes) (IsGreatestChild (content_in chain) passes)) (sym b.1) (record { none = λ q pass. ap child_in (b.0 q pass) })
+      rw b.1 (record { none = λ q pass. ap child_in (b.0 q pass) })
   child_best passes (Some key) child b = child_found passes key b.0.0 child b.0.1 (b.1 ∙ ap child_in b.0.1.has)

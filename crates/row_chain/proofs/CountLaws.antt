@@ -1,27 +1,21 @@
 -- How many ascending items are below a bound, and what one record of a chain makes of their number.
-use Rattle.std.proofs.Common.{◌≡◌, ◌+◌, ◌-◌, ℕ, List, [], ◌∷◌, ◌++◌, length, take, drop, Bool, true, false, Option, Some, None, refl, sym, ap, ◌∙◌, arith}
-use Rattle.std.specs.Prelude.{if◌then◌else◌, is_some, ◌&&◌}
-use Rattle.std.specs.List.{AllByRecursion, filter}
-use Rattle.std.specs.Ordering.{is_eq, is_lt}
+use Rattle.row_chain.proofs.Words.{◌≡◌, ◌+◌, ◌-◌, ◌∷◌, ◌++◌, length, take, drop, true, refl, sym, ap, ◌∙◌, arith, if◌then◌else◌, is_some, AllByRecursion, is_eq, is_lt, length-drop, take_all}
+use Rattle.row_chain.proofs.Words.{key_cmp, is_below, is_under, Content, Item, Page, IsAscending, content_at, either, Record, names, content_said, IsItemsOf, content_in, IsFitted, bound_under}
+use Rattle.row_chain.proofs.Words.{count_under, ruled}
+use Rattle.std.proofs.Common.{ℕ, List, [], Bool, false, Option, Some, None}
+use Rattle.std.specs.Prelude.{◌&&◌}
+use Rattle.std.specs.List.{filter}
 use Rattle.std.specs.declared.cmp.Ordering.TheVariants.{Less}
-use Rattle.std.proofs.lemmas.List.{length-drop, length-take, take-append-drop, take_all}
-use Rattle.bw_model.specs.Bytes.{key_cmp, is_below, is_under}
-use Rattle.base_page.specs.declared.item.Content.{Content}
-use Rattle.base_page.specs.declared.item.Item.{Item}
-use Rattle.base_page.specs.Pages.{Page, IsAscending, content_at}
+use Rattle.std.proofs.lemmas.List.{length-take, take-append-drop}
 use Rattle.base_page.specs.Places.{IsCut}
 use Rattle.base_page.proofs.CutLaws.{AreItems-joined, content_at-joined}
 use Rattle.base_page.proofs.ItemLaws.{Ascends, Ascends-from, IsAscending-from}
-use Rattle.base_page.proofs.KeyLaws.{below_from, below_reach, below-trans, either, same}
-use Rattle.deltas.specs.declared.record.Record.{Record}
+use Rattle.base_page.proofs.KeyLaws.{below_from, below_reach, below-trans, same}
 use Rattle.deltas.specs.declared.record.Record.TheVariants as kind
 use Rattle.deltas.specs.declared.record.Merge.{Merge}
 use Rattle.deltas.specs.declared.record.Split.{Split}
-use Rattle.deltas.specs.Records.{names, content_said}
-use Rattle.traces.specs.chain.Chains.{IsItemsOf, content_in}
-use Rattle.traces.specs.chain.Fitted.{FitsOver, IsFitted}
-use Rattle.row_chain.specs.Walks.{bound_under, count_under}
-use Rattle.traces.proofs.FittedLaws.{ascends_after, by_order, items_unique, lacks_first, ruled}
+use Rattle.traces.specs.chain.Fitted.{FitsOver}
+use Rattle.traces.proofs.FittedLaws.{ascends_after, by_order, items_unique, lacks_first}
 use Rattle.traces.proofs.Updated.{chosen, greater, itself, put_ascends, put_contents, with_put}
 
 -- every item is below no bound

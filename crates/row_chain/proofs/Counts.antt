@@ -1,20 +1,10 @@
 -- What one row of a chain makes of the number of items below a bound.
-use Rattle.std.proofs.Common.{◌≡◌, ◌<◌, ◌≤◌, ◌+◌, ◌-◌, ℕ, zero, suc, List, [], ◌∷◌, length, get_or, take, drop, drop-cons, add-one, Bool, None, Some, refl, sym, ap, subst, ◌∙◌, arith}
-use Rattle.std.specs.Prelude.{Option, is_some}
-use Rattle.std.specs.Ordering.{is_eq}
-use Rattle.std.proofs.lemmas.List.{drop_all}
-use Rattle.bw_model.specs.Bytes.{key_cmp}
-use Rattle.base_page.specs.declared.item.Item.{Item}
-use Rattle.base_page.specs.Pages.{IsAscending}
+use Rattle.row_chain.proofs.Words.{◌≡◌, ◌<◌, ◌≤◌, ◌+◌, ◌-◌, zero, suc, ◌∷◌, length, get_or, take, drop, drop-cons, refl, sym, ap, subst, ◌∙◌, arith, is_some, is_eq, drop_all, key_cmp, Item}
+use Rattle.row_chain.proofs.Words.{IsAscending, Record, Base, Put, Delete, Term, Hold, Remove, Unterm, content_said, names, items_of, one_key, IsItemsOf, IsFitted, bound_under, count_under}
+use Rattle.std.proofs.Common.{ℕ, List, [], add-one, Bool, None, Some}
+use Rattle.std.specs.Prelude.{Option}
 use Rattle.base_page.proofs.ItemLaws.{IsAscending-from}
-use Rattle.deltas.specs.declared.record.Record.{Record}
-use Rattle.deltas.specs.declared.record.Record.TheVariants.{Base, Put, Delete, Split, Term, Hold, Remove, Merge, Unterm}
-use Rattle.deltas.specs.Records.{content_said, names}
-use Rattle.record_slots.specs.Parts.{items_of}
-use Rattle.row_search.specs.OneKey.{one_key}
-use Rattle.traces.specs.chain.Chains.{IsItemsOf}
-use Rattle.traces.specs.chain.Fitted.{IsFitted}
-use Rattle.row_chain.specs.Walks.{bound_under, count_under}
+use Rattle.deltas.specs.declared.record.Record.TheVariants.{Split, Merge}
 use Rattle.row_chain.proofs.CountLaws.{changed_by_merge, changed_by_split, rest_is, unchanged}
 use Rattle.traces.proofs.FittedLaws.{items_unique}
 use Rattle.row_chain.proofs.OneKeys.{mark, named}
@@ -85,4 +75,4 @@ fitted_from (newest ∷ older ∷ under) (suc place) h within = fitted_from (old
 
 -- none is left behind the last one
 pub none_left : (rows : List Record) (place : ℕ) → length rows ≤ place → IsItemsOf (drop place rows) []
-none_left rows place none = subst (λ (records : List Record). IsItemsOf records []) (sym (drop_all place rows none)) nothing
+none_left rows place none = rw (drop_all place rows none) nothing

@@ -13,3 +13,4 @@ pub mod Places
 pub mod Standing
 pub mod WalkLaws
 pub mod Winners
+pub mod Words

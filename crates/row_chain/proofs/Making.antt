@@ -1,11 +1,7 @@
 -- The page that a chain makes: its base, and then each delta over what is under it.
-use Rattle.std.proofs.Common.{◌≡◌, ◌<◌, ◌-◌, ℕ, zero, suc, List, [], ◌∷◌, length, get_or, drop, sym, subst, arith}
-use Rattle.base_page.specs.Pages.{Page}
-use Rattle.deltas.specs.declared.record.Record.{Record}
-use Rattle.deltas.specs.declared.record.Record.TheVariants.{Base}
-use Rattle.deltas.specs.Fits.{FitsOnPage}
-use Rattle.deltas.specs.Spellable.{IsSpellable}
-use Rattle.traces.specs.chain.Fitted.{FitsOver, IsFitted, Makes}
+use Rattle.row_chain.proofs.Words.{◌≡◌, ◌<◌, ◌-◌, zero, suc, ◌∷◌, length, get_or, drop, sym, subst, arith, Page, Record, Base, FitsOnPage, IsSpellable, IsFitted, Makes}
+use Rattle.std.proofs.Common.{ℕ, List, []}
+use Rattle.traces.specs.chain.Fitted.{FitsOver}
 use Rattle.traces.proofs.FittedLaws.{Makes-base, first_spellable, fits}
 
 -- the last record is a base
@@ -21,7 +17,7 @@ pub base_makes : (chain : List Record) (place : ℕ) (base : Page) → IsFitted 
 base_makes [] place base h e is = absurd h
 base_makes (newest ∷ []) zero base h e is =
     let stands : IsSpellable (Base base) = subst IsSpellable is (first_spellable newest [] h) in
-    subst (λ (r : Record). Makes (r ∷ []) base) (sym is) (Makes-base base stands.ruled.is_page.ordered.ascending stands.alive)
+    rw is (Makes-base base stands.ruled.is_page.ordered.ascending stands.alive)
 base_makes (newest ∷ []) (suc place) base h e is = absurd (omega arith)
 base_makes (newest ∷ older ∷ under) zero base h e is = absurd (omega arith)
 base_makes (newest ∷ older ∷ under) (suc place) base h e is = base_makes (older ∷ under) place base h.1 (omega arith) is

@@ -1,17 +1,9 @@
 -- How many items a chain has at most, by how many each of its records has.
-use Rattle.std.proofs.Common.{◌≡◌, ◌≤◌, ◌+◌, ℕ, max, List, [], ◌∷◌, length, Bool, true, false, refl, arith}
-use Rattle.std.specs.Prelude.{Option, Some, None, if◌then◌else◌, is_some}
+use Rattle.row_chain.proofs.Words.{◌≡◌, ◌≤◌, ◌+◌, ◌∷◌, length, true, refl, arith, if◌then◌else◌, is_some, is_under, Item, either, Record, content_said, items_of, one_key, IsItemsOf, content_in}
+use Rattle.row_chain.proofs.Words.{IsFitted, bound_under, count_under}
+use Rattle.std.proofs.Common.{ℕ, max, List, [], Bool}
+use Rattle.std.specs.Prelude.{Option, Some, None}
 use Rattle.std.proofs.Math.Nat.{le-max_left, le-max_right}
-use Rattle.bw_model.specs.Bytes.{is_under}
-use Rattle.base_page.specs.declared.item.Item.{Item}
-use Rattle.base_page.proofs.KeyLaws.{either}
-use Rattle.deltas.specs.declared.record.Record.{Record}
-use Rattle.deltas.specs.Records.{content_said}
-use Rattle.record_slots.specs.Parts.{items_of}
-use Rattle.row_search.specs.OneKey.{one_key}
-use Rattle.traces.specs.chain.Chains.{IsItemsOf, content_in}
-use Rattle.traces.specs.chain.Fitted.{IsFitted}
-use Rattle.row_chain.specs.Walks.{bound_under, count_under}
 use Rattle.row_chain.proofs.CountLaws.{changed_at, count_all}
 use Rattle.row_chain.proofs.Counts.{changed, names_one}
 

@@ -1,10 +1,8 @@
 -- What the newest record that names a key says is what the chain has at it.
-use Rattle.std.proofs.Common.{◌≡◌, ℕ, List, [], ◌++◌, sym, ap, ◌∙◌}
+use Rattle.row_chain.proofs.Words.{◌≡◌, ◌++◌, sym, ap, ◌∙◌, Content, Record, content_in}
+use Rattle.std.proofs.Common.{ℕ, List, []}
 use Rattle.std.proofs.lemmas.List.{append-nil}
-use Rattle.base_page.specs.declared.item.Content.{Content}
 use Rattle.std.specs.Prelude.{Option}
-use Rattle.deltas.specs.declared.record.Record.{Record}
-use Rattle.traces.specs.chain.Chains.{content_in}
 
 -- what is said of the records with nothing under them
 pub alone : (rows chain : List Record) (key : List ℕ) (said : Option Content) → rows ≡ chain → content_in (rows ++ []) key ≡ said → said ≡ content_in chain key

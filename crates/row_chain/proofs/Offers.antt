@@ -1,13 +1,8 @@
 -- What a row says is there, as its items.
-use Rattle.std.proofs.Common.{◌≡◌, ℕ, List, [], ◌∷◌, Bool, true, None, refl}
-use Rattle.std.specs.Prelude.{Option, false, if◌then◌else◌}
-use Rattle.base_page.specs.declared.item.Content.{Content}
-use Rattle.base_page.specs.Pages.{content_at}
-use Rattle.deltas.specs.declared.record.Record.{Record}
-use Rattle.deltas.specs.declared.record.Record.TheVariants.{Base, Put, Delete, Split, Term, Hold, Remove, Merge, Unterm}
-use Rattle.deltas.specs.Spellable.{IsSpellable}
-use Rattle.row_search.specs.Items.{items_said}
-use Rattle.traces.specs.chain.Chains.{content_in}
+use Rattle.row_chain.proofs.Words.{◌≡◌, ◌∷◌, true, refl, if◌then◌else◌, Content, content_at, Record, Delete, Unterm, IsSpellable, items_said, content_in}
+use Rattle.std.proofs.Common.{ℕ, List, [], Bool, None}
+use Rattle.std.specs.Prelude.{Option, false}
+use Rattle.deltas.specs.declared.record.Record.TheVariants.{Split, Merge}
 use Rattle.row_chain.proofs.WalkLaws.{in_range}
 
 -- nothing is said, whether or not the key is named

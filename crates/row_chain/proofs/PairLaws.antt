@@ -1,31 +1,26 @@
 -- The pairs of ascending items from a key on, or up to a key.
-use Rattle.std.proofs.Common.{◌≡◌, ℕ, List, [], ◌∷◌, map, Bool, true, false, Option, Some, None, IsTrue, refl, sym, ap, subst, ◌∙◌, Less}
-use Rattle.std.specs.Prelude.{if◌then◌else◌, not, ◌↔◌}
-use Rattle.std.specs.List.{AllByRecursion, Contains}
+use Rattle.row_chain.proofs.Words.{◌≡◌, ◌∷◌, map, true, refl, sym, ap, ◌∙◌, if◌then◌else◌, not, AllByRecursion, is_eq, key_cmp, is_below, is_under, Content, Child, Item, Page}
+use Rattle.row_chain.proofs.Words.{IsAscending, content_at, and_left, either, belongs, Record, high_in, low_in, Makes}
+use Rattle.std.proofs.Common.{ℕ, List, [], Bool, false, Option, Some, None, IsTrue, Less}
+use Rattle.std.specs.Prelude.{◌↔◌}
+use Rattle.std.specs.List.{Contains}
 use Rattle.std.specs.List.Sorted.{IsStrictlySortedBy}
 use Rattle.std.specs.Map.{keys_of, lookup}
-use Rattle.std.specs.Ordering.{is_eq}
 use Rattle.std.proofs.lemmas.Cmp.{eq_by_cmp_equiv, nat_list_cmp_total}
 use Rattle.std.proofs.lemmas.Map.Keys.{IsDistinct-from_sorted}
 use Rattle.std.proofs.lemmas.Map.Views.{Contains-from_lookup, lookup-from_Contains}
-use Rattle.bw_model.specs.Bytes.{key_cmp, is_below, is_in_range, is_under}
+use Rattle.bw_model.specs.Bytes.{is_in_range}
 use Rattle.bw_model.specs.NextKeys.{key_after}
 use Rattle.bw_model.specs.Pairs.{ArePairsOf}
 use Rattle.bw_model.proofs.NextKeyLaws.{after_is_above}
-use Rattle.base_page.specs.declared.item.Content.{Content}
-use Rattle.base_page.specs.declared.item.Content.TheVariants.{Value, Child}
-use Rattle.base_page.specs.declared.item.Item.{Item}
-use Rattle.base_page.specs.Pages.{Page, IsAscending, IsPage, content_at}
+use Rattle.base_page.specs.declared.item.Content.TheVariants.{Value}
+use Rattle.base_page.specs.Pages.{IsPage}
 use Rattle.base_page.specs.Shown.{Pair, leaves_out, pairs_shown, with_pair_of}
 use Rattle.base_page.specs.declared.page.shows.Direction.{Direction}
 use Rattle.base_page.specs.declared.page.shows.Direction.TheVariants.{Forward, Backward}
 use Rattle.base_page.proofs.ItemLaws.{Ascends, Ascends-from, lacks_above}
-use Rattle.base_page.proofs.KeyLaws.{and_both, and_left, and_right, itself, either, same}
-use Rattle.base_page.proofs.PageLaws.{belongs}
-use Rattle.deltas.specs.declared.record.Record.{Record}
-use Rattle.traces.specs.chain.Chains.{high_in, low_in}
+use Rattle.base_page.proofs.KeyLaws.{and_both, and_right, itself, same}
 use Rattle.traces.specs.discipline.Discipline.{chain_value, value_of}
-use Rattle.traces.specs.chain.Fitted.{Makes}
 
 -- the keys ascend
 
@@ -146,7 +141,7 @@ pairs_in chain page from makes is =
             (λ contains.
                 let h = (shown.exact key value).0 contains in
                 let within : IsTrue (is_under key page.high) = and_right (not (is_below key page.low)) (is_under key page.high) (value_within page is key value h.1) in
-                (and_both (not (is_below key from)) (is_under key (high_in chain)) h.0 (subst (λ high. IsTrue (is_under key high)) makes.high within), sym same_value ∙ h.1)),
+                (and_both (not (is_below key from)) (is_under key (high_in chain)) h.0 (rw (← makes.high) within), sym same_value ∙ h.1)),
             (λ h. (shown.exact key value).1 (and_left (not (is_below key from)) (is_under key (high_in chain)) h.0, same_value ∙ h.1)),
           );
     }
@@ -164,7 +159,7 @@ pairs_upto chain page upto makes is =
                 let h = (shown.exact key value).0 contains in
                 let within : IsTrue (not (is_below key page.low)) = and_left (not (is_below key page.low)) (is_under key page.high) (value_within page is key value h.1) in (
                   and_both (not (is_below key (low_in chain))) (is_below key (key_after upto))
-                      (subst (λ low. IsTrue (not (is_below key low))) makes.low within) (after_is_above upto key ∙ h.0),
+                      (rw (← makes.low) within) (after_is_above upto key ∙ h.0),
                   sym same_value ∙ h.1,
                 )),
             (λ h. (shown.exact key value).1

@@ -1,20 +1,14 @@
 -- Which of ascending items are left of a bound.
-use Rattle.std.proofs.Common.{◌≡◌, ◌≤◌, ◌+◌, ◌-◌, ℕ, List, [], ◌∷◌, ◌++◌, length, get_or, take, drop, Bool, true, false, sym, ap, subst, ◌∙◌, arith}
-use Rattle.std.specs.Prelude.{IsTrue, not}
-use Rattle.std.specs.List.{AllByRecursion}
-use Rattle.std.specs.Ordering.{is_lt}
+use Rattle.row_chain.proofs.Words.{◌≡◌, ◌<◌, ◌≤◌, ◌+◌, ◌-◌, ◌∷◌, ◌++◌, length, get_or, take, drop, true, sym, ap, subst, ◌∙◌, arith, not, AllByRecursion, is_lt, key_cmp, is_below, Item}
+use Rattle.row_chain.proofs.Words.{AreItems, PlacedRecord, contents, is_left, PassesUpTo}
+use Rattle.std.proofs.Common.{ℕ, List, [], Bool, false}
+use Rattle.std.specs.Prelude.{IsTrue}
 use Rattle.std.specs.declared.cmp.Ordering.TheVariants.{Less}
 use Rattle.std.proofs.lemmas.List.{map-append, take-append-drop, take_more}
-use Rattle.bw_model.specs.Bytes.{key_cmp, is_below}
-use Rattle.base_page.specs.declared.item.Item.{Item}
-use Rattle.base_page.specs.Pages.{AreItems}
 use Rattle.base_page.specs.Places.{IsAt, IsCut, IsGap}
 use Rattle.base_page.proofs.ItemLaws.{all-append, all-weaker}
 use Rattle.base_page.proofs.KeyLaws.{above, itself}
 use Rattle.base_page.proofs.PlaceLaws.{above_place, below_place, IsCut-at, IsCut-gap}
-use Rattle.row_search.specs.Placed.{PlacedRecord}
-use Rattle.row_chain.specs.Placed.{contents}
-use Rattle.row_chain.specs.Walks.{is_left, PassesUpTo}
 
 not_above : (bound : List ℕ) (item : Item) → key_cmp item.key bound ≡ Less → IsTrue (not (is_below bound item.key))
 not_above bound item less = ap (λ o. not (is_lt o)) (above item.key bound less)
@@ -50,7 +44,7 @@ module _ (items : List Item) (are : AreItems items) (bound : List ℕ) (place : 
     front = subst (AllByRecursion (λ (item : Item). IsTrue (is_left false bound item.key))) (sym (take_more items place d at.within))
         (all-append (λ (item : Item). IsTrue (is_left false bound item.key)) (take place items) (get_or items place d ∷ [])
         (all-weaker _ _ (λ (item : Item) less. not_above bound item less) (take place items) (below_place items are bound place d at))
-        (subst (λ (key : List ℕ). IsTrue (not (is_below bound key))) (sym (at.found d)) (ap (λ o. not (is_lt o)) (itself bound)), tt));
+        (rw (at.found d) (ap (λ o. not (is_lt o)) (itself bound)), tt));
     rest = all-weaker _ _ (λ (item : Item) more. past bound item more) (drop (place + 1) items) (above_place items are bound place d at);
   }
 
@@ -70,3 +64,9 @@ one_further rows place row within is =
 
 pub parted : (rows : List PlacedRecord) (place : ℕ) → contents rows ≡ contents (take place rows) ++ contents (drop place rows)
 parted rows place = ap contents (sym (take-append-drop place rows)) ∙ map-append (λ (placed : PlacedRecord). placed.content) (take place rows) (drop place rows)
+
+-- the records of a row that stands alone
+pub lone : (rows : List PlacedRecord) (row : PlacedRecord) → length rows ≤ 1 → 0 < length (contents rows) → row ≡ get_or rows 0 row → row.content ∷ [] ≡ contents rows
+lone [] row few some is = absurd (omega (arith, some))
+lone (one ∷ []) row few some is = ap (λ (r : PlacedRecord). r.content ∷ []) is
+lone (one ∷ other ∷ rest) row few some is = absurd (omega (arith, few))

@@ -1,11 +1,8 @@
 -- The records of rows from a place on.
-use Rattle.std.proofs.Common.{◌≡◌, ◌<◌, ◌≤◌, ◌+◌, ◌-◌, ℕ, zero, suc, List, [], ◌∷◌, length, get_or, take, drop, drop-cons, add-one, sym, ap, subst, ◌∙◌, arith}
-use Rattle.std.proofs.lemmas.List.{drop_all, length-drop, take_all}
-use Rattle.row_search.specs.Placed.{PlacedRecord}
-use Rattle.traces.specs.chain.Chains.{IsItemsOf}
-use Rattle.traces.specs.chain.Fitted.{IsFitted}
+use Rattle.row_chain.proofs.Words.{◌≡◌, ◌<◌, ◌≤◌, ◌+◌, ◌-◌, zero, suc, ◌∷◌, length, get_or, take, drop, drop-cons, sym, ap, ◌∙◌, arith, drop_all, length-drop, take_all, PlacedRecord}
+use Rattle.row_chain.proofs.Words.{IsItemsOf, IsFitted, contents}
+use Rattle.std.proofs.Common.{ℕ, List, [], add-one}
 use Rattle.row_chain.proofs.Counts.{none_left}
-use Rattle.row_chain.specs.Placed.{contents}
 
 -- the rows behind a place, as a slice gives them
 pub rest_there : (rows : List PlacedRecord) (place : ℕ) → contents (take (length rows - (place + 1)) (drop (place + 1) rows)) ≡ contents (drop (place + 1) rows)
@@ -26,4 +23,4 @@ fitted_from (newest ∷ older ∷ under) (suc place) h within = fitted_from (old
 
 -- none is left behind the last one
 pub none_there : (rows : List PlacedRecord) (place : ℕ) → length rows ≤ place → IsItemsOf (contents (drop place rows)) []
-none_there rows place none = subst (λ (others : List PlacedRecord). IsItemsOf (contents others) []) (sym (drop_all place rows none)) (none_left [] 0 (omega arith))
+none_there rows place none = rw (drop_all place rows none) (none_left [] 0 (omega arith))

@@ -1,14 +1,12 @@
 -- Each record of a chain that was read is there.
-use Rattle.std.proofs.Common.{◌≡◌, ◌<◌, ℕ, List, [], ◌∷◌, drop, get_or, length, sym, ap, subst, ◌∙◌, arith}
-use Rattle.std.specs.Prelude.{Option, None, Some, MatchOption, unwrap_or}
-use Rattle.std.specs.List.{All}
+use Rattle.row_chain.proofs.Words.{◌≡◌, ◌<◌, ◌∷◌, drop, get_or, length, sym, ap, subst, ◌∙◌, arith, MatchOption, All, Record, PlacedRecord, PlacedChain, contents}
+use Rattle.std.proofs.Common.{ℕ, List, []}
+use Rattle.std.specs.Prelude.{Option, None, Some, unwrap_or}
 use Rattle.std.proofs.lemmas.List.{get_or-map, length-map}
 use Rattle.std.proofs.lemmas.List.Elements.{All-cons, All-from_recursion}
-use Rattle.deltas.specs.declared.record.Record.{Record}
 use Rattle.deltas.specs.Records.{next_row}
-use Rattle.row_search.specs.Placed.{PlacedRecord}
 use Rattle.traces.specs.chain.Chains.{IsChainFrom}
-use Rattle.row_chain.specs.Placed.{AreFrom, IsReadChain, PlacedChain, contents}
+use Rattle.row_chain.specs.Placed.{AreFrom, IsReadChain}
 
 some_from : (seen : ℕ → Option Record) (head : ℕ) (records : List Record) → IsChainFrom seen head records → 0 < length records
 some_from seen head [] is = absurd is

@@ -1,28 +1,22 @@
 -- What a walk over the records of a chain finds.
-use Rattle.std.proofs.Common.{◌≡◌, ℕ, ◌+◌, ◌-◌, ◌<◌, ◌≤◌, List, [], ◌∷◌, ◌++◌, length, get_or, take, drop, map, Bool, true, false, Option, Some, None, refl, sym, ap, subst, ◌∙◌, arith}
-use Rattle.std.specs.Prelude.{ltb, if◌then◌else◌, is_some, IsTrue, IsSome, not, ◌&&◌}
-use Rattle.std.specs.List.{AllWithin}
-use Rattle.std.specs.Ordering.{is_lt}
+use Rattle.row_chain.proofs.Words.{◌≡◌, ◌+◌, ◌-◌, ◌<◌, ◌≤◌, ◌∷◌, ◌++◌, length, get_or, take, drop, map, true, refl, sym, ap, subst, ◌∙◌, arith, if◌then◌else◌, is_some, not, AllWithin, is_lt}
+use Rattle.row_chain.proofs.Words.{length-drop, key_cmp, is_below, Content, Item, AreItems, Page, content_at, IsGreatest, either, and_left, belongs, Record, Base}
+use Rattle.row_chain.proofs.Words.{names, content_said, content_in, is_above, is_named, is_taken, IsGreatestKey, PassesUpTo}
+use Rattle.std.proofs.Common.{ℕ, List, [], Bool, false, Option, Some, None}
+use Rattle.std.specs.Prelude.{ltb, IsTrue, IsSome, ◌&&◌}
 use Rattle.std.proofs.Math.Bool.{and-false}
 use Rattle.std.proofs.lemmas.Bool.{ltb-true, ltb-false}
-use Rattle.std.proofs.lemmas.List.{get_or_default, get_or-map, get_or-take, get_or-drop, length-map, length-take, length-drop}
+use Rattle.std.proofs.lemmas.List.{get_or_default, get_or-map, get_or-take, get_or-drop, length-map, length-take}
 use Rattle.std.proofs.lemmas.List.Elements.{All-from_recursion, recursion_from_All}
 use Rattle.std.proofs.lemmas.Map.Keys.{Less-from_sorted}
-use Rattle.bw_model.specs.Bytes.{key_cmp, is_below, is_in_range}
-use Rattle.base_page.specs.declared.item.Content.{Content}
-use Rattle.base_page.specs.declared.item.Item.{Item}
-use Rattle.base_page.specs.Pages.{AreItems, IsPage, Page, content_at}
-use Rattle.base_page.specs.Places.{IsAt, IsGreatest}
+use Rattle.bw_model.specs.Bytes.{is_in_range}
+use Rattle.base_page.specs.Pages.{IsPage}
+use Rattle.base_page.specs.Places.{IsAt}
 use Rattle.base_page.proofs.ItemLaws.{of_content}
-use Rattle.base_page.proofs.KeyLaws.{above, below_from, below_reach, itself, either, and_left, and_right, and_both, not_true}
-use Rattle.base_page.proofs.PageLaws.{belongs}
+use Rattle.base_page.proofs.KeyLaws.{above, below_from, below_reach, itself, and_right, and_both, not_true}
 use Rattle.base_page.proofs.PlaceLaws.{content_at_place}
-use Rattle.deltas.specs.declared.record.Record.{Record}
-use Rattle.deltas.specs.declared.record.Record.TheVariants.{Base, Put, Delete, Split, Term, Hold, Remove, Merge, Unterm}
-use Rattle.deltas.specs.Records.{names, content_said}
 use Rattle.row_search.specs.Items.{may_take}
-use Rattle.traces.specs.chain.Chains.{content_in}
-use Rattle.row_chain.specs.Walks.{is_above, is_named, is_open, is_taken, IsGreatestKey, PassesUpTo}
+use Rattle.row_chain.specs.Walks.{is_open}
 
 pub none_there : {G : Type 0} (o : Option Content) → o ≡ None → IsSome o → G
 none_there None e h = cc
@@ -201,7 +195,7 @@ one_more P items place count some all here k d low high = by (ltb k place) refl
     by true e =
         let less = ltb-true k place e in
         let is : place - 1 ≡ k = omega (arith, some, low, less) in
-        subst (λ (n : ℕ). P (get_or items n d)) is (here d)
+        rw (← is) (here d)
     by false e = all k d (ltb-false k place e) high
 
 -- The last item that passes and is open, where each one after it isn't.
@@ -214,14 +208,14 @@ module _ (items : List Item) (are : AreItems items) (newer : List Record) (passe
   under i d lt =
       let all = All-from_recursion (λ (item : Item). IsTrue (passes item.key)) (take count items) cut.front in
       let within : i < length (take count items) = (let len = length-take count items in let in_all = cut.within in omega (arith, len, in_all, lt)) in
-      subst (λ (item : Item). IsTrue (passes item.key)) (get_or-take count items i d lt) (all i d within)
+      rw (← (get_or-take count items i d lt)) (all i d within)
 
   not_under : (i : ℕ) (d : Item) → count ≤ i → i < length items → passes (get_or items i d).key ≡ false
   not_under i d le lt =
       let all = All-from_recursion (λ (item : Item). passes item.key ≡ false) (drop count items) cut.rest in
       let within : i - count < length (drop count items) = (let len = length-drop count items in omega (arith, len, le, lt)) in
       let same_place : count + (i - count) ≡ i = omega (arith, le) in
-      subst (λ (item : Item). passes item.key ≡ false) (get_or-drop count items (i - count) d ∙ ap (λ n. get_or items n d) same_place) (all (i - count) d within)
+      rw (← (get_or-drop count items (i - count) d ∙ ap (λ n. get_or items n d) same_place)) (all (i - count) d within)
 
   -- each item from the place on doesn't pass
   closed : (i : ℕ) (d : Item) → place ≤ i → i < length items → Passes (get_or items i d).key ≡ false

@@ -1,16 +1,9 @@
 -- The item of a record that is above the newer records' greatest key, and that none of them names.
-use Rattle.std.proofs.Common.{◌≡◌, ◌<◌, ◌≤◌, ◌-◌, ℕ, List, [], ◌∷◌, ◌++◌, get_or, true, false, Option, Some, None, subst, arith}
+use Rattle.row_chain.proofs.Words.{◌≡◌, ◌<◌, ◌≤◌, ◌-◌, ◌∷◌, ◌++◌, get_or, true, subst, arith, AllWithin, is_below, Item, AreItems, IsGreatest, Record, IsSpellable, items_said, content_in}
+use Rattle.row_chain.proofs.Words.{is_above, is_named, is_taken, IsGreatestKey, PassesUpTo}
+use Rattle.std.proofs.Common.{ℕ, List, [], false, Option, Some, None}
 use Rattle.std.specs.Prelude.{Bool, IsTrue, IsSome}
-use Rattle.std.specs.List.{AllWithin}
-use Rattle.bw_model.specs.Bytes.{is_below}
-use Rattle.base_page.specs.declared.item.Item.{Item}
-use Rattle.base_page.specs.Pages.{AreItems}
-use Rattle.base_page.specs.Places.{IsGreatest}
-use Rattle.deltas.specs.declared.record.Record.{Record}
-use Rattle.deltas.specs.Spellable.{IsSpellable}
-use Rattle.row_search.specs.Items.{items_said}
-use Rattle.traces.specs.chain.Chains.{content_in}
-use Rattle.row_chain.specs.Walks.{is_above, is_named, is_open, is_taken, IsGreatestKey, PassesUpTo}
+use Rattle.row_chain.specs.Walks.{is_open}
 use Rattle.row_chain.proofs.Offers.{by_items}
 use Rattle.row_chain.proofs.WalkLaws.{down, last_open, none_open, none_there, not_there, offers_item, offers_none, outdoes, stays, under, untaken, upto_there}
 

@@ -87,7 +87,8 @@ fn change<R: Rows>(page: &mut Page, row: &RowAt<R>, rows: &R, pass: &mut R::Pass
     change_unless_put(page, row, rows, pass);
 }
 
-/// Makes of the page what a record that is no put makes of it.
+/// Makes of the page what a record that is no put makes of it. Not inlined: a put needs no room for what is decoded here.
+#[inline(never)]
 fn change_unless_put<R: Rows>(page: &mut Page, row: &RowAt<R>, rows: &R, pass: &mut R::Pass)
     requires read { R.has rows.now pass.old row.now.row row.now.content }
     requires fits { FitsOnPage page.old row.now.content }
@@ -101,7 +102,8 @@ fn change_unless_put<R: Rows>(page: &mut Page, row: &RowAt<R>, rows: &R, pass: &
     change_in_structure(page, row, rows, pass);
 }
 
-/// Makes of the page what a record makes of it that is no put and no delete.
+/// Makes of the page what a record makes of it that is no put and no delete. Not inlined: a delete needs no room for a split.
+#[inline(never)]
 fn change_in_structure<R: Rows>(page: &mut Page, row: &RowAt<R>, rows: &R, pass: &mut R::Pass)
     requires read { R.has rows.now pass.old row.now.row row.now.content }
     requires fits { FitsOnPage page.old row.now.content }

@@ -5,6 +5,7 @@ ghost use Rattle.base_page.specs.declared.item.Item.{Item};
 ghost use Rattle.base_page.specs.Pages.{AreItems};
 ghost use Rattle.base_page.specs.Places.{IsAt, IsGreatest, IsGreatestChild, HasNoChild};
 ghost use Rattle.traces.specs.chain.Chains.{content_in};
+ghost use Rattle.traces.specs.chain.Fitted.{IsPageChain};
 ghost use Rattle.row_search.specs.Items.{items_said};
 ghost use Rattle.row_chain.specs.Walks.{is_above, is_left, is_taken, IsGreatestKey, PassesUpTo};
 ghost use Rattle.row_chain.specs.Placed.{IsReadChain, contents};
@@ -14,10 +15,34 @@ use row_search::{KeyWords, RowAt, Rows};
 use std::alloc::Allocator;
 
 impl<R: Rows, A: Allocator> Chain<R, A> {
-    /// The child of the greatest term that is below the bound, or at it where it needn't be below, or none. One pass, from the newest
-    /// record on: each says at most one term that is above the best one so far and that no newer record names, and then it is the best.
-    /// A term at the bound ends the pass. The last record's key is loaded only where a newer record may take keys away.
+    /// The child of the greatest term that is below the bound, or at it where it needn't be below, or none.
     pub(super) fn greatest_child(
+        &self,
+        rows: &R,
+        pass: &mut R::Pass,
+        bound: &KeyWords,
+        below: bool,
+    ) -> Option<u32>
+        requires read { IsReadChain (R.has rows.now pass.old) self.now }
+        ensures same { pass.new ≡ pass.old }
+        ensures child { MatchOption result
+            (HasNoChild (content_in self.now.records) (is_left below bound.now))
+            (IsGreatestChild (content_in self.now.records) (is_left below bound.now)) }
+    {
+        self.was_read(rows, pass);
+        self.keeps_rules();
+        let records = self.as_read(rows, pass);
+        if records.len() > 1 {
+            return self.greatest_over_base(rows, pass, bound, below);
+        }
+        greatest_in_base(&records[0], rows, pass, bound, below)
+    }
+
+    /// The same of a chain that may have deltas. One pass, from the newest record on: each says at most one term that is above the best one so far
+    /// and that no newer record names, and then it is the best. A term at the bound ends the pass. The last record's key is loaded only where a
+    /// newer record may take keys away. Not inlined: most index pages have no delta, and need no room for keys.
+    #[inline(never)]
+    fn greatest_over_base(
         &self,
         rows: &R,
         pass: &mut R::Pass,
@@ -54,6 +79,29 @@ impl<R: Rows, A: Allocator> Chain<R, A> {
         }
         child
     }
+}
+
+/// The child of the greatest of a page's items that passes, where its base has no delta over it, or none.
+fn greatest_in_base<R: Rows>(
+    base: &RowAt<R>,
+    rows: &R,
+    pass: &mut R::Pass,
+    bound: &KeyWords,
+    below: bool,
+) -> Option<u32>
+    requires here { R.has rows.now pass.old base.now.row base.now.content }
+    requires alone { IsPageChain (base.now.content ∷ []) }
+    ensures same { pass.new ≡ pass.old }
+    ensures child { MatchOption result
+        (HasNoChild (content_in (base.now.content ∷ [])) (is_left below bound.now))
+        (IsGreatestChild (content_in (base.now.content ∷ [])) (is_left below bound.now)) }
+{
+    base.keeps_spelling();
+    let (count, _) = passing(base, rows, pass, bound, below);
+    if count == 0 {
+        return None;
+    }
+    base.child_at(rows, pass, count - 1)
 }
 
 /// How many of the items that the record says are there pass, and whether the last of those is at the bound.

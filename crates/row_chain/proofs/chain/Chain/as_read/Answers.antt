@@ -1,4 +1,4 @@
-use Rattle.std.proofs.Common.{sym, subst}
+use Rattle.row_chain.proofs.Words.{sym, subst}
 use Rattle.row_chain.specs.Placed.{IsReadChain}
 use Rattle.row_chain.proofs.Standing.{are_there}
 use Rattle.row_chain.proofs.chain.Chain.as_read.Goals as goal

@@ -1,8 +1,5 @@
-use Rattle.std.proofs.Common.{◌≡◌, length, suc, ap, ◌∙◌, arith}
-use Rattle.deltas.specs.declared.record.Record.{Record}
-use Rattle.record_slots.specs.Parts.{row_of}
+use Rattle.row_chain.proofs.Words.{◌≡◌, length, suc, ap, ◌∙◌, arith, Record, row_of, PlacedChain}
 use Rattle.row_chain.proofs.Bases.{start_of_last}
-use Rattle.row_chain.specs.Placed.{PlacedChain}
 use Rattle.row_chain.proofs.Standing.{content_there}
 use Rattle.row_chain.proofs.chain.Chain.base.Goals as goal
 

@@ -1,6 +1,4 @@
-use Rattle.std.proofs.Common.{◌≡◌, suc, length, get_or, ap, ◌∙◌, arith}
-use Rattle.deltas.specs.declared.record.Record.{Record}
-use Rattle.record_slots.specs.Parts.{row_of}
+use Rattle.row_chain.proofs.Words.{◌≡◌, suc, length, get_or, ap, ◌∙◌, arith, Record, row_of}
 use Rattle.row_chain.proofs.Making.{base_at}
 use Rattle.row_chain.proofs.Standing.{content_there}
 use Rattle.row_chain.proofs.chain.Chain.base_in.Goals as goal

@@ -1,4 +1,4 @@
-use Rattle.bw_model.specs.Bytes.{is_below}
+use Rattle.row_chain.proofs.Words.{is_below}
 use Rattle.traces.proofs.FittedLaws.{has_child}
 use Rattle.row_chain.proofs.chain.Chain.child_below.Goals as goal
 

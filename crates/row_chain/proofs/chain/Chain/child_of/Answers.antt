@@ -1,7 +1,4 @@
-use Rattle.std.specs.Prelude.{not}
-use Rattle.bw_model.specs.Bytes.{is_below, is_under}
-use Rattle.base_page.proofs.KeyLaws.{and_left}
-use Rattle.traces.specs.chain.Chains.{low_in, high_in}
+use Rattle.row_chain.proofs.Words.{not, is_below, is_under, and_left, low_in, high_in}
 use Rattle.traces.proofs.FittedLaws.{has_child}
 use Rattle.row_chain.proofs.chain.Chain.child_of.Goals as goal
 

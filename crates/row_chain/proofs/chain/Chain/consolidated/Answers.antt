@@ -1,5 +1,5 @@
-use Rattle.std.proofs.Common.{◌≡◌, false, refl, ◌∙◌, arith}
-use Rattle.deltas.specs.declared.record.Record.TheVariants.{Base}
+use Rattle.row_chain.proofs.Words.{◌≡◌, refl, ◌∙◌, arith, Base}
+use Rattle.std.proofs.Common.{false}
 use Rattle.traces.proofs.FittedLaws.{stands}
 use Rattle.row_chain.proofs.chain.Chain.consolidated.Goals as goal
 

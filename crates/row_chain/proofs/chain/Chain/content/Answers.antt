@@ -1,6 +1,6 @@
-use Rattle.std.proofs.Common.{[], ◌∙◌}
+use Rattle.row_chain.proofs.Words.{◌∙◌, contents}
+use Rattle.std.proofs.Common.{[]}
 use Rattle.row_chain.proofs.Newest.{alone}
-use Rattle.row_chain.specs.Placed.{contents}
 use Rattle.row_chain.proofs.chain.Chain.content.Goals as goal
 
 pub returns-in-Some-clause-content : goal.returns-in-Some-clause-content

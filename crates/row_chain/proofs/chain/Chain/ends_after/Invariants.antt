@@ -1,7 +1,4 @@
-use Rattle.std.proofs.Common.{◌≡◌, drop}
-use Rattle.std.specs.List.{All}
-use Rattle.traces.specs.chain.Chains.{high_in}
-use Rattle.row_chain.specs.Placed.{contents}
+use Rattle.row_chain.proofs.Words.{◌≡◌, drop, All, high_in, contents}
 use Rattle.row_chain.proofs.chain.Chain.ends_after.Given as goal
 
 abbrev pub invariant-loop-newest : goal.invariant-loop-newest

@@ -1,7 +1,7 @@
-use Rattle.std.proofs.Common.{[], ap, ◌∙◌}
+use Rattle.row_chain.proofs.Words.{ap, ◌∙◌, contents}
+use Rattle.std.proofs.Common.{[]}
 use Rattle.base_page.specs.Pages.{value_in}
 use Rattle.row_chain.proofs.Newest.{alone}
-use Rattle.row_chain.specs.Placed.{contents}
 use Rattle.row_chain.proofs.chain.Chain.find.Goals as goal
 
 pub returns-in-Some-clause-value : goal.returns-in-Some-clause-value

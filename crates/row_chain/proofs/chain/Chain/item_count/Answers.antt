@@ -1,11 +1,6 @@
-use Rattle.std.proofs.Common.{◌≡◌, ◌+◌, List, [], None, drop, refl, sym, subst, ◌∙◌, arith}
-use Rattle.deltas.specs.declared.record.Record.{Record}
-use Rattle.traces.specs.chain.Chains.{IsItemsOf}
-use Rattle.traces.specs.chain.Fitted.{IsFitted}
-use Rattle.traces.proofs.FittedLaws.{page_of}
-use Rattle.row_chain.specs.Walks.{bound_under, count_under}
+use Rattle.row_chain.proofs.Words.{◌≡◌, ◌+◌, drop, refl, sym, subst, ◌∙◌, arith, IsFitted, page_of, bound_under, count_under, contents}
+use Rattle.std.proofs.Common.{[], None}
 use Rattle.row_chain.proofs.CountLaws.{count_all, unchanged}
-use Rattle.row_chain.specs.Placed.{contents}
 use Rattle.row_chain.proofs.Standing.{length-contents}
 use Rattle.row_chain.proofs.Places.{behind, fitted_from, none_there, rest_there}
 use Rattle.row_chain.proofs.chain.Chain.item_count.Goals as goal
@@ -21,8 +16,7 @@ loop-place-init g c =
       more = omega arith;
       fewer = omega arith;
       count = λ items rest has rest_has.
-          let same : count_under None items ≡ count_under None rest = unchanged None chain chain items rest (λ q. refl) has (subst
-          (λ (records : List Record). IsItemsOf records rest) c.as_read-records.ensures.records rest_has) in
+          let same : count_under None items ≡ count_under None rest = unchanged None chain chain items rest (λ q. refl) has (rw (← c.as_read-records.ensures.records) rest_has) in
           let all = count_all items in
           omega (arith, same, all);
     }
@@ -54,8 +48,7 @@ loop-place-preserved g c =
       fewer = omega (arith, fewer, went);
       count = λ items rest has rest_has.
           let before = v.count items made.0.items has made.1.items in
-          let step = c.change-came.ensures.change made.0.items rest (subst (λ (records : List Record). IsItemsOf records made.0.items) here made.1.items) (subst
-          (λ (records : List Record). IsItemsOf records rest) (sym (rest_there rows place)) rest_has) in
+          let step = c.change-came.ensures.change made.0.items rest (rw (← here) made.1.items) (rw (rest_there rows place) rest_has) in
           let bounded = subst (λ b. count_under b made.0.items + c.change-came.result.1 ≡ count_under (bound_under row.content b) rest + c.change-came.result.0) c.as_ref.ensures.value step in
           rw c.bound_under-bound.ensures.bound (omega (arith, before, bounded));
     }

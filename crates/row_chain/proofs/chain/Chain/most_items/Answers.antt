@@ -1,13 +1,8 @@
-use Rattle.std.proofs.Common.{◌≡◌, ◌≤◌, List, [], None, max, length, drop, refl, sym, ap, subst, ◌∙◌, arith}
+use Rattle.row_chain.proofs.Words.{◌≡◌, ◌≤◌, length, drop, refl, sym, ap, subst, ◌∙◌, arith, items_of, IsFitted, page_of, PlacedChain, contents}
+use Rattle.std.proofs.Common.{[], None, max}
 use Rattle.std.proofs.Math.Nat.{max-le}
-use Rattle.deltas.specs.declared.record.Record.{Record}
-use Rattle.record_slots.specs.Parts.{items_of}
-use Rattle.traces.specs.chain.Chains.{IsItemsOf}
-use Rattle.traces.specs.chain.Fitted.{IsFitted}
-use Rattle.traces.proofs.FittedLaws.{page_of}
 use Rattle.row_chain.proofs.CountLaws.{count_all, unchanged}
 use Rattle.row_chain.proofs.MostItems.{few_more}
-use Rattle.row_chain.specs.Placed.{PlacedChain, contents}
 use Rattle.row_chain.proofs.Standing.{length-contents}
 use Rattle.row_chain.proofs.Places.{behind, fitted_from, none_there, rest_there}
 use Rattle.row_chain.proofs.chain.Chain.most_items.Goals as goal
@@ -23,7 +18,7 @@ loop-place-init g c =
       short = omega (arith, all_rows, short);
       few = omega arith;
       most = λ items rest has rest_has.
-          let equal = unchanged None chain chain items rest (λ q. refl) has (subst (λ (records : List Record). IsItemsOf records rest) same rest_has) in
+          let equal = unchanged None chain chain items rest (λ q. refl) has (rw (← same) rest_has) in
           let all = count_all items in
           let all_rest = count_all rest in
           omega (arith, equal, all, all_rest);
@@ -44,14 +39,14 @@ loop-place-preserved g c =
     let few = v.few in
     let own = c.item_count.ensures.few in
     let adds : c.max-most.result ≡ max (length (items_of row.content)) 1 = c.max-most.ensures ∙ ap (λ n. max n 1) c.item_count.ensures.count in
-    let at_most : c.max-most.result ≤ 24 = subst (λ n. n ≤ 24) (sym c.max-most.ensures) (max-le own (omega arith)) in
+    let at_most : c.max-most.result ≤ 24 = rw c.max-most.ensures (max-le own (omega arith)) in
     record {
       short = v.short;
       few = omega (arith, few, at_most);
       most = λ items rest has rest_has.
           let before = v.most items made.0.items has made.1.items in
-          let more = few_more row.content _ (subst IsFitted here from) made.0.items rest (subst (λ (records : List Record). IsItemsOf records made.0.items) here made.1.items)
-          (subst (λ (records : List Record). IsItemsOf records rest) (sym (rest_there rows place)) rest_has) in
+          let more = few_more row.content _ (subst IsFitted here from) made.0.items rest (rw (← here) made.1.items)
+          (rw (rest_there rows place) rest_has) in
           omega (arith, before, more, adds);
     }
 

@@ -1,7 +1,5 @@
-use Rattle.std.proofs.Common.{◌≤◌, ◌+◌, ◌*◌, List, length, drop}
-use Rattle.base_page.specs.declared.item.Item.{Item}
-use Rattle.traces.specs.chain.Chains.{IsItemsOf}
-use Rattle.row_chain.specs.Placed.{contents}
+use Rattle.row_chain.proofs.Words.{◌≤◌, ◌+◌, length, drop, Item, IsItemsOf, contents}
+use Rattle.std.proofs.Common.{◌*◌, List}
 use Rattle.row_chain.proofs.chain.Chain.most_items.Given as goal
 
 abbrev pub invariant-loop-place : goal.invariant-loop-place

@@ -1,8 +1,5 @@
-use Rattle.std.proofs.Common.{◌≡◌, ◌<◌, ◌-◌, suc, List, ◌∷◌, length, drop, drop-cons, get_or, refl, sym, subst, ◌∙◌, arith}
-use Rattle.deltas.specs.declared.record.Record.{Record}
-use Rattle.deltas.specs.declared.record.Record.TheVariants.{Base}
-use Rattle.traces.specs.chain.Fitted.{Makes}
-use Rattle.traces.proofs.FittedLaws.{Makes-next, ruled}
+use Rattle.row_chain.proofs.Words.{◌≡◌, ◌<◌, ◌-◌, suc, ◌∷◌, length, drop, drop-cons, get_or, refl, sym, subst, ◌∙◌, arith, Base, Makes, ruled}
+use Rattle.traces.proofs.FittedLaws.{Makes-next}
 use Rattle.row_chain.proofs.Making.{base_makes, fits_above}
 use Rattle.row_chain.proofs.Standing.{content_there}
 use Rattle.row_chain.proofs.chain.Chain.page_in.Goals as goal
@@ -42,7 +39,7 @@ loop-place-preserved g c =
     record {
       same = c.change.ensures.same ∙ v.same;
       makes =
-          subst (λ (rows : List Record). Makes rows c.change.new.page) (sym over) (Makes-next (drop place records) row.content c.loop-place.page c.change.new.page v.makes c.change.ensures.applies);
+          rw over (Makes-next (drop place records) row.content c.loop-place.page c.change.new.page v.makes c.change.ensures.applies);
     }
 
 pub returns-clause-ruled : goal.returns-clause-ruled

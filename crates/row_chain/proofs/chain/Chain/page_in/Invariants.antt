@@ -1,5 +1,4 @@
-use Rattle.std.proofs.Common.{◌≡◌, drop}
-use Rattle.traces.specs.chain.Fitted.{Makes}
+use Rattle.row_chain.proofs.Words.{◌≡◌, drop, Makes}
 use Rattle.row_chain.proofs.chain.Chain.page_in.Given as goal
 
 abbrev pub invariant-loop-place : goal.invariant-loop-place

@@ -1,7 +1,5 @@
-use Rattle.std.proofs.Common.{◌≡◌, drop}
-use Rattle.std.specs.List.{All}
+use Rattle.row_chain.proofs.Words.{◌≡◌, drop, All, contents}
 use Rattle.traces.specs.chain.Chains.{right_in}
-use Rattle.row_chain.specs.Placed.{contents}
 use Rattle.row_chain.proofs.chain.Chain.right.Given as goal
 
 abbrev pub invariant-loop-newest : goal.invariant-loop-newest

@@ -1,8 +1,7 @@
-use Rattle.std.proofs.Common.{◌≡◌, ℕ, List, [], ◌++◌, length, drop, map, sym, ap, ◌∙◌, arith}
-use Rattle.std.proofs.lemmas.List.{append-nil, drop_all}
-use Rattle.row_search.specs.Placed.{PlacedRecord}
+use Rattle.row_chain.proofs.Words.{◌≡◌, ◌++◌, length, drop, map, sym, ap, ◌∙◌, arith, drop_all, PlacedRecord, PlacedChain}
+use Rattle.std.proofs.Common.{ℕ, List, []}
+use Rattle.std.proofs.lemmas.List.{append-nil}
 use Rattle.traces.specs.chain.Chains.{chain_rows}
-use Rattle.row_chain.specs.Placed.{PlacedChain}
 use Rattle.row_chain.proofs.Standing.{length-contents}
 use Rattle.row_chain.proofs.chain.Chain.rows.Goals as goal
 

@@ -1,5 +1,4 @@
-use Rattle.std.proofs.Common.{◌≡◌, ◌≤◌, ◌++◌, length, drop, map}
-use Rattle.row_search.specs.Placed.{PlacedRecord}
+use Rattle.row_chain.proofs.Words.{◌≡◌, ◌≤◌, ◌++◌, length, drop, map, PlacedRecord}
 use Rattle.row_chain.proofs.chain.Chain.rows.Given as goal
 
 abbrev pub invariant-loop-record : goal.invariant-loop-record

@@ -1,9 +1,6 @@
-use Rattle.std.proofs.Common.{◌≡◌, ◌+◌, ℕ, Some, None, sym, ap, ◌∙◌}
-use Rattle.std.specs.Prelude.{option_copied}
-use Rattle.row_chain.specs.Walks.{bound_under, count_under}
-use Rattle.row_search.specs.OneKey.{one_key}
+use Rattle.row_chain.proofs.Words.{◌≡◌, ◌+◌, sym, ap, ◌∙◌, option_copied, bound_under, count_under, one_key, contents}
+use Rattle.std.proofs.Common.{ℕ, Some, None}
 use Rattle.row_chain.proofs.Counts.{bound_kept, changed, names_one, says_one}
-use Rattle.row_chain.specs.Placed.{contents}
 use Rattle.row_chain.proofs.chain.count.change.Goals as goal
 
 pub returns-in-None-clause-change : goal.returns-in-None-clause-change

@@ -1,7 +1,5 @@
-use Rattle.std.proofs.Common.{sym, ◌∙◌}
-use Rattle.std.specs.Prelude.{option_copied}
+use Rattle.row_chain.proofs.Words.{sym, ◌∙◌, option_copied, contents}
 use Rattle.row_chain.proofs.CountLaws.{changed_at, unchanged_above}
-use Rattle.row_chain.specs.Placed.{contents}
 use Rattle.row_chain.proofs.chain.count.change_at.Goals as goal
 
 pub returns-then-not-is_under-clause-change : goal.returns-then-not-is_under-clause-change

@@ -1,7 +1,6 @@
-use Rattle.std.proofs.Common.{[], refl, ap, ◌∙◌}
-use Rattle.std.specs.Prelude.{is_some}
+use Rattle.row_chain.proofs.Words.{refl, ap, ◌∙◌, is_some, contents}
+use Rattle.std.proofs.Common.{[]}
 use Rattle.row_chain.proofs.Newest.{alone}
-use Rattle.row_chain.specs.Placed.{contents}
 use Rattle.row_chain.proofs.chain.count.has_item.Goals as goal
 
 pub returns-in-Some-clause-has : goal.returns-in-Some-clause-has

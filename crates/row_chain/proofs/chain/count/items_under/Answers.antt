@@ -1,5 +1,4 @@
-use Rattle.std.proofs.Common.{sym, ◌∙◌}
-use Rattle.record_slots.specs.Parts.{items_of}
+use Rattle.row_chain.proofs.Words.{sym, ◌∙◌, items_of}
 use Rattle.row_chain.proofs.CountLaws.{count_all, count_cut}
 use Rattle.row_chain.proofs.chain.count.items_under.Goals as goal
 

@@ -1,7 +1,4 @@
-use Rattle.std.proofs.Common.{sym, subst}
-use Rattle.deltas.specs.Applies.{Applies}
-use Rattle.deltas.specs.Fits.{FitsOnPage}
-use Rattle.deltas.specs.declared.record.Record.{Record}
+use Rattle.row_chain.proofs.Words.{sym, subst, FitsOnPage}
 use Rattle.row_search.proofs.ChangeLaws.{put_there}
 use Rattle.row_chain.proofs.chain.pages.change.Goals as goal
 
@@ -10,4 +7,4 @@ apply-requires g c = subst (FitsOnPage c.args.page.now) (put_there c.args.row.no
 
 pub returns-in-Some-clause-applies : goal.returns-in-Some-clause-applies
 returns-in-Some-clause-applies g c =
-    subst (λ (newest : Record). Applies c.args.page.now newest c.apply.new.page) (sym (put_there c.args.row.now.content c.in-Some.put (sym c.in-Some.ensures.put))) c.apply.ensures.applies
+    rw (put_there c.args.row.now.content c.in-Some.put (sym c.in-Some.ensures.put)) c.apply.ensures.applies

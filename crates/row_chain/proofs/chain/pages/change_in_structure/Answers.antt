@@ -1,7 +1,4 @@
-use Rattle.std.proofs.Common.{sym, subst}
-use Rattle.deltas.specs.Applies.{Applies}
-use Rattle.deltas.specs.Fits.{FitsOnPage}
-use Rattle.deltas.specs.declared.record.Record.{Record}
+use Rattle.row_chain.proofs.Words.{sym, subst, FitsOnPage}
 use Rattle.row_search.proofs.ChangeLaws.{split_there}
 use Rattle.row_chain.proofs.chain.pages.change_in_structure.Goals as goal
 
@@ -10,4 +7,4 @@ apply-requires g c = subst (FitsOnPage c.args.page.now) (split_there c.args.row.
 
 pub returns-in-Some-clause-applies : goal.returns-in-Some-clause-applies
 returns-in-Some-clause-applies g c =
-    subst (λ (newest : Record). Applies c.args.page.now newest c.apply.new.page) (sym (split_there c.args.row.now.content c.in-Some.split (sym c.in-Some.ensures.split))) c.apply.ensures.applies
+    rw (split_there c.args.row.now.content c.in-Some.split (sym c.in-Some.ensures.split)) c.apply.ensures.applies

@@ -1,7 +1,4 @@
-use Rattle.std.proofs.Common.{sym, subst}
-use Rattle.deltas.specs.Applies.{Applies}
-use Rattle.deltas.specs.Fits.{FitsOnPage}
-use Rattle.deltas.specs.declared.record.Record.{Record}
+use Rattle.row_chain.proofs.Words.{sym, subst, FitsOnPage}
 use Rattle.row_search.proofs.ChangeLaws.{delete_there}
 use Rattle.row_chain.proofs.chain.pages.change_unless_put.Goals as goal
 
@@ -10,4 +7,4 @@ apply-requires g c = subst (FitsOnPage c.args.page.now) (delete_there c.args.row
 
 pub returns-in-Some-clause-applies : goal.returns-in-Some-clause-applies
 returns-in-Some-clause-applies g c =
-    subst (λ (newest : Record). Applies c.args.page.now newest c.apply.new.page) (sym (delete_there c.args.row.now.content c.in-Some.delete (sym c.in-Some.ensures.delete))) c.apply.ensures.applies
+    rw (delete_there c.args.row.now.content c.in-Some.delete (sym c.in-Some.ensures.delete)) c.apply.ensures.applies

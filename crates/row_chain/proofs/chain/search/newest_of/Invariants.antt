@@ -1,9 +1,5 @@
-use Rattle.std.proofs.Common.{◌≡◌, ◌++◌, List, drop}
-use Rattle.std.specs.List.{All}
-use Rattle.deltas.specs.declared.record.Record.{Record}
-use Rattle.traces.specs.chain.Chains.{content_in}
-use Rattle.row_chain.specs.Walks.{is_named}
-use Rattle.row_chain.specs.Placed.{contents}
+use Rattle.row_chain.proofs.Words.{◌≡◌, ◌++◌, drop, All, Record, content_in, is_named, contents}
+use Rattle.std.proofs.Common.{List}
 use Rattle.row_chain.proofs.chain.search.newest_of.Given as goal
 
 abbrev pub invariant-loop-newest : goal.invariant-loop-newest

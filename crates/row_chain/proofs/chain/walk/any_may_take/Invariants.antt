@@ -1,6 +1,5 @@
-use Rattle.std.proofs.Common.{◌≡◌, ℕ, List, drop}
-use Rattle.row_chain.specs.Placed.{contents}
-use Rattle.row_chain.specs.Walks.{is_taken}
+use Rattle.row_chain.proofs.Words.{◌≡◌, drop, contents, is_taken}
+use Rattle.std.proofs.Common.{ℕ, List}
 use Rattle.row_chain.proofs.chain.walk.any_may_take.Given as goal
 
 abbrev pub invariant-loop-newest : goal.invariant-loop-newest

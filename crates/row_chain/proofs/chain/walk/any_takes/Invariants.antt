@@ -1,7 +1,4 @@
-use Rattle.std.proofs.Common.{◌≡◌, drop}
-use Rattle.std.specs.List.{All}
-use Rattle.row_chain.specs.Placed.{contents}
-use Rattle.row_chain.specs.Walks.{is_taken}
+use Rattle.row_chain.proofs.Words.{◌≡◌, drop, All, contents, is_taken}
 use Rattle.row_chain.proofs.chain.walk.any_takes.Given as goal
 
 abbrev pub invariant-loop-newest : goal.invariant-loop-newest

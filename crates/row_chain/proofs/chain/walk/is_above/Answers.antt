@@ -1,9 +1,6 @@
-use Rattle.std.proofs.Common.{get_or, sym, ap, ◌∙◌}
-use Rattle.std.specs.Prelude.{option_copied}
+use Rattle.row_chain.proofs.Words.{get_or, sym, ap, ◌∙◌, option_copied, items_said, is_above}
 use Rattle.std.specs.Ordering.{is_gt}
-use Rattle.row_search.specs.Items.{items_said}
 use Rattle.row_search.proofs.RowTexts.{below_turned}
-use Rattle.row_chain.specs.Walks.{is_above}
 use Rattle.row_chain.proofs.chain.walk.is_above.Goals as goal
 
 pub returns-in-Some-clause-above : goal.returns-in-Some-clause-above

@@ -1,7 +1,4 @@
-use Rattle.std.proofs.Common.{ap, sym, get_or, ◌∙◌}
-use Rattle.row_search.specs.Items.{items_said}
-use Rattle.row_chain.specs.Placed.{contents}
-use Rattle.row_chain.specs.Walks.{is_taken}
+use Rattle.row_chain.proofs.Words.{ap, sym, get_or, ◌∙◌, items_said, contents, is_taken}
 use Rattle.row_chain.proofs.chain.walk.is_taken.Goals as goal
 
 pub returns-then-not-any_may_take-clause-taken : goal.returns-then-not-any_may_take-clause-taken

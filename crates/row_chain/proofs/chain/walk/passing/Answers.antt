@@ -1,8 +1,6 @@
+use Rattle.row_chain.proofs.Words.{Child, Item, items_said}
 use Rattle.std.proofs.Common.{[]}
 use Rattle.std.specs.Prelude.{false}
-use Rattle.base_page.specs.declared.item.Content.TheVariants.{Child}
-use Rattle.base_page.specs.declared.item.Item.{Item}
-use Rattle.row_search.specs.Items.{items_said}
 use Rattle.row_chain.proofs.Passing.{at_passes, below_passes, gap_passes}
 use Rattle.row_chain.proofs.chain.walk.passing.Goals as goal
 

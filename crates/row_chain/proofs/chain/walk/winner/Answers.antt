@@ -1,10 +1,6 @@
-use Rattle.std.proofs.Common.{◌≡◌, ◌-◌, [], true, get_or, sym, ◌∙◌, arith}
-use Rattle.std.specs.Prelude.{false, option_copied}
-use Rattle.base_page.specs.declared.item.Content.TheVariants.{Child}
-use Rattle.base_page.specs.declared.item.Item.{Item}
-use Rattle.row_search.specs.Items.{items_said}
-use Rattle.row_chain.specs.Placed.{contents}
-use Rattle.row_chain.specs.Walks.{is_named}
+use Rattle.row_chain.proofs.Words.{◌≡◌, ◌-◌, true, get_or, sym, ◌∙◌, arith, option_copied, Child, Item, items_said, contents, is_named}
+use Rattle.std.proofs.Common.{[]}
+use Rattle.std.specs.Prelude.{false}
 use Rattle.row_chain.proofs.WalkLaws.{one_more, taken_named}
 use Rattle.row_chain.proofs.Winners.{none_left, outdone, wins}
 use Rattle.row_chain.proofs.chain.walk.winner.Goals as goal

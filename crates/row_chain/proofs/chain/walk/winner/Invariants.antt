@@ -1,9 +1,4 @@
-use Rattle.std.proofs.Common.{◌≡◌, true}
-use Rattle.std.specs.List.{AllWithin}
-use Rattle.base_page.specs.declared.item.Item.{Item}
-use Rattle.row_search.specs.Items.{items_said}
-use Rattle.row_chain.specs.Placed.{contents}
-use Rattle.row_chain.specs.Walks.{is_named}
+use Rattle.row_chain.proofs.Words.{◌≡◌, true, AllWithin, Item, items_said, contents, is_named}
 use Rattle.row_chain.proofs.chain.walk.winner.Given as goal
 
 abbrev pub invariant-loop-place : goal.invariant-loop-place

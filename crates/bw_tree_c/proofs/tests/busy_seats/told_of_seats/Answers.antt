@@ -1,5 +1,5 @@
 use Rattle.bw_tree_c.proofs.Calling.{can_finish}
-use Rattle.bw_tree_c.proofs.tests.told_of_seats.Goals as goal
+use Rattle.bw_tree_c.proofs.tests.busy_seats.told_of_seats.Goals as goal
 
 pub finish-requires : goal.finish-requires
 finish-requires c = record {

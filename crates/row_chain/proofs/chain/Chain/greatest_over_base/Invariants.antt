@@ -1,9 +1,6 @@
-use Rattle.std.proofs.Common.{◌≡◌, take}
-use Rattle.traces.specs.chain.Chains.{content_in}
-use Rattle.row_chain.specs.Walks.{is_left}
-use Rattle.row_chain.specs.Placed.{contents}
+use Rattle.row_chain.proofs.Words.{◌≡◌, take, content_in, is_left, contents}
 use Rattle.row_chain.proofs.ChildWalks.{IsBest}
-use Rattle.row_chain.proofs.chain.Chain.greatest_child.Given as goal
+use Rattle.row_chain.proofs.chain.Chain.greatest_over_base.Given as goal
 
 abbrev pub invariant-loop-place : goal.invariant-loop-place
 invariant-loop-place g l = record {
