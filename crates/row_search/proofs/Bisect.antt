@@ -1,5 +1,5 @@
 -- What a bisection among ascending items has found so far.
-use Rattle.std.proofs.Common.{◌≡◌, ◌<◌, ◌≤◌, ◌+◌, ℕ, List, length, get_or, drop, map, inl, inr, ap, subst, arith}
+use Rattle.std.proofs.Common.{◌≡◌, ◌<◌, ◌≤◌, ◌+◌, ℕ, List, length, get_or, drop, map, inl, inr, ap, arith}
 use Rattle.row_search.proofs.Words.{AllWithin, is_eq, Less, Equal, Greater, cases_lt, key_cmp, Item, IsAscending, IsAt, IsGap}
 use Rattle.std.proofs.lemmas.List.{get_or-map, length-map}
 use Rattle.std.proofs.lemmas.Map.Keys.{Less-from_sorted}
@@ -19,14 +19,14 @@ module _ (items : List Item) (asc : IsAscending items) (key : List ℕ) (middle 
   pub lower : ((d : Item) → key_cmp (get_or items middle d).key key ≡ Less) → AllWithin (λ item. key_cmp item.key key ≡ Less) items 0 (middle + 1)
   lower less k d low high = elim (cases_lt k middle) [
     | inl lt ↦ below-trans (get_or items k d).key (get_or items middle d).key key (sorted items k middle d asc lt within) (less d)
-    | inr ge ↦ let e : middle ≡ k = omega arith in subst (λ j. key_cmp (get_or items j d).key key ≡ Less) e (less d)
+    | inr ge ↦ let e : middle ≡ k = omega arith in rw (← e) (less d)
   ]
 
   pub upper : ((d : Item) → key_cmp (get_or items middle d).key key ≡ Greater) → AllWithin (λ item. key_cmp item.key key ≡ Greater) items middle (length items)
   upper greater k d low high = elim (cases_lt middle k) [
     | inl lt ↦ above key (get_or items k d).key
         (below-trans key (get_or items middle d).key (get_or items k d).key (below (get_or items middle d).key key (greater d)) (sorted items middle k d asc lt high))
-    | inr ge ↦ let e : middle ≡ k = omega arith in subst (λ j. key_cmp (get_or items j d).key key ≡ Greater) e (greater d)
+    | inr ge ↦ let e : middle ≡ k = omega arith in rw (← e) (greater d)
   ]
 
   pub found_at : ((d : Item) → key_cmp (get_or items middle d).key key ≡ Equal) → IsAt items key middle

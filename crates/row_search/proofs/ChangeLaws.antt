@@ -9,36 +9,15 @@ use Rattle.deltas.specs.declared.record.Split.{Split}
 
 pub put_there : (content : Record) (put : Put) → put_of content ≡ Some put → content ≡ kind.Put put
 put_there (kind.Put one) put e = cc
-put_there (kind.Base page) put e = cc
-put_there (kind.Delete delete) put e = cc
-put_there (kind.Split split) put e = cc
-put_there (kind.Term term) put e = cc
-put_there (kind.Hold hold) put e = cc
-put_there (kind.Remove remove) put e = cc
-put_there (kind.Merge merge) put e = cc
-put_there (kind.Unterm unterm) put e = cc
+put_there content put e = cc
 
 pub delete_there : (content : Record) (delete : Delete) → delete_of content ≡ Some delete → content ≡ kind.Delete delete
 delete_there (kind.Delete one) delete e = cc
-delete_there (kind.Base page) delete e = cc
-delete_there (kind.Put put) delete e = cc
-delete_there (kind.Split split) delete e = cc
-delete_there (kind.Term term) delete e = cc
-delete_there (kind.Hold hold) delete e = cc
-delete_there (kind.Remove remove) delete e = cc
-delete_there (kind.Merge merge) delete e = cc
-delete_there (kind.Unterm unterm) delete e = cc
+delete_there content delete e = cc
 
 pub split_there : (content : Record) (split : Split) → split_of content ≡ Some split → content ≡ kind.Split split
 split_there (kind.Split one) split e = cc
-split_there (kind.Base page) split e = cc
-split_there (kind.Put put) split e = cc
-split_there (kind.Delete delete) split e = cc
-split_there (kind.Term term) split e = cc
-split_there (kind.Hold hold) split e = cc
-split_there (kind.Remove remove) split e = cc
-split_there (kind.Merge merge) split e = cc
-split_there (kind.Unterm unterm) split e = cc
+split_there content split e = cc
 
 -- by the number of the kind
 pub base_of : (content : Record) → (row_of content).kind ≡ 1 → (page : Page) × (content ≡ kind.Base page)
@@ -59,33 +38,12 @@ split_is content e = absurd (omega arith)
 
 pub no_put : (content : Record) → ((row_of content).kind ≡ 2 → ⊥) → None ≡ put_of content
 no_put (kind.Put put) other = absurd (other refl)
-no_put (kind.Base page) other = refl
-no_put (kind.Delete delete) other = refl
-no_put (kind.Split split) other = refl
-no_put (kind.Term term) other = refl
-no_put (kind.Hold hold) other = refl
-no_put (kind.Remove remove) other = refl
-no_put (kind.Merge merge) other = refl
-no_put (kind.Unterm unterm) other = refl
+no_put content other = refl
 
 pub no_delete : (content : Record) → ((row_of content).kind ≡ 3 → ⊥) → None ≡ delete_of content
 no_delete (kind.Delete delete) other = absurd (other refl)
-no_delete (kind.Base page) other = refl
-no_delete (kind.Put put) other = refl
-no_delete (kind.Split split) other = refl
-no_delete (kind.Term term) other = refl
-no_delete (kind.Hold hold) other = refl
-no_delete (kind.Remove remove) other = refl
-no_delete (kind.Merge merge) other = refl
-no_delete (kind.Unterm unterm) other = refl
+no_delete content other = refl
 
 pub no_split : (content : Record) → ((row_of content).kind ≡ 4 → ⊥) → None ≡ split_of content
 no_split (kind.Split split) other = absurd (other refl)
-no_split (kind.Base page) other = refl
-no_split (kind.Put put) other = refl
-no_split (kind.Delete delete) other = refl
-no_split (kind.Term term) other = refl
-no_split (kind.Hold hold) other = refl
-no_split (kind.Remove remove) other = refl
-no_split (kind.Merge merge) other = refl
-no_split (kind.Unterm unterm) other = refl
+no_split content other = refl

@@ -32,8 +32,7 @@ text_stands count words text h = subst (IsText count words) (sym (text_is count 
 pub key_text : (words : List ℕ) (content : Record) → IsSpelling content words → (place : ℕ) (d : Item) → place < length (items_of content) → (here : ℕ) → here ≡ items_at + item_size * place
     → IsText (get_or words here 0 % held_mark) (take text_size (drop (here + 1) words)) (get_or (items_of content) place d).key
 key_text words content h place d within here e =
-    subst (λ n. IsText (get_or words n 0 % held_mark) (take text_size (drop (n + 1) words)) (get_or (items_of content) place d).key) (sym e)
-    (item_text words (items_of content) (stands words content h) place d within)
+    rw e (item_text words (items_of content) (stands words content h) place d within)
 
 abbrev page_word : Content → ℕ
 page_word (Value value) = 0
@@ -74,7 +73,7 @@ module _ (words : List ℕ) (content : Record) (h : IsSpelling content words) (p
       ∙ ap (λ (one : Item). one.content) read
 
   pub page_fits : 0 < (row_of content).level → get_or words (at + field_size) 0 < 4194304
-  page_fits above = subst (λ n. n < 4194304) (sym (ap page_word (child_there above))) (small_page item.content is.child)
+  page_fits above = rw (ap page_word (child_there above)) (small_page item.content is.child)
 
   content_stands : take field_size (drop (at + field_size) words) ≡ content_words item.content
   content_stands =
@@ -85,12 +84,12 @@ module _ (words : List ℕ) (content : Record) (h : IsSpelling content words) (p
       → (value : List ℕ) × ((Value value ≡ content) × IsText (get_or words (at + field_size) 0) (take text_size (drop (at + suc field_size) words)) value)
   text_of (Value value) short leaf e =
       let next : at + field_size + 1 ≡ at + suc field_size = omega arith in
-      (value, (refl, subst (λ k. IsText (get_or words (at + field_size) 0) (take text_size (drop k words)) value) next (text_at value words (at + field_size) short (sym e))))
+      (value, (refl, rw (← next) (text_at value words (at + field_size) short (sym e))))
   text_of (Child page held) short leaf e = absurd (omega arith)
 
   -- the value of a leaf's item is a text, and what is read as one is that value
   pub value_there : (row_of content).level ≡ 0 → (value : List ℕ) × ((Value value ≡ item.content) × IsText (get_or words (at + field_size) 0) (take text_size (drop (at + suc field_size) words)) value)
-  value_there leaf = text_of item.content is.short.1 (subst (λ l. IsOfLevel l item.content) leaf is.kind) content_stands
+  value_there leaf = text_of item.content is.short.1 (rw (← leaf) is.kind) content_stands
 
 -- what stands at a place
 pub marked : (words : List ℕ) (here other : ℕ) → here ≡ other
@@ -110,11 +109,11 @@ module _ (words : List ℕ) (from to here other : ℕ) (text : List ℕ) (e : he
 
   pub from_slice : IsText (get_or words (here + field_size) 0) (take (to - from) (drop from words)) text
       → IsText (get_or words (other + field_size) 0) (take text_size (drop (other + suc field_size) words)) text
-  from_slice h = subst (λ n. IsText n (take text_size (drop (other + suc field_size) words)) text) count (subst (λ ws. IsText (get_or words (here + field_size) 0) ws text) text_stands_at h)
+  from_slice h = rw (← count) (rw (← text_stands_at) h)
 
   pub to_slice : IsText (get_or words (other + field_size) 0) (take text_size (drop (other + suc field_size) words)) text
       → IsText (get_or words (here + field_size) 0) (take (to - from) (drop from words)) text
-  to_slice h = subst (λ n. IsText n (take (to - from) (drop from words)) text) (sym count) (subst (λ ws. IsText (get_or words (other + field_size) 0) ws text) (sym text_stands_at) h)
+  to_slice h = rw count (rw text_stands_at h)
 
 pub second_there : (words : List ℕ) (second : Option (List ℕ)) → IfSome second IsShort → bound_words second ≡ take field_size (drop second_at words) → (get_or words second_at 0 ≡ no_bound → ⊥)
     → (text : List ℕ) → IsText (get_or words second_at 0) (take text_size (drop (suc second_at) words)) text → Some text ≡ second

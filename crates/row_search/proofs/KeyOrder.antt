@@ -1,5 +1,5 @@
 -- Keys are in the order of their words, and then of their lengths.
-use Rattle.std.proofs.Common.{◌≡◌, ◌<◌, ◌≤◌, ◌+◌, ◌*◌, ◌-◌, ◌^◌, ℕ, zero, suc, List, [], ◌∷◌, length, get_or, drop, refl, sym, ap, subst, ◌∙◌, arith}
+use Rattle.std.proofs.Common.{◌≡◌, ◌<◌, ◌≤◌, ◌+◌, ◌*◌, ◌-◌, ◌^◌, ℕ, zero, suc, List, [], ◌∷◌, length, get_or, drop, refl, sym, ap, ◌∙◌, arith}
 use Rattle.row_search.proofs.Words.{Ordering, Less, Equal, Greater, slice_cmp, key_cmp}
 use Rattle.std.specs.Ordering.{nat_cmp, ordering_then, MatchOrdering}
 use Rattle.std.specs.Cmp.{nat_cmp_is, ranked}
@@ -25,8 +25,7 @@ packed_first n (x ∷ xs) = refl
 
 then_assoc : (a b c : Ordering) → ordering_then (ordering_then a b) c ≡ ordering_then a (ordering_then b c)
 then_assoc Less b c = refl
-then_assoc Equal b c = refl
-then_assoc Greater b c = refl
+then_assoc other b c = refl
 
 -- numbers of a higher digit and lower ones
 digit : (z a b x y : ℕ) → x < z → y < z → ordering_then (nat_cmp a b) (nat_cmp x y) ≡ nat_cmp (a * z + x) (b * z + y)
@@ -40,7 +39,7 @@ digit z a b x y low_x low_y = nat_cmp_is (a * z + x) (b * z + y) (ordering_then 
         more (suc b) h = let k : a ≤ b = omega arith in let r = times b k in let e : suc b * z ≡ z + b * z = omega arith in let f : suc a * z ≡ z + a * z = omega arith in omega arith
           where
             times : (b : ℕ) → a ≤ b → a * z ≤ b * z
-            times b k = subst (λ w. a * z ≤ w * z) (let e : a + (b - a) ≡ b = omega arith in e) (let d : (a + (b - a)) * z ≡ a * z + (b - a) * z = omega arith in omega arith)
+            times b k = rw (← let e : a + (b - a) ≡ b = omega arith in e) (let d : (a + (b - a)) * z ≡ a * z + (b - a) * z = omega arith in omega arith)
 
     by : (o : Ordering) → o ≡ nat_cmp a b → MatchOrdering (ordering_then o (nat_cmp x y)) (a * z + x < b * z + y) (a * z + x ≡ b * z + y) (b * z + y < a * z + x)
     by Less e = above a b x y (ranked a b Less e) low_x
@@ -51,9 +50,9 @@ digit z a b x y low_x low_y = nat_cmp_is (a * z + x) (b * z + y) (ordering_then 
         is = ranked a b Equal e
 
         same : (o : Ordering) → o ≡ nat_cmp x y → MatchOrdering o (a * z + x < b * z + y) (a * z + x ≡ b * z + y) (b * z + y < a * z + x)
-        same Less f = let l : x < y = ranked x y Less f in subst (λ w. a * z + x < w * z + y) is (omega arith)
-        same Equal f = let l : x ≡ y = ranked x y Equal f in subst (λ w. a * z + x ≡ w * z + y) is (omega arith)
-        same Greater f = let l : y < x = ranked x y Greater f in subst (λ w. w * z + y < a * z + x) is (omega arith)
+        same Less f = let l : x < y = ranked x y Less f in rw (← is) (omega arith)
+        same Equal f = let l : x ≡ y = ranked x y Equal f in rw (← is) (omega arith)
+        same Greater f = let l : y < x = ranked x y Greater f in rw (← is) (omega arith)
 
 -- packed bytes are in the order of the bytes
 packed_order : (n : ℕ) (x y : List ℕ) → AreBytes x → AreBytes y → nat_cmp (big_endian n x) (big_endian n y) ≡ slice_cmp nat_cmp (padded n x) (padded n y)

@@ -1,5 +1,5 @@
 -- What is read of the words of a record is that record.
-use Rattle.std.proofs.Common.{◌≡◌, ◌-◌, ◌==◌, ◌<◌, ◌≤◌, ◌+◌, ◌*◌, ◌/◌, ◌%◌, ℕ, zero, suc, Bool, true, false, List, [], ◌∷◌, length, get_or, take, drop, refl, sym, ap, subst, ◌∙◌, arith}
+use Rattle.std.proofs.Common.{◌≡◌, ◌-◌, ◌==◌, ◌<◌, ◌≤◌, ◌+◌, ◌*◌, ◌/◌, ◌%◌, ℕ, zero, suc, Bool, true, false, List, [], ◌∷◌, length, get_or, take, drop, refl, sym, ap, ◌∙◌, arith}
 use Rattle.std.specs.Prelude.{Option, Some, None, IfSome, if◌then◌else◌, nat_le, unwrap_or}
 use Rattle.std.specs.List.{All}
 use Rattle.std.proofs.lemmas.Bool.{eqb-true, leb-true, leb-false, false_from_ne_true, true_from_ne_false}
@@ -8,7 +8,7 @@ use Rattle.row_search.proofs.Words.{get_or-drop, IsShort, longest, Content, Valu
 use Rattle.row_search.proofs.Words.{content_words, item_words, items_words, IsShortContent, IsSpelling, bytes_of, IsItem, row_of, items_of, first_words, behind_words, counts, items_fit}
 use Rattle.row_search.proofs.Words.{items_spelled, row_spelled, read_back}
 use Rattle.std.proofs.lemmas.List.Elements.{All-head, All-tail}
-use Rattle.deltas.specs.declared.record.Record.TheVariants.{Base, Put, Delete, Split, Term, Hold, Remove, Merge, Unterm}
+use Rattle.deltas.specs.declared.record.Record.TheVariants.{Base, Merge}
 use Rattle.record_slots.specs.Layout.{count_unit, field_size, first_at, held_mark, item_size, items_at, level_unit, no_bound, part_limit, second_at, text_size}
 use Rattle.row_search.specs.Reading.{text_in, field_in, bound_in, page_or_none, item_in, items_in, record_from, record_in}
 use Rattle.row_search.proofs.ItemTexts.{unmarked, window}
@@ -97,14 +97,8 @@ items_read level (item ∷ items) words each e =
 from_parts : (content : Record) → IsSpellable content
     → record_from (row_of content).kind (row_of content).level (row_of content).next (row_of content).page (row_of content).first (row_of content).second (items_of content) ≡ content
 from_parts (Base page) h = λ i. Base (record { level = page.level; low = page.low; high = page.high; right = right_read page.right h.right i; removed = sym h.alive i; items = page.items })
-from_parts (Put put) h = refl
-from_parts (Delete delete) h = refl
-from_parts (Split split) h = refl
-from_parts (Term term) h = refl
-from_parts (Hold hold) h = refl
-from_parts (Remove remove) h = refl
 from_parts (Merge merge) h = λ i. Merge (record { level = merge.level; next = merge.next; low = merge.low; high = merge.high; right = right_read merge.right h.3.right i; items = merge.items })
-from_parts (Unterm unterm) h = refl
+from_parts content h = refl
 
 -- a record is read from the words that spell it
 pub reading : (words : List ℕ) (content : Record) → IsSpelling content words → record_in words ≡ content
@@ -129,4 +123,4 @@ reading words content h =
 
 -- what spells a record spells the record that is read of it
 pub kept : (words : List ℕ) (content : Record) → IsSpelling content words → IsSpelling (record_in words) words
-kept words content h = subst (λ (one : Record). IsSpelling one words) (sym (reading words content h)) h
+kept words content h = rw (reading words content h) h

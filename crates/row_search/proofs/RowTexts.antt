@@ -1,7 +1,7 @@
 -- The texts of a row, by its record.
-use Rattle.std.proofs.Common.{◌≡◌, ◌<◌, ◌≤◌, ◌+◌, ◌*◌, ◌/◌, ◌%◌, ℕ, suc, Bool, true, false, List, [], ◌∷◌, length, get_or, take, drop, refl, sym, ap, subst, ◌∙◌, arith}
+use Rattle.std.proofs.Common.{◌≡◌, ◌<◌, ◌≤◌, ◌+◌, ◌*◌, ◌/◌, ◌%◌, ℕ, suc, Bool, true, false, List, [], ◌∷◌, length, get_or, take, drop, refl, sym, ap, ◌∙◌, arith}
 use Rattle.std.specs.Prelude.{Option, Some, None, IfSome, not, ◌&&◌, option_map}
-use Rattle.row_search.proofs.Words.{Ordering, Less, Equal, Greater, get_or-drop, drop-drop, Value, Item, IsAscending-from, AreItems, IsAscending, IsSpellable, Record, count_unit, field_size}
+use Rattle.row_search.proofs.Words.{Ordering, Less, get_or-drop, drop-drop, Value, Item, IsAscending-from, AreItems, IsAscending, IsSpellable, Record, count_unit, field_size}
 use Rattle.row_search.proofs.Words.{first_at, item_size, items_at, no_bound, part_limit, second_at, text_size, field_words, bound_words, IsSpelling, IsText, row_of, items_of, counts}
 use Rattle.row_search.proofs.Words.{items_fit, items_spelled, row_spelled, StandIn}
 use Rattle.std.specs.Ordering.{is_eq, is_lt, is_gt, ordering_reverse}
@@ -30,12 +30,7 @@ items_ascend : (content : Record) → IsSpellable content → IsAscending (items
 items_ascend (Base page) h = h.ruled.is_page.ordered.ascending
 items_ascend (Merge merge) h = h.3.ruled.is_page.ordered.ascending
 items_ascend (Put put) h = IsAscending-from (record { key = put.key; content = Value put.value } ∷ []) (tt, tt)
-items_ascend (Delete delete) h = IsAscending-from [] tt
-items_ascend (Split split) h = IsAscending-from [] tt
-items_ascend (Term term) h = IsAscending-from [] tt
-items_ascend (Hold hold) h = IsAscending-from [] tt
-items_ascend (Remove remove) h = IsAscending-from [] tt
-items_ascend (Unterm unterm) h = IsAscending-from [] tt
+items_ascend content h = IsAscending-from [] tt
 
 module _ (words : List ℕ) (content : Record) (h : IsSpelling content words) where
   pub kind_there : get_or words 0 0 % part_limit ≡ (row_of content).kind
@@ -84,13 +79,11 @@ module _ (words : List ℕ) (content : Record) (h : IsSpelling content words) wh
 -- comparisons the other way round
 turned_eq : (o : Ordering) → is_eq (ordering_reverse o) ≡ is_eq o
 turned_eq Less = refl
-turned_eq Equal = refl
-turned_eq Greater = refl
+turned_eq other = refl
 
 turned_lt : (o : Ordering) → is_lt (ordering_reverse o) ≡ is_gt o
 turned_lt Less = refl
-turned_lt Equal = refl
-turned_lt Greater = refl
+turned_lt other = refl
 
 same_turned : (a b : List ℕ) → is_eq (key_cmp a b) ≡ is_eq (key_cmp b a)
 same_turned a b = ap is_eq (nat_list_cmp_total.antisymm a b) ∙ turned_eq (key_cmp b a)
@@ -161,7 +154,7 @@ first_is (item ∷ items) d h = refl
 
 -- a row's words spell its record
 pub row_spells : (words : List ℕ) (content : Record) → record_in words ≡ content → IsSpelling (record_in words) words → IsSpelling content words
-row_spells words content e h = subst (λ (one : Record). IsSpelling one words) e h
+row_spells words content e h = rw (← e) h
 
 pub few_items : (words : List ℕ) (content : Record) → record_in words ≡ content → IsSpelling (record_in words) words → length (items_of content) ≤ 24
 few_items words content e h = (stands words content (row_spells words content e h)).few

@@ -3,7 +3,7 @@ use Rattle.std.proofs.Common.{◌≡◌, ◌==◌, ◌<◌, ◌+◌, ◌%◌, �
 use Rattle.std.specs.Prelude.{Some, not}
 use Rattle.row_search.proofs.Words.{is_eq, Less, Equal, Greater, key_cmp, Child, Item, AreItems, child_in, IsAt, IsGap, IsAscending-from, below, same, Record, first_at, held_mark, text_size}
 use Rattle.row_search.proofs.Words.{items_of, row_of, IsSpelling, IsText}
-use Rattle.deltas.specs.declared.record.Record.TheVariants.{Base, Put, Delete, Split, Term, Hold, Remove, Merge, Unterm}
+use Rattle.deltas.specs.declared.record.Record.TheVariants.{Put, Term, Hold}
 use Rattle.row_search.specs.Items.{is_term, items_said, may_take}
 use Rattle.row_search.proofs.RowTexts.{first_text}
 
@@ -14,57 +14,31 @@ term_kind (Term term) e = refl
 term_kind content e = absurd (omega arith)
 
 pub hold_kind : (content : Record) → ((row_of content).kind ≡ 5 → ⊥) → ((row_of content).kind == 6) ≡ is_term content
-hold_kind (Base page) e = refl
-hold_kind (Put put) e = refl
-hold_kind (Delete delete) e = refl
-hold_kind (Split split) e = refl
 hold_kind (Term term) e = absurd (e refl)
-hold_kind (Hold hold) e = refl
-hold_kind (Remove remove) e = refl
-hold_kind (Merge merge) e = refl
-hold_kind (Unterm unterm) e = refl
+hold_kind content e = refl
 
 pub put_keeps : (content : Record) → (row_of content).kind ≡ 2 → false ≡ may_take content
 put_keeps (Put put) e = refl
 put_keeps content e = absurd (omega arith)
 
 pub others_take : (content : Record) → ((row_of content).kind ≡ 2 → ⊥) → not (is_term content) ≡ may_take content
-others_take (Base page) e = refl
 others_take (Put put) e = absurd (e refl)
-others_take (Delete delete) e = refl
-others_take (Split split) e = refl
-others_take (Term term) e = refl
-others_take (Hold hold) e = refl
-others_take (Remove remove) e = refl
-others_take (Merge merge) e = refl
-others_take (Unterm unterm) e = refl
+others_take content e = refl
 
 -- the items of a record that is no term stand in it, and a term has one
 
 pub standing : (content : Record) → is_term content ≡ false → items_said content ≡ items_of content
-standing (Base page) e = refl
-standing (Put put) e = refl
-standing (Delete delete) e = refl
-standing (Split split) e = refl
 standing (Term term) e = cc
 standing (Hold hold) e = cc
-standing (Remove remove) e = refl
-standing (Merge merge) e = refl
-standing (Unterm unterm) e = refl
+standing content e = refl
 
 abbrev one : Record → Bool → Item
 one content held = record { key = (row_of content).first; content = Child (row_of content).page held }
 
 pub single : (content : Record) → is_term content ≡ true → (held : Bool) × (items_said content ≡ one content held ∷ [])
-single (Base page) e = cc
-single (Put put) e = cc
-single (Delete delete) e = cc
-single (Split split) e = cc
 single (Term term) e = (false, refl)
 single (Hold hold) e = (true, refl)
-single (Remove remove) e = cc
-single (Merge merge) e = cc
-single (Unterm unterm) e = cc
+single content e = cc
 
 first_alone : (item d : Item) (place : ℕ) → place < length (item ∷ []) → get_or (item ∷ []) place d ≡ item
 first_alone item d zero h = refl
@@ -78,7 +52,7 @@ module _ (content : Record) (e : is_term content ≡ true) where
   is = (single content e).1
 
   pub one_there : (place : ℕ) (d : Item) → place < length (items_said content) → get_or (items_said content) place d ≡ one content mark
-  one_there place d within = ap (λ (items : List Item). get_or items place d) is ∙ first_alone (one content mark) d place (subst (λ (items : List Item). place < length items) is within)
+  one_there place d within = ap (λ (items : List Item). get_or items place d) is ∙ first_alone (one content mark) d place (rw is at within)
 
   pub one_child : (place : ℕ) (d : Item) → place < length (items_said content) → Some (row_of content).page ≡ child_in (Some (get_or (items_said content) place d).content)
   one_child place d within = ap (λ (item : Item). child_in (Some item.content)) (sym (one_there place d within))
@@ -88,13 +62,13 @@ module _ (content : Record) (e : is_term content ≡ true) where
 
   module _ (key : List ℕ) where
     pub behind_it : Less ≡ key_cmp (row_of content).first key → IsGap (items_said content) key 1
-    behind_it h = subst (λ (items : List Item). IsGap items key 1) (sym is) (record { within = omega arith; below = (sym h, tt); above = tt })
+    behind_it h = rw is (record { within = omega arith; below = (sym h, tt); above = tt })
 
     pub at_it : Equal ≡ key_cmp (row_of content).first key → IsAt (items_said content) key 0
-    at_it h = subst (λ (items : List Item). IsAt items key 0) (sym is) (record { within = omega arith; found = λ d. same (row_of content).first key (sym (ap is_eq h)) })
+    at_it h = rw is (record { within = omega arith; found = λ d. same (row_of content).first key (sym (ap is_eq h)) })
 
     pub before_it : Greater ≡ key_cmp (row_of content).first key → IsGap (items_said content) key 0
-    before_it h = subst (λ (items : List Item). IsGap items key 0) (sym is) (record { within = omega arith; below = tt; above = (below (row_of content).first key (sym h), tt) })
+    before_it h = rw is (record { within = omega arith; below = tt; above = (below (row_of content).first key (sym h), tt) })
 
   pub one_text : (words : List ℕ) → IsSpelling content words → (place : ℕ) (d : Item) → place < length (items_said content)
       → IsText (get_or words first_at 0 % held_mark) (take text_size (drop (first_at + 1) words)) (get_or (items_said content) place d).key
@@ -103,5 +77,5 @@ module _ (content : Record) (e : is_term content ≡ true) where
       let counts = text.counts in
       let short = text.short.short in
       let small : get_or words first_at 0 ≡ get_or words first_at 0 % held_mark = omega (arith, counts, short) in
-      subst (λ (n : ℕ). IsText n (take text_size (drop (first_at + 1) words)) (get_or (items_said content) place d).key) small
-      (subst (λ (item : Item). IsText (get_or words first_at 0) (take text_size (drop (suc first_at) words)) item.key) (sym (one_there place d within)) text)
+      rw (← small)
+      (rw (one_there place d within) text)

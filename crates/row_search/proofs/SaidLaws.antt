@@ -4,7 +4,7 @@ use Rattle.std.specs.Prelude.{true, false, Option, Some, None, unwrap_or}
 use Rattle.row_search.proofs.Words.{Child, Item, Record, row_of, items_of}
 use Rattle.base_page.specs.Pages.{content_at}
 use Rattle.deltas.specs.Records.{content_said, high_after, removed_after, right_after}
-use Rattle.deltas.specs.declared.record.Record.TheVariants.{Base, Put, Delete, Split, Term, Hold, Remove, Merge, Unterm}
+use Rattle.deltas.specs.declared.record.Record.TheVariants.{Base, Put, Split, Term, Hold, Merge}
 use Rattle.row_search.specs.OneKey.{one_key, split_at}
 
 -- what it says of a key that it names
@@ -34,13 +34,10 @@ module _ (key : List ℕ) where
       → None ≡ content_said content key
   said_none (Base page) a b c d e = absurd (a refl)
   said_none (Put put) a b c d e = absurd (b refl)
-  said_none (Delete delete) a b c d e = refl
-  said_none (Split split) a b c d e = refl
   said_none (Term term) a b c d e = absurd (c refl)
   said_none (Hold hold) a b c d e = absurd (d refl)
-  said_none (Remove remove) a b c d e = refl
   said_none (Merge merge) a b c d e = absurd (e refl)
-  said_none (Unterm unterm) a b c d e = refl
+  said_none content a b c d e = refl
 
 -- the page's right after it
 some_right : (right : Option ℕ) → (unwrap_or right 0 ≡ 0 → ⊥) → Some (unwrap_or right 0) ≡ right
@@ -53,26 +50,16 @@ no_some e = let n : ◌≡◌ {A = ℕ} 0 1 = ap (λ (right : Option ℕ). unwra
 pub right_some : (content : Record) → ((right : Option ℕ) → right_after content right ≡ right_after content None) → ((row_of content).page ≡ 0 → ⊥)
     → Some (row_of content).page ≡ right_after content None
 right_some (Base page) f h = some_right page.right h
-right_some (Put put) f h = no_some (f (Some 0))
-right_some (Delete delete) f h = no_some (f (Some 0))
 right_some (Split split) f h = refl
-right_some (Term term) f h = no_some (f (Some 0))
-right_some (Hold hold) f h = no_some (f (Some 0))
-right_some (Remove remove) f h = no_some (f (Some 0))
 right_some (Merge merge) f h = some_right merge.right h
-right_some (Unterm unterm) f h = no_some (f (Some 0))
+right_some content f h = no_some (f (Some 0))
 
 -- and its end
 pub high_ends_not : (content : Record) → ((row_of content).kind ≡ 1 → ⊥) → ((row_of content).kind ≡ 4 → ⊥) → ((row_of content).kind ≡ 8 → ⊥) → (high : Option (List ℕ)) → high_after content high ≡ high
 high_ends_not (Base page) a b c high = absurd (a refl)
-high_ends_not (Put put) a b c high = refl
-high_ends_not (Delete delete) a b c high = refl
 high_ends_not (Split split) a b c high = absurd (b refl)
-high_ends_not (Term term) a b c high = refl
-high_ends_not (Hold hold) a b c high = refl
-high_ends_not (Remove remove) a b c high = refl
 high_ends_not (Merge merge) a b c high = absurd (c refl)
-high_ends_not (Unterm unterm) a b c high = refl
+high_ends_not content a b c high = refl
 
 pub high_base : (content : Record) → (row_of content).kind ≡ 1 → (row_of content).second ≡ high_after content None
 high_base (Base page) e = refl
@@ -89,14 +76,7 @@ high_merge content e = absurd (omega arith)
 -- whether it removes the page
 pub removes : (content : Record) → ((row_of content).kind == 7) ≡ removed_after content false
 removes (Base page) = refl
-removes (Put put) = refl
-removes (Delete delete) = refl
-removes (Split split) = refl
-removes (Term term) = refl
-removes (Hold hold) = refl
-removes (Remove remove) = refl
-removes (Merge merge) = refl
-removes (Unterm unterm) = refl
+removes content = refl
 
 -- the one key that it names
 pub one_put : (content : Record) (d : Item) → (row_of content).kind ≡ 2 → Some ((get_or (items_of content) 0 d).key, true) ≡ one_key content

@@ -13,7 +13,7 @@ module _ (words text key : List ℕ) (are : words ≡ text_words text_size text)
   fits = subst IsShort (sym same) short
 
   pub kept : IsText (length text) words (take (length text) (bytes_of words))
-  kept = subst (λ (ws : List ℕ). IsText (length text) ws (take (length text) (bytes_of ws))) (sym are) (is_text text fits)
+  kept = rw are (is_text text fits)
 
   pub read : take (length text) (bytes_of words) ≡ key
   read = ap (λ (ws : List ℕ). take (length text) (bytes_of ws)) are ∙ spelled text fits ∙ same

@@ -1,5 +1,5 @@
-use Rattle.std.proofs.Common.{◌≡◌, ◌%◌, ℕ, take, drop, suc, get_or, subst, arith}
-use Rattle.row_search.proofs.Words.{first_at, held_mark, text_size, row_of, words_of, IsText}
+use Rattle.std.proofs.Common.{◌≡◌, ◌%◌, get_or, arith}
+use Rattle.row_search.proofs.Words.{first_at, held_mark, row_of, words_of}
 use Rattle.row_search.proofs.RowTexts.{first_text}
 use Rattle.row_search.proofs.row_at.RowAt.compare_first.Goals as goal
 
@@ -10,4 +10,4 @@ returns-clause-compared g c =
     let counts = text.counts in
     let short = text.short.short in
     let small : get_or (words_of content) first_at 0 ≡ get_or (words_of content) first_at 0 % held_mark = omega (arith, counts, short) in
-    c.compare_text.ensures.compared (row_of content).first (subst (λ (n : ℕ). IsText n (take text_size (drop (suc first_at) (words_of content))) (row_of content).first) small text)
+    c.compare_text.ensures.compared (row_of content).first (rw (← small) text)

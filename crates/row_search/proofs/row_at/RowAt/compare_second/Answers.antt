@@ -1,5 +1,5 @@
-use Rattle.std.proofs.Common.{ℕ, take, drop, suc, sym, ap, subst, ◌∙◌}
-use Rattle.row_search.proofs.Words.{option_map, key_cmp, second_at, text_size, row_of, words_of, IsText, row_spelled}
+use Rattle.std.proofs.Common.{sym, ap, ◌∙◌}
+use Rattle.row_search.proofs.Words.{option_map, key_cmp, row_of, words_of, row_spelled}
 use Rattle.row_search.proofs.RowTexts.{second_by}
 use Rattle.row_search.proofs.Bounds.{unbounded}
 use Rattle.row_search.proofs.row_at.RowAt.compare_second.Goals as goal
@@ -16,4 +16,4 @@ returns-clause-compared g c =
     let content = c.args.self.now.content in
     let is = row_spelled (words_of content) content c.keeps_spelling.ensures in
     second_by c.args.key.now (words_of content) (row_of content).second is.is.second is.second (λ e. c.if-count-eq-NO_BOUND.false (c.length-count.ensures.word ∙ e)) c.compare_of.result
-    (λ text is'. c.compare_of.ensures.compared text (subst (λ (n : ℕ). IsText n (take text_size (drop (suc second_at) (words_of content))) text) (sym c.length-count.ensures.word) is'))
+    (λ text is'. c.compare_of.ensures.compared text (rw c.length-count.ensures.word is'))

@@ -17,7 +17,7 @@ grown : (is page : Page) (content : Record) (place : ℕ) (item : Item) → cont
 grown is page content place item e before within here =
     let same : items_of content ≡ is.items = ap items_of e in
     let there : (d : Item) → item ≡ get_or is.items place d = λ d. here d ∙ ap (λ (items : List Item). get_or items place d) same in
-    let one = more is.items page.items place item (ap (λ (p : Page). p.items) before) (subst (λ (items : List Item). place < length items) same within) there in
+    let one = more is.items page.items place item (ap (λ (p : Page). p.items) before) (rw (← same) within) there in
     λ i. record (before i) { items = one i }
 
 pub push-requires : goal.push-requires
@@ -26,7 +26,7 @@ push-requires g c =
     let base = base_of content c.requires.base in
     let is : IsPage base.0 = (subst IsSpellable base.1 c.keeps_spelling.ensures.spellable).ruled.is_page in
     let within : c.loop-place.place < length (items_of content) = let n = c.item_count-place-end.ensures.count in omega (arith, n, c.loop-place-test.true) in
-    subst IsPage (sym (grown base.0 c.loop-place.page content c.loop-place.place c.item.result base.1 (c.loop-place.invariant.read base.0 base.1) within c.item.ensures.item))
+    rw (grown base.0 c.loop-place.page content c.loop-place.place c.item.result base.1 (c.loop-place.invariant.read base.0 base.1) within c.item.ensures.item)
     (IsPage-take base.0 is (c.loop-place.place + 1))
 
 pub loop-place-preserved : goal.loop-place-preserved

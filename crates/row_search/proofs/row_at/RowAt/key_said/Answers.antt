@@ -1,6 +1,6 @@
-use Rattle.std.proofs.Common.{◌+◌, ◌%◌, ℕ, [], get_or, take, drop, sym, ap, subst, ◌∙◌}
+use Rattle.std.proofs.Common.{◌+◌, ◌%◌, ℕ, [], get_or, take, drop, ap, ◌∙◌}
 use Rattle.std.specs.Prelude.{false}
-use Rattle.row_search.proofs.Words.{Child, Item, held_mark, text_size, words_of, IsText, items_said, text_in}
+use Rattle.row_search.proofs.Words.{Child, Item, held_mark, text_size, words_of, items_said, text_in}
 use Rattle.row_search.proofs.ItemReads.{text_is, text_stands}
 use Rattle.row_search.specs.TextsOf.{length_at}
 use Rattle.row_search.proofs.row_at.RowAt.key_said.Goals as goal
@@ -13,7 +13,7 @@ at-requires-clause-text g c =
     let content = c.args.self.now.content in
     let words = words_of content in
     let at : ℕ = length_at c.said_at-text.result in
-    subst (λ (n : ℕ). IsText (n % held_mark) (take text_size (drop (at + 1) words)) (text_in (n % held_mark) (drop (at + 1) words))) (sym c.length-count.ensures.word)
+    rw c.length-count.ensures.word
     (text_stands (get_or words at 0 % held_mark) (take text_size (drop (at + 1) words)) (get_or (items_said content) c.args.place none).key (c.said_at-text.ensures.text none))
 
 pub returns-clause-key : goal.returns-clause-key

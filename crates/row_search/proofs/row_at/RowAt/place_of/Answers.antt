@@ -1,5 +1,5 @@
-use Rattle.std.proofs.Common.{◌≡◌, ◌<◌, ◌+◌, ◌*◌, ◌/◌, ◌%◌, ℕ, List, length, get_or, take, drop, subst, ◌∙◌, arith}
-use Rattle.row_search.proofs.Words.{AllWithin, Ordering, Less, Equal, Greater, key_cmp, Item, held_mark, item_size, items_at, text_size, items_of, words_of, IsSpelling, IsText, Record}
+use Rattle.std.proofs.Common.{◌≡◌, ◌<◌, ◌+◌, ◌*◌, ◌/◌, ◌%◌, ℕ, List, length, get_or, take, drop, ◌∙◌, arith}
+use Rattle.row_search.proofs.Words.{Ordering, Less, Equal, Greater, key_cmp, Item, held_mark, item_size, items_at, text_size, items_of, words_of, IsSpelling, IsText, Record}
 use Rattle.row_search.proofs.Bisect.{lower, upper, found_at, gap_at}
 use Rattle.row_search.proofs.ItemTexts.{decided}
 use Rattle.row_search.proofs.RowTexts.{stands}
@@ -69,8 +69,7 @@ returns-clause-absent g c =
     let content = c.args.self.now.content in
     let done : c.loop-low.high ≡ c.loop-low.low = let o = v.ordered in omega (arith, c.loop-low-test.false) in
     let top = v.top in
-    gap_at (items_of content) c.args.key.now c.loop-low.low (omega arith) v.below (subst (λ (high : ℕ). AllWithin (λ (item : Item). key_cmp item.key c.args.key.now ≡ Greater)
-    (items_of content) high (length (items_of content))) done v.above)
+    gap_at (items_of content) c.args.key.now c.loop-low.low (omega arith) v.below (rw (← done) v.above)
 
 pub returns-in-Equal-clause-items : goal.returns-in-Equal-clause-items
 returns-in-Equal-clause-items g c = let stand = stands (words_of c.args.self.now.content) c.args.self.now.content c.keeps_spelling.ensures in record { few = stand.few; ascending = stand.ascending }

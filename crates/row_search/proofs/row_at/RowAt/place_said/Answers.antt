@@ -1,26 +1,15 @@
-use Rattle.std.proofs.Common.{◌≡◌, false, List, sym, subst, ◌∙◌}
-use Rattle.std.specs.Prelude.{IfOk, IfErr}
-use Rattle.row_search.proofs.Words.{Item, AreItems, IsAt, IsGap, is_term}
+use Rattle.std.proofs.Common.{sym, ◌∙◌}
 use Rattle.row_search.proofs.SaidItems.{are_one, at_it, before_it, behind_it, standing}
 use Rattle.row_search.proofs.row_at.RowAt.place_said.Goals as goal
 
 pub returns-then-not-is_term-clause-found : goal.returns-then-not-is_term-clause-found
-returns-then-not-is_term-clause-found g c =
-    let content = c.args.self.now.content in
-    let no : is_term content ≡ false = sym c.is_term.ensures ∙ c.if-not-is_term.true in
-    subst (λ (items : List Item). IfOk c.place_of.result (IsAt items c.args.key.now)) (sym (standing content no)) c.place_of.ensures.found
+returns-then-not-is_term-clause-found g c = rw (standing c.args.self.now.content (sym c.is_term.ensures ∙ c.if-not-is_term.true)) c.place_of.ensures.found
 
 pub returns-then-not-is_term-clause-absent : goal.returns-then-not-is_term-clause-absent
-returns-then-not-is_term-clause-absent g c =
-    let content = c.args.self.now.content in
-    let no : is_term content ≡ false = sym c.is_term.ensures ∙ c.if-not-is_term.true in
-    subst (λ (items : List Item). IfErr c.place_of.result (IsGap items c.args.key.now)) (sym (standing content no)) c.place_of.ensures.absent
+returns-then-not-is_term-clause-absent g c = rw (standing c.args.self.now.content (sym c.is_term.ensures ∙ c.if-not-is_term.true)) c.place_of.ensures.absent
 
 pub returns-then-not-is_term-clause-items : goal.returns-then-not-is_term-clause-items
-returns-then-not-is_term-clause-items g c =
-    let content = c.args.self.now.content in
-    let no : is_term content ≡ false = sym c.is_term.ensures ∙ c.if-not-is_term.true in
-    subst AreItems (sym (standing content no)) c.place_of.ensures.items
+returns-then-not-is_term-clause-items g c = rw (standing c.args.self.now.content (sym c.is_term.ensures ∙ c.if-not-is_term.true)) c.place_of.ensures.items
 
 pub returns-in-Less-clause-absent : goal.returns-in-Less-clause-absent
 returns-in-Less-clause-absent g c = behind_it c.args.self.now.content (sym c.is_term.ensures ∙ c.if-not-is_term.false) c.args.key.now c.in-Less.ensures.compared

@@ -1,4 +1,3 @@
-use Rattle.std.proofs.Common.{List, ℕ, sym, subst}
 use Rattle.row_search.proofs.Words.{Record, IsSpelling}
 use Rattle.record_slots.proofs.SpellingLaws.{spelling_one}
 use Rattle.row_search.proofs.Found.{unwrapped}
@@ -9,4 +8,4 @@ returns-clause-record g c =
     let words = c.words.result in
     spelling_one c.unwrap.result c.args.self.now.content words
     (unwrapped (λ (content : Record). IsSpelling content words) c.read_words.result c.unwrap.result c.unwrap.ensures c.read_words.ensures)
-    (subst (λ (ws : List ℕ). IsSpelling c.args.self.now.content ws) (sym c.words.ensures.words) c.keeps_spelling.ensures)
+    (rw c.words.ensures.words c.keeps_spelling.ensures)

@@ -1,5 +1,5 @@
-use Rattle.std.proofs.Common.{◌≡◌, ◌<◌, ◌+◌, ◌*◌, ◌%◌, ℕ, false, List, length, refl, get_or, take, drop, sym, subst, ◌∙◌}
-use Rattle.row_search.proofs.Words.{Item, held_mark, item_size, items_at, text_size, words_of, IsText, is_term}
+use Rattle.std.proofs.Common.{◌≡◌, ◌+◌, ◌*◌, ℕ, false, refl, sym, ◌∙◌}
+use Rattle.row_search.proofs.Words.{item_size, items_at, words_of, is_term}
 use Rattle.row_search.proofs.ItemReads.{key_text}
 use Rattle.row_search.proofs.SaidItems.{one_text, standing}
 use Rattle.row_search.proofs.row_at.RowAt.said_at.Goals as goal
@@ -13,7 +13,7 @@ pub returns-clause-there : goal.returns-clause-there
 returns-clause-there g c =
     let content = c.args.self.now.content in
     let no : is_term content ≡ false = sym c.is_term.ensures ∙ c.if-is_term.false in
-    subst (λ (items : List Item). c.args.item < length items) (standing content no) c.requires.there
+    rw (← standing content no) c.requires.there
 
 pub returns-clause-text : goal.returns-clause-text
 returns-clause-text g c d =
@@ -21,6 +21,5 @@ returns-clause-text g c d =
     let words = words_of content in
     let at : ℕ = items_at + item_size * c.args.item in
     let no : is_term content ≡ false = sym c.is_term.ensures ∙ c.if-is_term.false in
-    let within = subst (λ (items : List Item). c.args.item < length items) (standing content no) c.requires.there in
-    subst (λ (items : List Item). IsText (get_or words at 0 % held_mark) (take text_size (drop (at + 1) words)) (get_or items c.args.item d).key) (sym (standing content no))
-    (key_text words content c.keeps_spelling.ensures c.args.item d within at refl)
+    let within = rw (standing content no) at c.requires.there in
+    rw (standing content no) (key_text words content c.keeps_spelling.ensures c.args.item d within at refl)
