@@ -1,9 +1,9 @@
 -- A planned record is what the discipline asks to be linked.
-use Rattle.structure_changes.proofs.Words.{◌≡◌, ◌<◌, ◌-◌, ℕ, suc, List, [], ◌∷◌, Bool, true, false, Some, ap, ◌∙◌, subst, arith, IsTrue, Child, Page, content_at, Record, Hold, Merge, Remove}
+use Rattle.structure_changes.proofs.Words.{◌≡◌, ◌<◌, ◌-◌, ℕ, suc, List, Bool, true, false, Some, ap, ◌∙◌, arith, IsTrue, Child, Page, content_at, Record, Hold, Merge, Remove}
 use Rattle.structure_changes.proofs.Words.{Term, Unterm, content_in, covers, is_removed, level_in, low_in, IsFitted, IsPageChain, ruled, SplitPlan, Version, IsSplitPlan, split_to}
 use Rattle.structure_changes.proofs.Words.{IsTermPlan, IsRootPlan, IsHoldPlan, IsRemovePlan, IsMergePlan, IsUntermPlan}
 use Rattle.deltas.specs.declared.record.Record.TheVariants as kind
-use Rattle.traces.specs.discipline.Discipline.{MayHold, MayMerge, MayPost, MayRemove, MayRoot, MaySplit, MayUnterm}
+use Rattle.traces.specs.discipline.Discipline.{HasRead, MayHold, MayMerge, MayPost, MayRemove, MayRoot, MaySplit, MayUnterm}
 use Rattle.traces.specs.discipline.Knowledge.{Knowledge, Ready, Written}
 use Rattle.traces.proofs.UnheldLaws.{unheld_by_items}
 use Rattle.structure_changes.specs.Readings.{HasSeen, IsAfter}
@@ -19,6 +19,9 @@ covered chain fitted key child held there =
       rw (← makes.low, ← makes.high) (inside page rules key (Child child held) at),
       rw (← makes.level) (index_at page rules key child held at),
     )
+
+abbrev has_read : (k : Knowledge) (page : Version) → HasSeen k page → is_removed page.chain ≡ false → HasRead k page.pid page.head
+has_read k page seen alive = record { head = seen.head; chain = page.chain; read = seen.read; alive = alive }
 
 base_in : Page → Record → Page
 base_in other (kind.Base page) = page
@@ -39,7 +42,7 @@ split_due k page plan right row is ready base =
       items = plan.upper.items;
       alike = λ key within above. is.alike key above;
       base = base ∙ ap Written is.base;
-      ruled = subst (λ (r : Record). IsFitted (r ∷ [])) is.base is.stands;
+      ruled = rw (← is.base) is.stands;
       is = ap kind.Split (λ i. record { level = level i; next = is.over i; separator = plan.upper.low; page = right });
     }
 
@@ -48,7 +51,7 @@ pub term_due : (k : Knowledge) (parent page : Version) (term : Term) → IsTermP
 term_due k parent page term is seen order = record {
   child = page.pid;
   row = page.head;
-  below = record { head = seen.head; chain = page.chain; read = seen.read; alive = is.can.alive };
+  below = has_read k page seen is.can.alive;
   level = is.can.level;
   covers = is.can.covered;
   absent = is.can.absent;
@@ -60,7 +63,7 @@ pub root_due : (k : Knowledge) (left right : Version) (root : Page) (new row : �
     → k.own.pages new ≡ Ready row → k.own.rows row ≡ Written (kind.Base root) → MayRoot k left.pid new
 root_due k left right root new row is fitted seen ready base = record {
   row = left.head;
-  basis = record { head = seen.head; chain = left.chain; read = seen.read; alive = is.stands };
+  basis = has_read k left seen is.stands;
   right = right.pid;
   is_right = is.can.next_to.right;
   separator = low_in right.chain;
@@ -69,7 +72,7 @@ root_due k left right root new row is fitted seen ready base = record {
   base_row = row;
   ready = ready;
   base = base ∙ ap Written is.is;
-  ruled = subst (λ (r : Record). IsFitted (r ∷ [])) is.is is.fits;
+  ruled = rw (← is.is) is.fits;
 }
 
 pub hold_due : (parent page : Version) (hold : Hold) → IsHoldPlan parent page hold → IsPageChain parent.chain → MayHold parent.head parent.chain (kind.Hold hold)
@@ -92,7 +95,7 @@ pub remove_due : (k : Knowledge) (parent page : Version) (remove : Remove) → I
 remove_due k parent page remove is fitted alive level seen = let (items, are, none) = is.can.unheld in record {
   parent = parent.pid;
   row = parent.head;
-  above = record { head = seen.head; chain = parent.chain; read = seen.read; alive = alive };
+  above = has_read k parent seen alive;
   level = level;
   covers = (covered parent.chain fitted.fitted (low_in page.chain) page.pid true is.can.held).0;
   held = is.can.held;
@@ -125,7 +128,7 @@ unterm_due k parent left removed unterm is fitted level seen order = record {
   present = is.can.held;
   left = left.pid;
   row = left.head;
-  below = record { head = seen.head; chain = left.chain; read = seen.read; alive = is.can.alive };
+  below = has_read k left seen is.can.alive;
   level = level;
   above = is.can.above;
   within = is.can.within;

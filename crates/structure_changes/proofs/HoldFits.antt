@@ -1,5 +1,5 @@
 -- A hold fits its page: a term that is held beside unheld ones breaks no rule.
-use Rattle.std.proofs.Common.{◌≡◌, ◌≢◌, ◌⊎◌, inl, inr, ◌-◌, get_or, ◌<◌, ◌≤◌, ◌+◌, ℕ, suc, List, [], ◌∷◌, length, true, false, Some, None, refl, sym, ap, ◌∙◌, subst, arith}
+use Rattle.std.proofs.Common.{◌≡◌, ◌≢◌, ◌⊎◌, inl, inr, ◌-◌, get_or, ◌<◌, ◌≤◌, ◌+◌, ℕ, suc, List, [], ◌∷◌, length, true, false, Some, None, refl, sym, ap, ◌∙◌, arith}
 use Rattle.std.specs.Prelude.{IsTrue, ⊤}
 use Rattle.structure_changes.proofs.Words.{Less, Equal, eqb_tells, All-from_recursion, at_read, recursion_from_All, same_Some, key_cmp, is_in_range, Child, Item, Page, content_at}
 use Rattle.structure_changes.proofs.Words.{IsAscending, IsOfLevel, AreApart, IsFirstAt, IsRuled, held_count, is_held, Record, Hold, IsSpellable, is_removed, low_in, FitsOver, Makes}
@@ -103,10 +103,10 @@ hold_fits chain page hold makes rules spellable fit above covered few free =
 module _ (key : List ℕ) (items : List Item) (i j : ℕ) (one other : Item) (within : i < length items) (inside : j < length items)
     (is_one : one ≡ get_or items i one) (is_other : other ≡ get_or items j other) where
   free_at : (one.key ≡ key → is_held other.content ≡ false) → IsFreeBeside key items i j
-  free_at free at = at_read items (λ (item : Item). is_held item.content ≡ false) j other inside is_other (free (subst (λ (item : Item). item.key ≡ key) (sym is_one) (at one)))
+  free_at free at = at_read items (λ (item : Item). is_held item.content ≡ false) j other inside is_other (free (rw is_one (at one)))
 
   at_free : IsFreeBeside key items i j → one.key ≡ key → is_held other.content ≡ false
-  at_free free same = subst (λ (item : Item). is_held item.content ≡ false) (sym is_other) (free (at_read items (λ (item : Item). item.key ≡ key) i one within is_one same) other)
+  at_free free same = rw is_other (free (at_read items (λ (item : Item). item.key ≡ key) i one within is_one same) other)
 
 below_or : (n m : ℕ) → n < m + 1 → (n < m) ⊎ (n ≡ m)
 below_or n m lt = elim (eqb_tells n m) [
@@ -125,7 +125,7 @@ module _ (key : List ℕ) (items : List Item) (place : ℕ) (one other : Item) (
 
   pub free_there : HasFreeNeighbours key items → (one.key ≡ key → is_held other.content ≡ false) × (other.key ≡ key → is_held one.content ≡ false)
   free_there free =
-      let both = subst (λ m. AreFreeAt (place - 1) m) next_is (free (place - 1) (omega (arith, some, within))) in (
+      let both = rw next_is at (free (place - 1) (omega (arith, some, within))) in (
         at_free key items (place - 1) place one other (omega (arith, within)) within is_one is_other both.0,
         at_free key items place (place - 1) other one within (omega (arith, within)) is_other is_one both.1,
       )
@@ -141,7 +141,7 @@ module _ (key : List ℕ) (items : List Item) (place : ℕ) (one other : Item) (
               items place (place - 1) other one within (omega (arith, within)) is_other is_one back,
         ) in
         let first : place - 1 ≡ n = omega (arith, is) in
-        subst (λ m. AreFreeAt n m) (sym is) (subst (λ m. AreFreeAt m place) first here)
+        rw is (rw (← first) here)
   ]
 
 from_places : (key : List ℕ) (items : List Item) → HasFreeNeighbours key items → AreFree key items

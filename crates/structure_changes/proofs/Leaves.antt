@@ -91,7 +91,7 @@ shorter : (memory : Memory) (pid : ℕ) (pages : List LivePage) → IsSideChainF
 shorter memory pid [] h bound le start longer is lt = absurd h
 shorter memory pid (page ∷ pages) h bound le start longer is lt = (
   (λ e.
-      let same : longer ≡ page ∷ pages = IsSideChainFrom-unique memory start longer (page ∷ pages) is (subst (λ p. IsSideChainFrom memory p (page ∷ pages)) (sym h.0 ∙ e) h) in
+      let same : longer ≡ page ∷ pages = IsSideChainFrom-unique memory start longer (page ∷ pages) is (rw (← sym h.0 ∙ e) h) in
       let equal = ap length same in
       omega (arith, equal, le, lt)),
   elim (right_in page.chain) as (λ o. MatchOption o (pages ≡ []) (λ right. IsSideChainFrom memory right pages) → Apart start pages) [
@@ -160,7 +160,7 @@ module _ (memory after : Memory) (one : ℕ) (stays : (pid : ℕ) (chain : List 
     pub goes : (pid : ℕ) (low : List ℕ) (pages : List LivePage) → Segment memory pid low pages → Goes after pid low pages
     goes pid low [] s = absurd s.sides
     goes pid low (page ∷ pages) s = elim (eqb_tells pid one) [
-      | inl same ↦ subst (λ p. Goes after p low (page ∷ pages)) (sym same.1) (here low (page ∷ pages) (subst (λ p. Segment memory p low (page ∷ pages)) same.1 s))
+      | inl same ↦ rw same.1 (here low (page ∷ pages) (rw (← same.1) s))
       | inr other ↦ after_page pid low page pages s other.1 (tail pages (right_in page.chain) (high_in page.chain) s.sides.2 s.whole.1 s.level.1 (λ next key segment. goes next key pages segment))
     ]
 
@@ -181,7 +181,7 @@ apart_if : (memory : Memory) (one : ℕ) → ((chain : List Record) → IsChainO
     → AllByRecursion (λ (page : LivePage). level_in page.chain ≡ 0) pages → Apart one pages
 apart_if memory one never pid [] h level = tt
 apart_if memory one never pid (page ∷ pages) h level = (
-  (λ e. never page.chain (subst (λ p. IsChainOf memory p page.chain) (sym h.0 ∙ e) h.1) level.0),
+  (λ e. never page.chain (rw (← sym h.0 ∙ e) h.1) level.0),
   elim (right_in page.chain) as (λ o. MatchOption o (pages ≡ []) (λ right. IsSideChainFrom memory right pages) → Apart one pages) [
     | None ↦ λ none. subst (Apart one) (sym none) tt
     | Some right ↦ λ rest. apart_if memory one never right pages rest level.1

@@ -1,5 +1,5 @@
 -- Linking what a plan gives keeps the leaves whole, and the map.
-use Rattle.structure_changes.proofs.Words.{◌≡◌, ◌≢◌, ◌<◌, ◌⊎◌, inl, inr, ℕ, List, [], ◌∷◌, true, false, Option, Some, None, refl, sym, ap, ◌∙◌, subst, arith, IsTrue, MatchOption, not, is_lt}
+use Rattle.structure_changes.proofs.Words.{◌≡◌, ◌≢◌, ◌<◌, ◌⊎◌, inl, inr, ℕ, List, [], ◌∷◌, true, false, Option, Some, None, refl, sym, ap, ◌∙◌, arith, IsTrue, not, is_lt}
 use Rattle.structure_changes.proofs.Words.{is_below, is_in_range, is_under, Value, Page, Record, Hold, Merge, Remove, Term, Unterm, Memory, replaced_at, next_row, IsChainFrom, IsChainOf}
 use Rattle.structure_changes.proofs.Words.{chain_rows, content_in, covers, high_in, level_in, low_in, right_in, IsPageChain, LivePage, IsSideChainFrom, IsWholeFrom, ruled, SplitPlan}
 use Rattle.structure_changes.proofs.Words.{Version, IsSplitPlan, split_to, IsTermPlan, IsHoldPlan, IsRemovePlan, IsMergePlan, merge_of, IsUntermPlan}
@@ -28,7 +28,7 @@ above_keeps : (memory : Memory) (version : Version) (row : ℕ) (content : Recor
 above_keeps memory version row content h holds spare index = beside_keeps memory (with_link version.pid row content memory) version.pid h (others_stay memory version.pid row content spare)
     (λ chain is level.
     let same : chain ≡ version.chain = IsChainOf-unique memory version.pid chain version.chain is (chain_of memory version holds) in
-    let leaf : level_in version.chain ≡ 0 = subst (λ (c : List Record). level_in c ≡ 0) same level in
+    let leaf : level_in version.chain ≡ 0 = rw (← same) level in
     omega (arith, index, leaf))
 
 pub term_keeps : (memory : Memory) (parent page : Version) (term : Term) (row : ℕ) → IsTermPlan parent page term → HasLeaves memory → HasVersion memory parent
@@ -65,7 +65,7 @@ pub over_chain : (memory : Memory) (version : Version) (row : ℕ) (content : Re
 over_chain memory version row content holds spare next =
     let is = chain_of memory version holds in
     let slot : replaced_at version.pid row memory.slots version.pid ≡ row = replaced_same version.pid row memory.slots in
-    let avoid : Avoids row (chain_rows version.head version.chain) = subst (λ head. Avoids row (chain_rows head version.chain)) holds.slot (avoided memory row version.pid version.chain spare is) in
+    let avoid : Avoids row (chain_rows version.head version.chain) = rw (← holds.slot) (avoided memory row version.pid version.chain spare is) in
     let under : IsChainFrom (replaced_at row (Some content) memory.rows) version.head version.chain = chain_stays memory.rows row (Some content) version.head version.chain holds.chain avoid in
     let records : IsChainFrom (replaced_at row (Some content) memory.rows) row (content ∷ version.chain) = (replaced_same row (Some content) memory.rows, rw next under) in
     record { page = is.page; linked = rw slot spare.some; records = rw slot records }
@@ -87,7 +87,7 @@ remove_keeps memory parent page remove row is h holds spare = page_keeps memory 
           record {
             sides = (
               refl,
-              subst (λ (c : List Record). IsChainOf (with_link page.pid row (kind.Remove remove) memory) page.pid (kind.Remove remove ∷ c)) same over,
+              rw (← same) over,
               rest_stays memory (with_link page.pid row (kind.Remove remove) memory) page.pid stays (right_in first.chain) pages s.sides.2 (apart memory page.pid first pages s.sides),
             );
             whole = s.whole;
@@ -149,26 +149,26 @@ module _ (memory : Memory) (page : Version) (plan : SplitPlan) (right row base_r
   page_is = chain_of memory page holds
 
   right_other : page.pid ≢ right
-  right_other e = let linked_is = page_is.linked in let none : memory.slots page.pid ≡ 0 = subst (λ p. memory.slots p ≡ 0) (sym e) empty in omega (arith, linked_is, none)
+  right_other e = let linked_is = page_is.linked in let none : memory.slots page.pid ≡ 0 = rw e empty in omega (arith, linked_is, none)
 
   stays : (pid : ℕ) (chain : List Record) → pid ≢ page.pid → IsChainOf memory pid chain → IsChainOf split_memory pid chain
   stays pid chain other at =
-      let not_right : pid ≢ right = λ e. (let linked_is = at.linked in let none : memory.slots pid ≡ 0 = subst (λ p. memory.slots p ≡ 0) (sym e) empty in omega (arith, linked_is, none)) in
+      let not_right : pid ≢ right = λ e. (let linked_is = at.linked in let none : memory.slots pid ≡ 0 = rw e empty in omega (arith, linked_is, none)) in
       let slot : ready.slots pid ≡ memory.slots pid = replaced_other right base_row memory.slots pid not_right in
       link_stays ready page.pid row split pid chain other (others_stay memory right base_row base spare_base pid chain not_right at)
-      (subst (λ head. Avoids row (chain_rows head chain)) (sym slot) (avoided memory row pid chain spare at))
+      (rw slot (avoided memory row pid chain spare at))
 
   ready_holds : HasVersion ready page
   ready_holds = record {
     slot = replaced_other right base_row memory.slots page.pid right_other ∙ holds.slot;
     chain = chain_stays memory.rows base_row (Some base) page.head page.chain holds.chain
-        (subst (λ head. Avoids base_row (chain_rows head page.chain)) holds.slot (avoided memory base_row page.pid page.chain spare_base page_is));
+        (rw (← holds.slot) (avoided memory base_row page.pid page.chain spare_base page_is));
   }
 
   split_is : IsChainOf split_memory page.pid (split ∷ page.chain)
   split_is =
       let slot : split_memory.slots page.pid ≡ row = replaced_same page.pid row ready.slots in
-      let avoid : Avoids row (chain_rows page.head page.chain) = subst (λ head. Avoids row (chain_rows head page.chain)) holds.slot (avoided memory row page.pid page.chain spare page_is) in
+      let avoid : Avoids row (chain_rows page.head page.chain) = rw (← holds.slot) (avoided memory row page.pid page.chain spare page_is) in
       let under : IsChainFrom split_memory.rows page.head page.chain = chain_stays ready.rows row (Some split) page.head page.chain ready_holds.chain avoid in
       let records : IsChainFrom split_memory.rows row (split ∷ page.chain) = (replaced_same row (Some split) ready.rows, rw is.over under) in
       record { page = page.is_pid.0; linked = rw slot spare.some; records = rw slot records }
@@ -184,7 +184,7 @@ module _ (memory : Memory) (page : Version) (plan : SplitPlan) (right row base_r
       → AreAlike (first ∷ pages) (record { pid = page.pid; chain = split ∷ page.chain } ∷ record { pid = right; chain = base ∷ [] } ∷ pages)
   halves_alike first pages same key value = (
     (λ shown. elim shown [
-      | inl (within, content) ↦ parted (subst (λ (c : List Record). IsTrue (covers c key)) (sym same) within) (subst (λ (c : List Record). content_in c key ≡ Some (Value value)) (sym same) content)
+      | inl (within, content) ↦ parted (rw same within) (rw same content)
       | inr rest ↦ inr (inr rest)
     ]),
     (λ shown. elim shown [
@@ -204,27 +204,28 @@ module _ (memory : Memory) (page : Version) (plan : SplitPlan) (right row base_r
       lower : IsTrue (covers (split ∷ page.chain) key) → content_in (split ∷ page.chain) key ≡ Some (Value value) → IsTrue (covers first.chain key) × (content_in first.chain key ≡ Some (Value value))
       lower within content =
           let below : is_below key plan.upper.low ≡ true = ends (low_in page.chain) (Some plan.upper.low) key within in (
-            subst (λ (c : List Record). IsTrue (covers c key)) same (in_range (low_in page.chain) (high_in page.chain) key
+            rw (← same) (in_range (low_in page.chain) (high_in page.chain) key
                 (starts (low_in page.chain) (Some plan.upper.low) key within) (under_trans key plan.upper.low (high_in page.chain) below is.below)),
-            subst (λ (c : List Record). content_in c key ≡ Some (Value value)) same (rw below at content),
+            rw (← same) (rw below at content),
           )
 
       upper : IsTrue (covers (base ∷ []) key) → content_in (base ∷ []) key ≡ Some (Value value) → IsTrue (covers first.chain key) × (content_in first.chain key ≡ Some (Value value))
       upper within content =
           let reach : is_below key plan.upper.low ≡ false = not_true (is_below key plan.upper.low) (starts plan.upper.low (high_in page.chain) key within) in (
-            subst (λ (c : List Record). IsTrue (covers c key)) same
-                (in_range (low_in page.chain) (high_in page.chain) key (not_under (low_in page.chain) plan.upper.low key is.above reach) (ends plan.upper.low (high_in page.chain) key within)),
-            subst (λ (c : List Record). content_in c key ≡ Some (Value value)) same (sym (is.alike key reach) ∙ content),
+            rw (← same)
+                (in_range (low_in page.chain) (high_in page.chain) key (not_under (low_in page.chain) plan.upper.low key is.above reach)
+                (ends plan.upper.low (high_in page.chain) key within)),
+            rw (← same) (sym (is.alike key reach) ∙ content),
           )
 
   here : (low : List ℕ) (pages : List LivePage) → Segment memory page.pid low pages → Goes split_memory page.pid low pages
   here low [] s = absurd s.sides
   here low (first ∷ pages) s =
       let same : page.chain ≡ first.chain = IsChainOf-unique memory page.pid page.chain first.chain page_is s.sides.1 in
-      let side = subst (λ (c : List Record). MatchOption (right_in c) (pages ≡ []) (λ next. IsSideChainFrom memory next pages)) (sym same) s.sides.2 in
-      let whole = subst (λ (c : List Record). MatchOption (high_in c) (pages ≡ []) (λ high. IsWholeFrom high pages)) (sym same) s.whole.1 in
-      let lowest : low_in page.chain ≡ low = subst (λ (c : List Record). low_in c ≡ low) (sym same) s.whole.0 in
-      let level : level_in page.chain ≡ 0 = subst (λ (c : List Record). level_in c ≡ 0) (sym same) s.level.0 in (
+      let side = rw (← same) at s.sides.2 in
+      let whole = rw (← same) at s.whole.1 in
+      let lowest : low_in page.chain ≡ low = rw same s.whole.0 in
+      let level : level_in page.chain ≡ 0 = rw same s.level.0 in (
         record { pid = page.pid; chain = split ∷ page.chain } ∷ record { pid = right; chain = base ∷ [] } ∷ pages,
         record {
           sides = (refl, split_is, (refl, right_is, rest_stays memory split_memory page.pid stays (right_in page.chain) pages side (apart memory page.pid first pages s.sides)));
@@ -236,17 +237,15 @@ module _ (memory : Memory) (page : Version) (plan : SplitPlan) (right row base_r
 
   -- before the split is linked, and after
   pub split_keeps : KeepsMap memory (with_link right base_row (kind.Base plan.upper) memory) × KeepsMap memory (with_link page.pid row split (with_link right base_row (kind.Base plan.upper) memory))
-  split_keeps = subst (λ (r : Record). KeepsMap memory (with_link right base_row r memory) × KeepsMap memory (with_link page.pid row split (with_link right base_row r memory))) (sym is.base)
-      (ready_keeps memory right base_row base h empty spare_base, page_keeps memory split_memory page.pid h stays here)
+  split_keeps = rw is.base (ready_keeps memory right base_row base h empty spare_base, page_keeps memory split_memory page.pid h stays here)
 
 -- the ranges of two pages that meet
 module _ (left removed : Version) (merge : Merge) (is : IsMergePlan left removed merge) (rules : IsPageChain left.chain) (rules_removed : IsPageChain removed.chain) where
   left_spans : is_below (low_in left.chain) (low_in removed.chain) ≡ true
   left_spans =
       let (page, makes) = made left.chain rules.fitted in
-      let spans : IsTrue (is_under page.low (Some (low_in removed.chain))) = subst (λ bound. IsTrue (is_under page.low bound))
-      (makes.high ∙ is.can.next_to.high) (ruled left.chain page rules.fitted makes).is_page.spans in
-      subst (λ low. IsTrue (is_below low (low_in removed.chain))) makes.low spans
+      let spans = rw (makes.high ∙ is.can.next_to.high) at (ruled left.chain page rules.fitted makes).is_page.spans in
+      rw (← makes.low) spans
 
   removed_spans : is_under (low_in removed.chain) (high_in removed.chain) ≡ true
   removed_spans =
@@ -260,7 +259,7 @@ module _ (left removed : Version) (merge : Merge) (is : IsMergePlan left removed
   -- a key of either page is in the range of the one that they become, which decides it as that page did
   pub from_left : (key : List ℕ) → IsTrue (covers left.chain key) → IsTrue (covers joined key) × (content_in joined key ≡ content_in left.chain key)
   from_left key within =
-      let below : is_below key (low_in removed.chain) ≡ true = subst (λ bound. is_under key bound ≡ true) is.can.next_to.high (ends (low_in left.chain) (high_in left.chain) key within) in (
+      let below : is_below key (low_in removed.chain) ≡ true = rw is.can.next_to.high at (ends (low_in left.chain) (high_in left.chain) key within) in (
         in_range (low_in left.chain) (high_in removed.chain) key (starts (low_in left.chain) (high_in left.chain) key within)
             (under_trans key (low_in removed.chain) (high_in removed.chain) below removed_spans),
         rw below refl,
@@ -291,11 +290,11 @@ module _ (memory : Memory) (left removed : Version) (merge : Merge) (row : ℕ) 
   both_alike first second pages same same_removed key value = (
     (λ shown. elim shown [
       | inl (within, content) ↦
-          let whole = from_left left removed merge is rules rules_removed key (subst (λ (c : List Record). IsTrue (covers c key)) (sym same) within) in
-          inl (whole.0, whole.1 ∙ subst (λ (c : List Record). content_in c key ≡ Some (Value value)) (sym same) content)
+          let whole = from_left left removed merge is rules rules_removed key (rw same within) in
+          inl (whole.0, whole.1 ∙ rw same content)
       | inr (inl (within, content)) ↦
-          let whole = from_removed left removed merge is rules rules_removed key (subst (λ (c : List Record). IsTrue (covers c key)) (sym same_removed) within) in
-          inl (whole.0, whole.1 ∙ subst (λ (c : List Record). content_in c key ≡ Some (Value value)) (sym same_removed) content)
+          let whole = from_removed left removed merge is rules rules_removed key (rw same_removed within) in
+          inl (whole.0, whole.1 ∙ rw same_removed content)
       | inr (inr rest) ↦ inr rest
     ]),
     (λ shown. elim shown [
@@ -307,38 +306,33 @@ module _ (memory : Memory) (left removed : Version) (merge : Merge) (row : ℕ) 
       parted : IsTrue (covers (due ∷ left.chain) key) → content_in (due ∷ left.chain) key ≡ Some (Value value) → Shows key value (first ∷ second ∷ pages)
       parted within content = either (is_below key (low_in removed.chain))
           (λ below.
-          let under : is_under key (high_in left.chain) ≡ true = subst (λ bound. is_under key bound ≡ true) (sym is.can.next_to.high) below in
+          let under : is_under key (high_in left.chain) ≡ true = rw is.can.next_to.high below in
           inl (
-            subst (λ (c : List Record). IsTrue (covers c key)) same
-                (in_range (low_in left.chain) (high_in left.chain) key (starts (low_in left.chain) (high_in removed.chain) key within) under),
-            subst
-                (λ (c : List Record). content_in c key ≡ Some (Value value)) same (rw below at content),
+            rw (← same) (in_range (low_in left.chain) (high_in left.chain) key (starts (low_in left.chain) (high_in removed.chain) key within) under),
+            rw (← same) (rw below at content),
           ))
           (λ reach.
           let inside : is_in_range (low_in removed.chain) (high_in removed.chain) key ≡ true = in_range (low_in removed.chain) (high_in removed.chain) key
           (ap not reach) (ends (low_in left.chain) (high_in removed.chain) key within) in
           inr (inl (
-            subst (λ (c : List Record). IsTrue (covers c key)) same_removed inside,
-            subst (λ (c : List Record). content_in c key ≡ Some (Value value))
-                same_removed (sym (is.has.contents key) ∙ (rw inside at content)),
+            rw (← same_removed) inside,
+            rw (← same_removed) (sym (is.has.contents key) ∙ (rw inside at content)),
           )))
 
   merge_here : (low : List ℕ) (pages : List LivePage) → Segment memory left.pid low pages → Goes merged_memory left.pid low pages
   merge_here low [] s = absurd s.sides
   merge_here low (first ∷ []) s =
       let same : left.chain ≡ first.chain = IsChainOf-unique memory left.pid left.chain first.chain (chain_of memory left holds) s.sides.1 in
-      absurd (subst (λ (right : Option ℕ). MatchOption right (◌≡◌ {A = List LivePage} [] []) (λ next. IsSideChainFrom memory next [])) (ap right_in (sym same) ∙ is.can.next_to.right) s.sides.2)
+      absurd (rw (ap right_in (sym same) ∙ is.can.next_to.right) at s.sides.2)
   merge_here low (first ∷ second ∷ pages) s =
       let same : left.chain ≡ first.chain = IsChainOf-unique memory left.pid left.chain first.chain (chain_of memory left holds) s.sides.1 in
-      let next : IsSideChainFrom memory removed.pid (second ∷ pages) =
-      subst (λ (right : Option ℕ). MatchOption right (second ∷ pages ≡ []) (λ right. IsSideChainFrom memory right (second ∷ pages))) (ap right_in (sym same) ∙ is.can.next_to.right) s.sides.2 in
-      let whole : IsWholeFrom (low_in removed.chain) (second ∷ pages) =
-      subst (λ (high : Option (List ℕ)). MatchOption high (second ∷ pages ≡ []) (λ key. IsWholeFrom key (second ∷ pages))) (ap high_in (sym same) ∙ is.can.next_to.high) s.whole.1 in
+      let next : IsSideChainFrom memory removed.pid (second ∷ pages) = rw (ap right_in (sym same) ∙ is.can.next_to.right) at s.sides.2 in
+      let whole : IsWholeFrom (low_in removed.chain) (second ∷ pages) = rw (ap high_in (sym same) ∙ is.can.next_to.high) at s.whole.1 in
       let same_removed : removed.chain ≡ second.chain = IsChainOf-unique memory removed.pid removed.chain second.chain (chain_of memory removed holds_removed) next.1 in
-      let side = subst (λ (c : List Record). MatchOption (right_in c) (pages ≡ []) (λ right. IsSideChainFrom memory right pages)) (sym same_removed) next.2 in
-      let rest = subst (λ (c : List Record). MatchOption (high_in c) (pages ≡ []) (λ high. IsWholeFrom high pages)) (sym same_removed) whole.1 in
-      let lowest : low_in left.chain ≡ low = subst (λ (c : List Record). low_in c ≡ low) (sym same) s.whole.0 in
-      let level : level_in left.chain ≡ 0 = subst (λ (c : List Record). level_in c ≡ 0) (sym same) s.level.0 in (
+      let side = rw (← same_removed) at next.2 in
+      let rest = rw (← same_removed) at whole.1 in
+      let lowest : low_in left.chain ≡ low = rw same s.whole.0 in
+      let level : level_in left.chain ≡ 0 = rw same s.level.0 in (
         record { pid = left.pid; chain = due ∷ left.chain } ∷ pages,
         record {
           sides = (
@@ -354,4 +348,4 @@ module _ (memory : Memory) (left removed : Version) (merge : Merge) (row : ℕ) 
       )
 
   pub merge_keeps : KeepsMap memory (with_link left.pid row (kind.Merge merge) memory)
-  merge_keeps = subst (λ (m : Merge). KeepsMap memory (with_link left.pid row (kind.Merge m) memory)) (sym is.is) (page_keeps memory merged_memory left.pid h merge_stays merge_here)
+  merge_keeps = rw is.is (page_keeps memory merged_memory left.pid h merge_stays merge_here)

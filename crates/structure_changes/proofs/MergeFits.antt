@@ -1,12 +1,12 @@
 -- A merge fits its page: the terms that come in are unheld, so the rules stay.
 use Rattle.structure_changes.proofs.Words.{◌≡◌, ◌≢◌, ◌<◌, ◌≤◌, ◌+◌, ◌++◌, ℕ, List, [], ◌∷◌, length, Bool, true, false, Some, refl, sym, ap, ◌∙◌, subst, arith, if◌then◌else◌, is_some, IsTrue}
-use Rattle.structure_changes.proofs.Words.{AllByRecursion, is_below, is_under, Item, Page, AreApart, AreTerms, IsFirstAt, IsRuled, held_count, is_held, below_from, Record, Merge}
+use Rattle.structure_changes.proofs.Words.{AllByRecursion, is_below, Item, Page, AreApart, AreTerms, IsFirstAt, IsRuled, held_count, is_held, below_from, Record, Merge}
 use Rattle.structure_changes.proofs.Words.{IsSpellable, IsSpellablePage, high_in, level_in, low_in, right_in, FitsOver, IsFitted, Makes, fits_over, made_children, made_right, ruled, Version}
 use Rattle.base_page.proofs.CutLaws.{IsPage-joined, content_at-joined}
 use Rattle.deltas.specs.declared.record.Record.TheVariants as kind
 use Rattle.deltas.specs.Fits.{FitsMerge}
 use Rattle.structure_changes.specs.Merges.{CanMerge, IsMergePlan, merge_of}
-use Rattle.structure_changes.proofs.Places.{not_empty, of_made}
+use Rattle.structure_changes.proofs.Places.{not_empty, of_made, page_but, ruled_but}
 
 none_held : List Item → Type 0
 none_held items = AllByRecursion (λ (item : Item). is_held item.content ≡ false) items
@@ -52,7 +52,7 @@ merge_fits chain page merge makes rules spellable fit ends unheld =
     fits_over chain (kind.Merge merge) page (record page { high = merge.high; right = merge.right; items = page.items ++ merge.items }) refl spellable makes fit
     (record { ascending = joined.ordered.ascending; contents = content_at-joined page next rules.is_page fit.merged fit.meets; level = refl; low = refl; high = refl; right = refl; removed = refl })
     (record {
-      is_page = record { spans = joined.spans; ordered = joined.ordered; within = joined.within; kinds = joined.kinds };
+      is_page = page_but merge.right page.removed joined;
       ends = ends;
       top = rules.top;
       terms = λ index. terms_append page.low page.items merge.items (unheld index) (rules.terms index);
@@ -80,9 +80,8 @@ module _ (left removed : Version) (made merged : Page) (fitted : IsFitted remove
 
   stands : IsSpellablePage (record merged { removed = false })
   stands =
-      let r = ruled removed.chain merged fitted makes_merged in
       record {
-        ruled = record { is_page = record { spans = r.is_page.spans; ordered = r.is_page.ordered; within = r.is_page.within; kinds = r.is_page.kinds }; ends = r.ends; top = r.top; terms = r.terms };
+        ruled = ruled_but false (ruled removed.chain merged fitted makes_merged);
         alive = refl;
         right = made_right removed.chain merged fitted makes_merged;
         children = made_children removed.chain merged fitted makes_merged;
@@ -94,7 +93,7 @@ module _ (left removed : Version) (made merged : Page) (fitted : IsFitted remove
   inner : low_in removed.chain ≢ []
   inner =
       let high : made.high ≡ Some (low_in removed.chain) = makes.high ∙ can.next_to.high in
-      let above : IsTrue (is_below made.low (low_in removed.chain)) = subst (λ bound. IsTrue (is_under made.low bound)) high rules.is_page.spans in
+      let above : IsTrue (is_below made.low (low_in removed.chain)) = rw high at rules.is_page.spans in
       not_empty made.low (low_in removed.chain) (below_from made.low (low_in removed.chain) above)
 
   -- the plan of a merge is one that may be linked

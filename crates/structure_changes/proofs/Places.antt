@@ -1,6 +1,6 @@
 -- What the page of a chain has, and where its terms stand.
 use Rattle.structure_changes.proofs.Words.{◌≡◌, ◌≢◌, ◌<◌, ℕ, List, [], ◌∷◌, Bool, true, false, Option, Some, refl, sym, ap, ◌∙◌, subst, if◌then◌else◌, IsTrue, AllByRecursion, is_eq, is_lt}
-use Rattle.structure_changes.proofs.Words.{recursion_from_All, same_Some, key_cmp, is_below, is_in_range, Content, Child, Item, Page, content_at, IsOfLevel, IsFirstAt, IsRuled, is_held}
+use Rattle.structure_changes.proofs.Words.{recursion_from_All, same_Some, key_cmp, is_below, is_in_range, Content, Child, Item, Page, IsPage, content_at, IsOfLevel, IsFirstAt, IsRuled, is_held}
 use Rattle.structure_changes.proofs.Words.{Record, level_in, low_in, IsFitted, Makes, Version}
 use Rattle.std.specs.Bool.{Decides}
 use Rattle.std.specs.declared.cmp.Ordering.{Ordering}
@@ -19,7 +19,7 @@ same_records same = ap (λ (chain : PlacedChain). chain.records) same
 -- a fitted chain makes a page
 pub made : (chain : List Record) → IsFitted chain → (page : Page) × Makes chain page
 made [] h = absurd h
-made (newest ∷ []) (page, is, stands) = (page, subst (λ (r : Record). Makes (r ∷ []) page) (sym is) (Makes-base page stands.ruled.is_page.ordered.ascending stands.alive))
+made (newest ∷ []) (page, is, stands) = (page, rw is (Makes-base page stands.ruled.is_page.ordered.ascending stands.alive))
 made (newest ∷ older ∷ under) (over, rest) = (over.made, over.makes_now)
 
 -- what the chain's items are, those of its page are
@@ -31,11 +31,11 @@ from_made chain made P makes p = (made.items, makes.items, p)
 
 -- what a comparison says of two keys
 pub decides_key : (a b : List ℕ) (r : Bool) → r ≡ is_eq (key_cmp a b) → Decides r (a ≡ b)
-decides_key a b r e = ((λ yes. same a b (sym e ∙ yes)), (λ is. e ∙ subst (λ k. is_eq (key_cmp a k) ≡ true) is (ap is_eq (itself a))))
+decides_key a b r e = ((λ yes. same a b (sym e ∙ yes)), (λ is. e ∙ rw (← is) (ap is_eq (itself a))))
 
 -- nothing is below the empty key
 pub not_empty : (low key : List ℕ) → key_cmp low key ≡ Less → key ≢ []
-not_empty low key less e = never low (subst (λ k. key_cmp low k ≡ Less) e less)
+not_empty low key less e = never low (rw (← e) less)
   where
     never : (k : List ℕ) → key_cmp k [] ≡ Less → ⊥
     never [] h = absurd cc
@@ -77,7 +77,7 @@ index_at page rules key child held e =
 pub at_first : (low : List ℕ) (items : List Item) (key : List ℕ) (found : Option Content) → IsFirstAt low items → content_at items key ≡ found → key ≡ low
     → (content : Content) × (found ≡ Some content) × (is_held content ≡ false)
 at_first low [] key found first e same = absurd first
-at_first low (item ∷ items) key found first e same = (item.content, (sym e ∙ subst (λ k. content_at (item ∷ items) k ≡ Some item.content) (first.0 ∙ sym same) (found_first item items)), first.1)
+at_first low (item ∷ items) key found first e same = (item.content, (sym e ∙ rw (← first.0 ∙ sym same) (found_first item items)), first.1)
 
 -- so a held term is another one
 pub held_inner : (low : List ℕ) (items : List Item) (key : List ℕ) (child : ℕ) → IsFirstAt low items → content_at items key ≡ Some (Child child true) → key ≢ low
@@ -91,3 +91,10 @@ held_inner low items key child first e same =
 pub links : (parent page : Version) (made : Page) → Makes parent.chain made → IsRuled made → key_cmp made.low (low_in page.chain) ≡ Less
     → IsSpellableLink (level_in parent.chain) parent.head (low_in page.chain) page.pid
 links parent page made makes rules above = record { top = rw (← makes.level) rules.top; over = parent.is_row; above = not_empty made.low (low_in page.chain) above; names = page.is_pid }
+
+-- the rules of a page ask neither what its right is nor whether it is removed
+pub page_but : {page : Page} (right : Option ℕ) (removed : Bool) → IsPage page → IsPage (record page { right = right; removed = removed })
+page_but right removed h = record { spans = h.spans; ordered = h.ordered; within = h.within; kinds = h.kinds }
+
+pub ruled_but : {page : Page} (removed : Bool) → IsRuled page → IsRuled (record page { removed = removed })
+ruled_but {page = page} removed h = record { is_page = page_but page.right removed h.is_page; ends = h.ends; top = h.top; terms = h.terms }

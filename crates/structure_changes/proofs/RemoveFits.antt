@@ -4,18 +4,13 @@ use Rattle.structure_changes.proofs.Words.{low_in, FitsOver, IsFitted, Makes, fi
 use Rattle.deltas.specs.declared.record.Record.TheVariants as kind
 use Rattle.deltas.specs.Fits.{FitsRemove}
 use Rattle.structure_changes.specs.Removals.{CanRemove, IsRemovePlan, remove_of}
-use Rattle.structure_changes.proofs.Places.{above_empty, above_low, held_inner, index_at, inside, made as made_of, not_empty, of_made}
+use Rattle.structure_changes.proofs.Places.{above_empty, above_low, held_inner, index_at, inside, made as made_of, not_empty, of_made, ruled_but}
 
 remove_fits : (chain : List Record) (page : Page) (remove : Remove) → Makes chain page → IsRuled page → IsSpellable (kind.Remove remove) → FitsRemove page remove → FitsOver chain (kind.Remove remove)
 remove_fits chain page remove makes rules spellable fit =
     fits_over chain (kind.Remove remove) page (record page { removed = true }) refl spellable makes fit
     (record { ascending = rules.is_page.ordered.ascending; contents = λ key. refl; level = refl; low = refl; high = refl; right = refl; removed = refl })
-    (record {
-      is_page = record { spans = rules.is_page.spans; ordered = rules.is_page.ordered; within = rules.is_page.within; kinds = rules.is_page.kinds };
-      ends = rules.ends;
-      top = rules.top;
-      terms = rules.terms;
-    })
+    (ruled_but true rules)
 
 -- the plan of a removal is one that may be linked: a page whose term is held isn't the first of its level
 pub planned : (parent page : Version) (made : Page) (remove : Remove) → IsFitted parent.chain → Makes page.chain made → IsRuled made → remove ≡ remove_of page

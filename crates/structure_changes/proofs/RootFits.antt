@@ -1,7 +1,7 @@
 -- A new root keeps the rules of a page.
 use Rattle.std.specs.List.Sorted.{IsStrictlySortedBy}
-use Rattle.structure_changes.proofs.Words.{◌≡◌, ◌<◌, ◌≤◌, ℕ, suc, List, [], ◌∷◌, Bool, true, false, Some, None, refl, sym, ap, ◌∙◌, subst, arith, if◌then◌else◌, IsTrue, is_eq, Less}
-use Rattle.structure_changes.proofs.Words.{All-from_recursion, key_cmp, is_below, is_in_range, is_under, Content, Child, Item, Page, IsAscending, IsOfLevel, content_at}
+use Rattle.structure_changes.proofs.Words.{◌≡◌, ◌<◌, ◌≤◌, ℕ, suc, List, [], ◌∷◌, Bool, true, false, Some, None, refl, ap, ◌∙◌, arith, if◌then◌else◌, IsTrue, is_eq}
+use Rattle.structure_changes.proofs.Words.{All-from_recursion, key_cmp, is_below, is_in_range, Content, Child, Item, Page, IsAscending, IsOfLevel, content_at}
 use Rattle.structure_changes.proofs.Words.{below_from, same, HasPid, IsPid, IsSpellablePage, low_in, level_in, IsFitted, items_unique, ruled, Version, IsNextTo}
 use Rattle.deltas.specs.declared.record.Record.TheVariants as kind
 use Rattle.traces.specs.discipline.Discipline.{root_over}
@@ -46,9 +46,8 @@ root_stands level page separator right is_page is_right index top some =
 pub some : (left right : Version) → IsFitted left.chain → low_in left.chain ≡ [] → IsNextTo left right → IsTrue (is_below [] (low_in right.chain))
 some left right fitted lowest next_to =
     let (page, makes) = made left.chain fitted in
-    let spans : IsTrue (is_under page.low (Some (low_in right.chain))) = subst (λ bound. IsTrue (is_under page.low bound)) (makes.high ∙ next_to.high)
-    (ruled left.chain page fitted makes).is_page.spans in
-    subst (λ low. IsTrue (is_below low (low_in right.chain))) (makes.low ∙ lowest) spans
+    let spans = rw (makes.high ∙ next_to.high) at (ruled left.chain page fitted makes).is_page.spans in
+    rw (← makes.low ∙ lowest) spans
 
 -- two items, put one after the other
 pub two_items : (items : List Item) (page right : Content) (separator : List ℕ) → IsTrue (is_below [] separator) → IsAscending items
@@ -57,7 +56,7 @@ pub two_items : (items : List Item) (page right : Content) (separator : List ℕ
 two_items items page right separator above ascending contents = items_unique items _ ascending (two_ascend page right separator above) (λ q. contents q ∙ by_test q (is_eq (key_cmp q [])) refl)
   where
     apart : (q : List ℕ) → q ≡ [] → is_eq (key_cmp q separator) ≡ false
-    apart q lowest = ap is_eq (subst (λ k. key_cmp k separator ≡ Less) (sym lowest) (below_from [] separator above))
+    apart q lowest = rw lowest (ap is_eq (below_from [] separator above))
 
     by_test : (q : List ℕ) (b : Bool) → is_eq (key_cmp q []) ≡ b
         → (if is_eq (key_cmp q separator) then Some right else (if is_eq (key_cmp q []) then Some page else None)) ≡ content_at

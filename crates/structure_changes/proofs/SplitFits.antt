@@ -1,6 +1,6 @@
 -- A split fits its page: both parts of the items keep the rules.
-use Rattle.std.proofs.Common.{◌≡◌, ◌≢◌, ◌<◌, ◌≤◌, ◌+◌, ◌/◌, ℕ, zero, suc, List, [], ◌∷◌, length, take, drop, Bool, true, false, Some, None, refl, sym, ap, ◌∙◌, subst, arith}
-use Rattle.std.specs.Prelude.{if◌then◌else◌, IfSome, IsTrue, not, slice_index_or}
+use Rattle.std.proofs.Common.{◌≡◌, ◌≢◌, ◌<◌, ◌≤◌, ◌+◌, ◌/◌, ℕ, zero, suc, List, [], ◌∷◌, length, take, drop, Bool, true, false, Some, None, refl, sym, ap, ◌∙◌, arith}
+use Rattle.std.specs.Prelude.{if◌then◌else◌, IsTrue, not, slice_index_or}
 use Rattle.structure_changes.proofs.Words.{AllByRecursion, HoldsAt, is_lt, All-from_recursion, recursion_from_All, is_below, is_in_range, is_under, Content, Value, Child, Item, Page, IsPage}
 use Rattle.structure_changes.proofs.Words.{IsOfLevel, content_at, AreApart, AreTerms, IsFirstAt, IsRuled, held_count, is_held, above, and_both, below_from, HasPid, IsPid, IsSpellable}
 use Rattle.structure_changes.proofs.Words.{IsSpellablePage, content_in, high_in, is_removed, level_in, right_in, FitsOver, IsFitted, Makes, SplitPlan, Version}
@@ -9,7 +9,7 @@ use Rattle.deltas.specs.declared.record.Split.{Split}
 use Rattle.deltas.specs.Fits.{FitsSplit}
 use Rattle.traces.proofs.FittedLaws.{fits_over, made_children, made_right, ruled as rules_of}
 use Rattle.structure_changes.specs.Splits.{IsSplitPlace, IsSplitPlan, IsUnheldAt}
-use Rattle.structure_changes.proofs.Places.{from_made, not_empty}
+use Rattle.structure_changes.proofs.Places.{from_made, not_empty, page_but}
 
 -- the first items, and the others
 
@@ -24,11 +24,9 @@ held_drop (suc n) [] = omega arith
 held_drop (suc n) (item ∷ items) = let rest = held_drop n items in omega (arith, rest)
 
 apart_take : (n : ℕ) (items : List Item) → AreApart items → AreApart (take n items)
-apart_take zero items h = tt
-apart_take (suc n) [] h = tt
-apart_take (suc zero) (item ∷ items) h = tt
-apart_take (suc (suc n)) (item ∷ []) h = tt
 apart_take (suc (suc n)) (item ∷ next ∷ items) h = (h.0, apart_take (suc n) (next ∷ items) h.1)
+apart_take (suc zero) (item ∷ items) h = tt
+apart_take n items h = tt
 
 apart_rest : (item : Item) (items : List Item) → AreApart (item ∷ items) → AreApart items
 apart_rest item [] h = tt
@@ -95,7 +93,7 @@ module _ (items : List Item) (apart : AreApart items) (many : 16 ≤ length item
       other_than : (other : ℕ) → IsUnheldAt items other → other ≢ middle
       other_than other free same =
           let yes = held blank in
-          let no : is_held (slice_index_or items middle blank).content ≡ false = subst (λ n. is_held (slice_index_or items n blank).content ≡ false) same (free blank) in
+          let no : is_held (slice_index_or items middle blank).content ≡ false = rw (← same) (free blank) in
           absurd cc
 
 -- so are the items of each page: a leaf's aren't terms
@@ -161,9 +159,9 @@ module _ (page : Version) (whole lower upper : Page) (place : ℕ) (fitted : IsF
       record {
         ruled = upper_ruled;
         alive = ap (λ (p : Page). p.removed) is ∙ makes.removed ∙ alive;
-        right = subst (λ right. IfSome right IsPid) (sym (ap (λ (p : Page). p.right) is)) (made_right page.chain whole fitted makes);
+        right = rw (ap (λ (p : Page). p.right) is) (made_right page.chain whole fitted makes);
         children = All-from_recursion (λ (item : Item). HasPid item.content) upper.items
-            (subst (λ (items : List Item). AllByRecursion (λ item. HasPid item.content) items) (sym (ap (λ (p : Page). p.items) is)) (pids_drop place whole.items pids));
+            (rw (ap (λ (p : Page). p.items) is) (pids_drop place whole.items pids));
       }
 
   inner : IsTrue (is_below whole.low upper.low)
@@ -184,9 +182,8 @@ module _ (page : Version) (whole lower upper : Page) (place : ℕ) (fitted : IsF
 
     half_ruled : IsRuled half
     half_ruled =
-        let p = rw cut.is_lower.1 at cut.pages.0 in
         record {
-          is_page = record { spans = p.spans; ordered = p.ordered; within = p.within; kinds = p.kinds };
+          is_page = page_but (Some right) whole.removed (rw cut.is_lower.1 at cut.pages.0);
           ends = refl;
           top = ruled.top;
           terms = λ index. terms_take whole.low place whole.items some (ruled.terms index);

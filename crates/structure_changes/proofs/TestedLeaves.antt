@@ -1,8 +1,8 @@
 -- Leaves that tests make, under deletes that change nothing.
-use Rattle.structure_changes.proofs.Words.{◌≡◌, ◌≤◌, ◌+◌, ◌++◌, ℕ, length, List, [], ◌∷◌, false, None, refl, sym, ◌∙◌, subst, arith, IsTrue, All-from_recursion, recursion_from_All}
+use Rattle.structure_changes.proofs.Words.{◌≡◌, ◌≤◌, ◌+◌, ◌++◌, ℕ, length, List, [], ◌∷◌, false, None, refl, ◌∙◌, arith, IsTrue, All-from_recursion, recursion_from_All}
 use Rattle.structure_changes.proofs.Words.{is_in_range, Content, Value, Child, Item, Page, IsPage, IsOfLevel, Record, HasPid, IsSpellablePage, covers, high_in, is_removed, level_in, low_in}
 use Rattle.structure_changes.proofs.Words.{FitsOver, IsFitted, IsPageChain}
-use Rattle.std.specs.List.{All, AllByRecursion}
+use Rattle.std.specs.List.{AllByRecursion}
 use Rattle.base_page.proofs.KeyLaws.{itself}
 use Rattle.deltas.specs.declared.record.Record.TheVariants as kind
 use Rattle.traces.proofs.FittedLaws.{over, ruled}
@@ -40,7 +40,7 @@ module _ (page : Page) (is_page : IsPage page) (level : page.level ≡ 0) (high 
     right = rw right tt;
     children = All-from_recursion (λ (item : Item). HasPid item.content) page.items
         (values_only page.items
-        (recursion_from_All (λ (item : Item). IsOfLevel 0 item.content) page.items (subst (λ l. All (λ (item : Item). IsOfLevel l item.content) page.items) level is_page.kinds)));
+        (recursion_from_All (λ (item : Item). IsOfLevel 0 item.content) page.items (rw (← level) is_page.kinds)));
   }
 
   abbrev delete : Record
@@ -65,7 +65,7 @@ module _ (page : Page) (is_page : IsPage page) (level : page.level ≡ 0) (high 
       let rules = ruled chain now under.fitted makes in
       let fits = delete_fits chain now (record { next = 3; key = page.low }) makes rules (omega arith, omega arith)
       (record { alive = makes.removed ∙ under.lives; leaf = makes.level ∙ under.at; covered = rw (makes.low ∙ under.low, makes.high ∙ under.end) (lowest page.low) }) in
-      subst (λ (r : Record). IsLeaf (r ∷ chain)) (sym is) (record { fitted = grow delete chain fits under.fitted; at = under.at; low = under.low; end = under.end; lives = under.lives })
+      rw is (record { fitted = grow delete chain fits under.fitted; at = under.at; low = under.low; end = under.end; lives = under.lives })
 
   pub page_chain : (records : List Record) → AllByRecursion (λ (r : Record). r ≡ delete) records → length records ≤ 12 → IsPageChain (over records page)
   page_chain records h few = record { fitted = (deletes_fit records h).fitted; short = (let longer = one_more (kind.Base page) records in omega (arith, few, longer)) }

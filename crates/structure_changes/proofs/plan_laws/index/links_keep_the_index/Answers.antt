@@ -1,4 +1,4 @@
-use Rattle.structure_changes.proofs.Words.{◌⊎◌, ◌∷◌, [], sym, ap, subst, Record, Hold, Merge, Term, Unterm, content_in, split_to}
+use Rattle.structure_changes.proofs.Words.{◌⊎◌, ◌∷◌, [], sym, ap, subst, Record, Hold, Term, Unterm, content_in, split_to}
 use Rattle.deltas.specs.declared.record.Record.TheVariants as kind
 use Rattle.structure_changes.specs.Linking.{Decides}
 use Rattle.structure_changes.proofs.MapKept.{from_left, from_removed, halves}
@@ -24,8 +24,8 @@ returns-clause-split c = λ page plan right key is within.
 
 pub returns-clause-merge_left : goal.returns-clause-merge_left
 returns-clause-merge_left c = λ left removed merge key is rules rules_removed within.
-    subst (λ (m : Merge). Decides (kind.Merge m ∷ left.chain) key (content_in left.chain key)) (sym is.is) (from_left left removed merge is rules rules_removed key within)
+    rw is.is (from_left left removed merge is rules rules_removed key within)
 
 pub returns-clause-merge_removed : goal.returns-clause-merge_removed
 returns-clause-merge_removed c = λ left removed merge key is rules rules_removed within.
-    subst (λ (m : Merge). Decides (kind.Merge m ∷ left.chain) key (content_in removed.chain key)) (sym is.is) (from_removed left removed merge is rules rules_removed key within)
+    rw is.is (from_removed left removed merge is rules rules_removed key within)
