@@ -1,8 +1,9 @@
 -- Where a round goes on beside a removed page: to a page that this one names, once the page to its left was read after it.
-use Rattle.round_model.proofs.Words.{◌≡◌, ◌≢◌, ◌<◌, ◌⊎◌, inl, inr, ℕ, List, [], ◌∷◌, false, Some, refl, sym, ◌∙◌, subst, arith, IsTrue, AllByRecursion, Limits, is_below, Record, IsChainFrom}
+use Rattle.round_model.proofs.Words.{◌≡◌, ◌≢◌, ◌<◌, ◌⊎◌, inl, inr, ℕ, List, [], ◌∷◌, false, Some, refl, sym, ◌∙◌, arith, IsTrue, AllByRecursion, Limits, is_below, Record, IsChainFrom}
 use Rattle.round_model.proofs.Words.{high_in, is_removed, level_in, low_in, right_in, SaysOf, Knowledge, IsUnread, Recalled, IsAfter, Version, IsGone, IsInHand, to_page, HasArrived, IsOnWay}
 use Rattle.round_model.proofs.Words.{IsPast, IsPastAt, NamesAt}
 use Rattle.traces.specs.discipline.Discipline.{IsBeyond, NamesChild}
+use Rattle.round_model.proofs.Holding.{has_read}
 use Rattle.round_model.proofs.PageLaws.{spans}
 use Rattle.round_model.proofs.Seeking.{hand}
 use Rattle.round_model.proofs.Walking.{all_past, never_there, past_on, told_of, trail_on, trans}
@@ -48,7 +49,7 @@ module _ (limits : Limits) (k now : Knowledge) (r : Recalled) (removed version :
 
       apart_here : pid ≢ version.pid
       apart_here e =
-          let so = told_of removed.chain version.pid here level low (arrives.arrives.whole.beyond by.alive pid known_before).2 (subst (λ (p : ℕ). NamesAt removed.chain p level low) e names) in
+          let so = told_of removed.chain version.pid here level low (arrives.arrives.whole.beyond by.alive pid known_before).2 (rw e at names) in
           never_there level (level_in here) low (low_in here) descends_on so.0 so.1
 
       new_others : (others : List ℕ) → level_in here ≡ was_level → AllByRecursion (IsPast k was_level was_low) others → IsUnread pid others
@@ -56,7 +57,7 @@ module _ (limits : Limits) (k now : Knowledge) (r : Recalled) (removed version :
       new_others (other ∷ others) is past = (
         (λ e.
             let told = (arrives.arrives.whole.beyond by.alive pid known_before).3 other past.0.head past.0.chain past.0.in_slot past.0.read in
-            let so = told_of removed.chain other past.0.chain level low told (subst (λ (p : ℕ). NamesAt removed.chain p level low) e names) in
+            let so = told_of removed.chain other past.0.chain level low told (rw e at names) in
             let before : IsPastAt (level_in here) (low_in here) (level_in past.0.chain) (low_in past.0.chain) = rw (is, arrives.is_low) past.0.past in
             never_there level (level_in past.0.chain) low (low_in past.0.chain)
             (past_on (level_in here) level (level_in past.0.chain) (low_in here) low (low_in past.0.chain) descends_on before) so.0 so.1),
@@ -76,8 +77,7 @@ module _ (limits : Limits) (k now : Knowledge) (r : Recalled) (removed version :
               below = within.1;
               head = tt;
               stands =
-                  inr (record
-                  { other = version.pid; row = version.head; basis = record { head = in_hand.seen.head; chain = here; read = in_hand.seen.read; alive = by.alive }; named = inr (inr known_now) });
+                  inr (record { other = version.pid; row = version.head; basis = has_read in_hand.seen by.alive; named = inr (inr known_now) });
             };
             same = refl;
             bare = refl;

@@ -1,5 +1,5 @@
 -- Which pages the records of a chain name, and how many pages there are.
-use Rattle.round_model.proofs.Words.{◌≡◌, ◌<◌, ◌≤◌, ◌++◌, ◌==◌, ◌||◌, inl, inr, ◌⊎◌, ℕ, suc, List, [], ◌∷◌, length, Bool, true, false, Option, Some, refl, sym, subst, arith, if◌then◌else◌}
+use Rattle.round_model.proofs.Words.{◌≡◌, ◌<◌, ◌≤◌, ◌++◌, ◌==◌, ◌||◌, inl, inr, ◌⊎◌, ℕ, suc, List, [], ◌∷◌, length, Bool, true, false, Option, Some, refl, sym, arith, if◌then◌else◌}
 use Rattle.round_model.proofs.Words.{eqb_tells, same_Some, Limits, Child, Record, IsFront, content_in, is_removed, right_in, AnyNames, IsUnread, is_removal, NamesAt}
 use Rattle.std.specs.List.{AllByRecursion, IsDistinct, list_any}
 use Rattle.std.specs.Ordering.{is_eq}
@@ -38,14 +38,9 @@ child_meets (newest ∷ under) key page held is = by_test (names newest key) (ch
 right_meets : (chain : List Record) (page : ℕ) → right_in chain ≡ Some page → AnyNames chain page
 right_meets [] page is = cc
 right_meets (kind.Base base ∷ under) page is = inl (inl is)
-right_meets (kind.Put put ∷ under) page is = inr (right_meets under page is)
-right_meets (kind.Delete delete ∷ under) page is = inr (right_meets under page is)
 right_meets (kind.Split split ∷ under) page is = inl (same_Some _ _ is)
-right_meets (kind.Term term ∷ under) page is = inr (right_meets under page is)
-right_meets (kind.Hold hold ∷ under) page is = inr (right_meets under page is)
-right_meets (kind.Remove remove ∷ under) page is = inr (right_meets under page is)
 right_meets (kind.Merge merge ∷ under) page is = inl (inl is)
-right_meets (kind.Unterm unterm ∷ under) page is = inr (right_meets under page is)
+right_meets (newest ∷ under) page is = inr (right_meets under page is)
 
 -- a page that a chain names is named by one of its records
 pub names_meets : (chain : List Record) (page level : ℕ) (low : List ℕ) → NamesAt chain page level low → AnyNames chain page
@@ -102,7 +97,7 @@ differ limits (page ∷ pages) h = (new_test page pages h.2, differ limits pages
 
 among : (limits : Limits) (pages : List ℕ) → AreDistinct limits pages → (q : ℕ) → list_any (λ x. q == x) pages ≡ true → q < limits.pids
 among limits [] h q e = cc
-among limits (page ∷ pages) h q e = elim (eqb_tells q page) [ inl same ↦ subst (λ z. z < limits.pids) (sym same.1) h.1 | inr differs ↦ among limits pages h.3 q (rw differs.0 at e) ]
+among limits (page ∷ pages) h q e = elim (eqb_tells q page) [ inl same ↦ rw same.1 h.1 | inr differs ↦ among limits pages h.3 q (rw differs.0 at e) ]
 
 among_all : (limits : Limits) (pages : List ℕ) → AreDistinct limits pages → (q : ℕ) → list_any (λ x. q == x) (0 ∷ pages) ≡ true → q < limits.pids
 among_all limits pages h q e = elim (eqb_tells q 0) [ inl same ↦ (let some = limits.allowed.some_pids in let is = same.1 in omega arith) | inr differs ↦ among limits pages h q (rw differs.0 at e) ]

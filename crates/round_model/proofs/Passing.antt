@@ -1,5 +1,5 @@
 -- A reader's way to a key, also by the left of a removed page.
-use Rattle.round_model.proofs.Words.{◌≡◌, ◌≢◌, ◌<◌, ◌≤◌, ◌++◌, ◌-◌, ◌||◌, ◌⊎◌, inl, inr, ℕ, zero, suc, List, [], ◌∷◌, Bool, true, false, Option, None, Some, refl, sym, ap, ◌∙◌, subst, arith}
+use Rattle.round_model.proofs.Words.{◌≡◌, ◌≢◌, ◌<◌, ◌≤◌, ◌++◌, ◌-◌, ◌||◌, ◌⊎◌, inl, inr, ℕ, zero, suc, List, [], ◌∷◌, Bool, true, false, Option, None, Some, refl, sym, ap, ◌∙◌, arith}
 use Rattle.round_model.proofs.Words.{IsFalse, IsTrue, IfSome, ⊤, Limits, Answer, is_below, not_true, Record, is_removed, level_in, low_in, Fits, FitsRow, Knowledge, learn, Recalled}
 use Rattle.round_model.proofs.Words.{is_lower, recall, IsAfter, Version, Leg, Down, Round, Past, below, has_met, IsInHand, HasArrived, IsUnderRemoval, LeadsDown, LeadsRight, NamesAt}
 use Rattle.round_model.proofs.Words.{reaches, precedes}
@@ -8,7 +8,7 @@ use Rattle.bw_model.specs.declared.step.Answer.TheVariants as answer
 use Rattle.round_model.specs.ReadGoals.{ReadGoal, Seek, Left, Beyond}
 use Rattle.round_model.specs.Visits.{Slot, Row, FindsHead, Completes, Continues, Visit, at, to_page, wanted_step}
 use Rattle.round_model.specs.ReadRounds.{BeginsToRead, IsAbove, IsGoneAt, IsOn, VisitsToRead, KeepsToRead, SaysAside, goes_beyond, read_way}
-use Rattle.round_model.proofs.Holding.{before_slot, in_hand_row, in_hand_slot}
+use Rattle.round_model.proofs.Holding.{before_slot, in_hand_as, in_hand_row, in_hand_slot}
 use Rattle.round_model.proofs.PageLaws.{above_empty}
 use Rattle.round_model.proofs.Removals.{not_passed, round_row, round_slot, under_row, under_slot}
 use Rattle.round_model.proofs.Seeking.{arrived_next, hand, seeks_next, seeks_on, seeks_root}
@@ -75,8 +75,7 @@ module _ (limits : Limits) (key : List ℕ) (k : Knowledge) (r : Recalled) where
     gone_root removed h =
         let hand = h.page.in_hand in
         record {
-          page = record
-              { in_hand = record { page = hand.page; row = hand.row; seen = record { head = hand.seen.head; read = hand.seen.read }; sound = hand.sound }; gone = h.page.gone };
+          page = record { in_hand = in_hand_as started hand hand.seen.head hand.seen.read; gone = h.page.gone };
           reached = h.reached;
         }
 
@@ -302,7 +301,7 @@ module _ (limits : Limits) (key : List ℕ) (goal : ReadGoal) (leg : Leg) (k now
       apart = λ e.
           let so = told_of chain removed.pid removed.chain level low
           (h.arrives.arrives.whole.names alive removed.pid removed.head removed.chain by.was.seen.head by.was.seen.read)
-          (subst (λ (p : ℕ). NamesAt chain p level low) (sym e) names) in
+          (rw e names) in
           not_itself low (rw so.1 at passing);
       after = tt;
     }
@@ -321,7 +320,7 @@ module _ (limits : Limits) (key : List ℕ) (goal : ReadGoal) (leg : Leg) (k now
           apart = λ e.
               let so = told_of chain above.pid above.chain (level_in chain) low
               (h.arrives.arrives.whole.names alive above.pid above.head above.chain over.was.seen.head over.was.seen.read)
-              (subst (λ (p : ℕ). NamesAt chain p (level_in chain) low) (sym e) names) in
+              (rw e names) in
               let same = so.0 in
               omega (arith, up, same);
           says = over.above_is.says;

@@ -1,5 +1,5 @@
 -- What an answer leaves a reader's round.
-use Rattle.round_model.proofs.Words.{ap, ◌≡◌, ◌<◌, ◌+◌, ◌||◌, ◌⊎◌, inl, inr, ℕ, List, [], Bool, true, false, Option, Some, None, refl, sym, ◌∙◌, subst, arith, IfSome, Limits, Answer, Record}
+use Rattle.round_model.proofs.Words.{ap, ◌≡◌, ◌<◌, ◌+◌, ◌||◌, ◌⊎◌, inl, inr, ℕ, List, [], Bool, true, false, Option, Some, None, refl, sym, ◌∙◌, arith, IfSome, Limits, Answer, Record}
 use Rattle.round_model.proofs.Words.{is_removed, low_in, Fits, Knowledge, learn, Recalled, recall, Version, Sight, Slot, Row, Empty, Whole, IsTold, IsInHand, IsReached, IsRoundLast}
 use Rattle.round_model.proofs.Words.{IsSeeking, IsUnderLast, reads_left_at, reads_left_in, with_walk}
 use Rattle.round_model.specs.ReadGoals.{ReadGoal, Seek, Left, Beyond}
@@ -63,10 +63,10 @@ After old now r new (Some end) = EndsRead old now r end
 
 module _ (old : ReadRound) (k now : Knowledge) (r : Recalled) (version : Version) (h : HasRead old.limits old.key old.goal old.leg k now r version) where
   at_leg : (leg : Leg) → old.leg ≡ leg → HasRead old.limits old.key old.goal leg k now r version
-  at_leg leg e = subst (λ (l : Leg). HasRead old.limits old.key old.goal l k now r version) e h
+  at_leg leg e = rw e at h
 
   at_goal : (goal : ReadGoal) → old.goal ≡ goal → IsPlain old.leg → HasReached old.limits old.key goal old.leg k now r version
-  at_goal goal e plain = subst (λ (g : ReadGoal). HasReached old.limits old.key g old.leg k now r version) e (read_plain old.limits old.key old.goal k now r version old.leg plain h)
+  at_goal goal e plain = rw e at (read_plain old.limits old.key old.goal k now r version old.leg plain h)
 
   -- the round goes on
   shows : (goal : ReadGoal) (leg : Leg) (next : ℕ) → IsPlain leg → VisitsToRead old.limits old.key goal leg now r (page.to_page old.limits next)
@@ -351,8 +351,8 @@ pub can_see : (old : ReadRound) (other : WayState) (told : Answer Record) (sight
 can_see old other told Empty b t = tt
 can_see old other told (Whole version) b t =
     let visit = b.visit in
-    let h : ShowsVisit old.limits old.key old.goal old.leg t.k t.r visit = subst (λ (s : WayState). Shows (at old s) t.k t.r) b.asked t.shows in
-    let f : Fits old.limits t.k (page.wanted_step visit) told = subst (λ (s : WayState). Fits old.limits t.k (wanted_step (at old s)) told) b.asked t.fits in
+    let h = rw b.asked at t.shows in
+    let f = rw b.asked at t.fits in
     let meets = can_meet old.limits old.key old.goal t.k (learn t.k (page.wanted_step visit) told) (recall t.r (page.wanted_step visit) told) version old.leg
     (whole old.limits old.key old.goal t.k t.r visit told f old.leg h version b.responds) in
     record { reached = meets.0; meets = meets.1 }

@@ -1,5 +1,5 @@
 -- What follows from what a round makes of an answer, by what it had asked for: slot 0, or the visit of a page.
-use Rattle.round_model.proofs.Words.{◌≡◌, ◌∙◌, inl, inr, ℕ, Option, Some, None, refl, sym, ap, subst, Answer, Record, Sight}
+use Rattle.round_model.proofs.Words.{◌≡◌, ◌∙◌, inl, inr, ℕ, Option, Some, None, refl, sym, ap, Answer, Record, Sight}
 use Rattle.bw_model.specs.declared.step.Answer.TheVariants as answer
 use Rattle.round_model.specs.Descents.{Descent, WayState, Root, Page}
 use Rattle.round_model.specs.Rounds.{Responds, Rounds, Sees}
@@ -12,7 +12,7 @@ module _ {Round End : Type 0} (rounds : Rounds Round End) (stays : (round : Roun
 
   -- the answer to the step wanted last is the one that the state was waiting for
   back : (old : Round) (P : Round → Answer Record → Type 0) (state : WayState) (told real : Answer Record) → (rounds.way old).state ≡ state → real ≡ told → P (rounds.at old state) told → P old real
-  back old P state told real e i h = subst (λ (x : Answer Record). P old x) (sym i) (subst (λ (o : Round). P o told) (sym (gone_to old state e)) h)
+  back old P state told real e i h = rw (i, gone_to old state e) h
 
   pub by_step : (P : Round → Answer Record → Round → Option End → Type 0) (old new : Round) (told : Answer Record) (result : Option End) → Responds rounds old told new result
       → ((root : ℕ) → P (rounds.at old Root) (answer.Number root) (rounds.at old (Page (page.to_page (rounds.way old).limits root))) None)
@@ -28,5 +28,5 @@ module _ {Round End : Type 0} (rounds : Rounds Round End) (stays : (round : Roun
     ]
     | inr from ↦ back old (λ o x. P o x new result) (Page from.finds.visit) told told from.finds.asked refl
         (finds from.finds.visit from.finds.next from.sight from.finds.responds
-        (subst (λ (o : Round). Sees rounds o from.sight new result) (gone_to old (Page from.finds.visit) from.finds.asked) from.sees))
+        (rw (gone_to old (Page from.finds.visit) from.finds.asked) at from.sees))
   ]

@@ -1,11 +1,12 @@
 -- A reader's way by the left of a removed page: beside a removed leaf, and round a removed index page.
-use Rattle.round_model.proofs.Words.{◌≡◌, ◌≢◌, ◌<◌, ◌≤◌, ◌-◌, ◌||◌, ◌⊎◌, inl, inr, ℕ, List, [], ◌∷◌, Bool, true, false, Option, None, Some, refl, sym, ◌∙◌, subst, arith, IfSome, IsTrue}
-use Rattle.round_model.proofs.Words.{same_Some, Limits, is_below, Record, high_in, is_removed, level_in, low_in, right_in, HasRead, NamesChild, SaysOf, Knowledge, Recalled, trail, Version}
+use Rattle.round_model.proofs.Words.{◌≡◌, ◌≢◌, ◌<◌, ◌≤◌, ◌-◌, ◌||◌, ◌⊎◌, inl, inr, ℕ, List, [], ◌∷◌, Bool, true, false, Option, None, Some, refl, ◌∙◌, arith, IfSome, IsTrue}
+use Rattle.round_model.proofs.Words.{same_Some, Limits, is_below, Record, high_in, is_removed, level_in, low_in, right_in, NamesChild, SaysOf, Knowledge, Recalled, trail, Version}
 use Rattle.round_model.proofs.Words.{Leg, Down, Round, Past, above_of, has_met, level_on, to_page, AreRemovalsAbove, IsUnderRemoval, LeadsDown, LeadsOn, LeadsRight, NamesAt, StaysLeft}
 use Rattle.round_model.proofs.Words.{reaches}
 use Rattle.round_model.specs.ReadGoals.{ReadGoal, Seek, Left, Beyond}
 use Rattle.round_model.specs.ReadRounds.{IsAbove, IsAliveLeaf, IsBesideLeaf, IsGoingRound, IsOn, VisitsToRead, KeepsToRead, goes_beyond, left_of, read_way}
 use Rattle.round_model.proofs.Beside.{IsBesideGone, beside_on, says, says_before, within}
+use Rattle.round_model.proofs.Holding.{has_read}
 use Rattle.round_model.proofs.Passing.{HasReached, IsBy, IsOver, Passed, WasOn, above_here, at_or_below, before_on, goes_right, is_on_way, keeps_on, met_none, met_still, most_under, of_level}
 use Rattle.round_model.proofs.Removals.{removal_above}
 use Rattle.round_model.proofs.Seeking.{is_gone, living, seeks_on}
@@ -94,7 +95,7 @@ module _ (limits : Limits) (key : List ℕ) (removed : Version) (leg : Leg) (k n
       apart = λ e.
           let says_of = says_before limits k now r removed version h.level h.low h.earlier h.arrives beside_gone pid
           (named_of removed.chain pid level low names) aside.pid aside.head aside.chain passed.was.seen.head passed.was.seen.read in
-          let so = told_of removed.chain aside.pid aside.chain level low says_of (subst (λ (p : ℕ). NamesAt removed.chain p level low) (sym e) names) in
+          let so = told_of removed.chain aside.pid aside.chain level low says_of (rw e names) in
           not_itself low (rw so.1 at passing);
       after = tt;
     }
@@ -163,7 +164,7 @@ module _ (limits : Limits) (key : List ℕ) (goal : ReadGoal) (leg : Leg) (above
     names = down_names (left_of version) above.chain pid above_index leads
 
     at_page : (other : ℕ) → other ≡ pid → NamesAt above.chain other level leads.low
-    at_page other e = subst (λ (p : ℕ). NamesAt above.chain p level leads.low) (sym e) names
+    at_page other e = rw e names
 
     exists : (0 < pid) × (pid < limits.pids)
     exists = named_within limits above.chain pid level leads.low (over.above_is.in_hand.sound.names over.above_is.alive) names
@@ -177,8 +178,8 @@ module _ (limits : Limits) (key : List ℕ) (goal : ReadGoal) (leg : Leg) (above
 
     not_removed : version.pid ≡ pid → ⊥
     not_removed e =
-        let basis : HasRead k above.pid above.head = record { head = over.was.seen.head; chain = above.chain; read = over.was.seen.read; alive = over.above_is.alive } in
-        let so = told_of above.chain version.pid version.chain level leads.low (h.arrives.arrives.whole.named above.pid above.head basis) (at_page version.pid e) in
+        let so = told_of above.chain version.pid version.chain level leads.low
+        (h.arrives.arrives.whole.named above.pid above.head (has_read over.was.seen over.above_is.alive)) (at_page version.pid e) in
         not_itself leads.low (rw so.1 at leads.greatest.passing)
 
     keeps_aside : (other : ReadGoal) → goal ≡ other → KeepsToRead limits key now (to_page limits pid) other
@@ -216,7 +217,7 @@ module _ (limits : Limits) (key : List ℕ) (goal : ReadGoal) (leg : Leg) (above
             stands = inr (record {
               other = above.pid;
               row = above.head;
-              basis = record { head = over.above_is.in_hand.seen.head; chain = above.chain; read = over.above_is.in_hand.seen.read; alive = over.above_is.alive };
+              basis = has_read over.above_is.in_hand.seen over.above_is.alive;
               named = elim names [ inl right ↦ inl right.0 | inr child ↦ inr (inl (level, leads.low, child.0, child.1, child.2, child.3)) ];
             });
           };

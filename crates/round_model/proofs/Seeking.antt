@@ -1,5 +1,5 @@
 -- What the steps of a round leave it, on the way to the key.
-use Rattle.round_model.proofs.Words.{◌≡◌, ◌<◌, ◌++◌, ◌==◌, ◌⊎◌, inl, inr, ℕ, zero, suc, List, [], ◌∷◌, Bool, true, false, Some, None, refl, subst, arith, IsFalse, IsTrue, eq-eqb, Limits}
+use Rattle.round_model.proofs.Words.{◌≡◌, ◌<◌, ◌++◌, ◌==◌, ◌⊎◌, inl, inr, ℕ, zero, suc, List, [], ◌∷◌, Bool, true, false, Some, None, refl, arith, IsFalse, IsTrue, eq-eqb, Limits}
 use Rattle.round_model.proofs.Words.{Answer, Record, replaced_at, next_row, is_removed, Fits, FitsRow, Knowledge, learn, learn_slot, Recalled, is_lower, recall, Version, IsAlive, IsGone}
 use Rattle.round_model.proofs.Words.{IsInHand, NamesAt}
 use Rattle.bw_model.specs.declared.step.Step.TheVariants as step
@@ -127,7 +127,7 @@ module _ (limits : Limits) (way : List ℕ → Bool) (beyond : Bool) (k : Knowle
 -- a page was read whole
 module _ (limits : Limits) (k now : Knowledge) (r : Recalled) (version : Version) (level : ℕ) (low : List ℕ) (earlier : List ℕ) (h : HasArrived limits k now r version level low earlier) where
   pub hand : IsInHand limits now version
-  hand = subst (λ (l : Limits). IsInHand l now version) h.same h.arrives.in_hand
+  hand = rw h.same at h.arrives.in_hand
 
   pub living : is_removed version.chain ≡ false → IsAlive limits now r version
   living alive = record {

@@ -1,5 +1,5 @@
 -- How many reads the steps of a visit leave a round.
-use Rattle.std.proofs.Common.{◌≡◌, ◌<◌, ◌≤◌, ◌+◌, ◌-◌, ◌*◌, ◌++◌, ◌||◌, inl, inr, ◌⊎◌, ℕ, zero, suc, List, [], ◌∷◌, length, Bool, true, false, None, refl, sym, ap, ◌∙◌, subst, arith, length-append}
+use Rattle.std.proofs.Common.{◌≡◌, ◌<◌, ◌≤◌, ◌+◌, ◌-◌, ◌*◌, ◌++◌, ◌||◌, inl, inr, ◌⊎◌, ℕ, zero, suc, List, [], ◌∷◌, length, Bool, true, false, None, refl, sym, ap, ◌∙◌, arith, length-append}
 use Rattle.round_model.proofs.Words.{IsFalse, IsTrue, if◌then◌else◌, Limits, Answer, Record, next_row, is_removed, Fits, FitsRow, Knowledge, Version, IsSeeking, reads_left_at, reads_left_in}
 use Rattle.round_model.proofs.Words.{with_walk}
 use Rattle.bw_model.specs.declared.step.Step.{Step}
@@ -99,7 +99,7 @@ module _ (reserve : ℕ) (limits : Limits) (way : List ℕ → Bool) (beyond : B
 
   module _ (told : Answer Record) (h : IsSeeking limits way beyond k r visit level low earlier) (f : Fits limits k (wanted_step visit) told) where
     seeks_at : (state : VisitState) → visit.state ≡ state → Seeks state
-    seeks_at state e = subst (λ (s : VisitState). Seeks s) e h
+    seeks_at state e = rw e at h
 
     abbrev FitsAt : Visit → Answer Record → Type 0
     FitsAt v x = Fits limits k (wanted_step v) x
@@ -212,15 +212,8 @@ module _ (reserve : ℕ) (limits : Limits) (way : List ℕ → Bool) (beyond : B
           ap (λ (t : Bool). t || is_removed visit.part) (sym (no_removal b.content b.last)) ∙ sym pushed ∙ here
         where
           no_removal : (content : Record) → next_row content ≡ None → is_removal content ≡ false
-          no_removal (kind.Base base) e = refl
-          no_removal (kind.Put put) e = refl
-          no_removal (kind.Delete delete) e = refl
-          no_removal (kind.Split split) e = refl
-          no_removal (kind.Term term) e = refl
-          no_removal (kind.Hold hold) e = refl
           no_removal (kind.Remove remove) e = cc
-          no_removal (kind.Merge merge) e = refl
-          no_removal (kind.Unterm unterm) e = refl
+          no_removal content e = refl
 
       pub left_removed : is_removed version.chain ≡ true → reserve < reads_left_in limits reserve r visit
       left_removed gone = by_passed r.walk.passed refl

@@ -1,7 +1,7 @@
 -- What follows from what a writer's round does with a page that was read whole.
 use Rattle.round_model.proofs.Words.{ap, ◌∙◌, ◌≡◌, ◌≢◌, ◌<◌, ◌≤◌, ◌-◌, inl, inr, ℕ, suc, List, [], ◌∷◌, length, Bool, true, false, Option, Some, None, refl, sym, subst, arith, IfSome}
 use Rattle.round_model.proofs.Words.{IsTrue, IfSome_then, is_below, Child, not_true, Record, content_in, covers, is_removed, level_in, low_in, right_in, Knowledge, Version, made, DueChange}
-use Rattle.round_model.proofs.Words.{WriteEnd, IsAlive, IsInHand, LeadsDown, LeadsRight, NamesAt, StaysLeft, reaches, IsHere, IsSplitFinished, TreatsWrite, EndsBy}
+use Rattle.round_model.proofs.Words.{WriteEnd, IsAlive, IsInHand, LeadsDown, LeadsRight, NamesAt, reaches, IsHere, IsSplitFinished, TreatsWrite, EndsBy, IsGone}
 use Rattle.std.proofs.Math.Nat.{lt_of_not-le}
 use Rattle.base_page.specs.Pages.{Page as PageOf}
 use Rattle.deltas.specs.declared.record.Merge.{Merge as MergeRecord}
@@ -15,10 +15,11 @@ use Rattle.structure_changes.proofs.Few.{few_many}
 use Rattle.round_model.specs.Courses.{WriteGoal, Seek, Left, Merge, Unterm}
 use Rattle.round_model.specs.WriteEnds as end
 use Rattle.round_model.specs.Visits as page
-use Rattle.round_model.specs.WriteRounds.{IsCleanEnd, IsUncutEnd, IsUnmergedEnd, IsLosingTerm, IsMergeEnd, IsMissing, IsUntermEnd, KeepsToWrite, SeeksLeaf}
+use Rattle.round_model.specs.WriteRounds.{IsCleanEnd, IsUncutEnd, IsUnmergedEnd, IsMergeEnd, IsMissing, IsUntermEnd, KeepsToWrite, SeeksLeaf}
 use Rattle.round_model.specs.WriteRounds.{is_cutting, write_way, EndsWrite, IsBased, IsLeftOf, IsKept, IsLeafEnd, IsLong, IsRootEnd, IsTermEnd, VisitsToWrite}
 use Rattle.round_model.specs.WriteRounds.{Shows, WriteRound, goes_left, IsTendEnd, IsDueBy}
 use Rattle.round_model.specs.WriteResponses.{EndsClean, EndsUncut, EndsUnmerged, EndsCut, EndsFine, EndsMerged, EndsSmall, EndsUnposted, EndsUnrooted, IsFine}
+use Rattle.round_model.proofs.Holding.{has_read}
 use Rattle.round_model.proofs.Keeping.{HasReached, LiesAbove, Passed, differs}
 use Rattle.round_model.proofs.Leading.{led_aside, termed}
 use Rattle.round_model.proofs.PageLaws.{covered, spans}
@@ -58,6 +59,12 @@ module _ (old : WriteRound) (k now : Knowledge) (r : Recalled) (version : Versio
     recalled = (other.is_row.0, recalled_head now r (version.pid ∷ h.earlier) other.pid other.head h.arrives.recalled (inr kept.among) kept.in_hand.seen.head);
   }
 
+  hand_here : IsInHand old.limits now version
+  hand_here = hand old.limits k now r version h.level h.low h.earlier h.arrives
+
+  gone_here : is_removed version.chain ≡ true → IsGone old.limits now version
+  gone_here gone = is_gone old.limits k now r version h.level h.low h.earlier h.arrives gone
+
   alive_here : is_removed version.chain ≡ false → IsAlive old.limits now r version
   alive_here alive = living old.limits k now r version h.level h.low h.earlier h.arrives alive
 
@@ -65,7 +72,7 @@ module _ (old : WriteRound) (k now : Knowledge) (r : Recalled) (version : Versio
   kept_on other kept = record { in_hand = kept.in_hand; alive = kept.alive; among = inr kept.among }
 
   kept_here : is_removed version.chain ≡ false → IsKept old.limits now version (version.pid ∷ h.earlier)
-  kept_here alive = record { in_hand = hand old.limits k now r version h.level h.low h.earlier h.arrives; alive = alive; among = inl refl }
+  kept_here alive = record { in_hand = hand_here; alive = alive; among = inl refl }
 
   -- the removed page begins where the way ends, so that the next page isn't that one
   keeps_on : is_removed chain ≡ false → (pid level : ℕ) (low : List ℕ) → NamesAt chain pid level low → (goal : WriteGoal) → SeeksLeaf goal
@@ -75,11 +82,11 @@ module _ (old : WriteRound) (k now : Knowledge) (r : Recalled) (version : Versio
   keeps_on alive pid level low names (Left removed) seeks passing by =
       let was = by.0 in
       let apart : removed ≢ pid = λ e. (
-      let here : NamesAt chain was.removed.pid level low = subst (λ (p : ℕ). NamesAt chain p level low) (sym (was.is ∙ e)) names in
+      let here : NamesAt chain was.removed.pid level low = rw (was.is ∙ e) names in
       let so = told_of chain was.removed.pid was.removed.chain level low
       (h.arrives.arrives.whole.names alive was.removed.pid was.removed.head was.removed.chain was.gone.in_hand.seen.head was.gone.in_hand.seen.read)
       here in
-      not_itself low (subst (λ (q : List ℕ). IsTrue (is_below low q)) (sym was.low ∙ so.1) passing)
+      not_itself low (rw (sym was.low ∙ so.1) at passing)
       ) in
       record { removed = by.1.removed; gone = by.1.gone; is = by.1.is; low = by.1.low; level = by.1.level; unread = (apart, by.1.unread) }
   keeps_on alive pid level low names (Merge left) seeks passing by = absurd seeks
@@ -93,12 +100,12 @@ module _ (old : WriteRound) (k now : Knowledge) (r : Recalled) (version : Versio
 
   few_items : is_removed version.chain ≡ false → length version.chain ≤ 8 → ¬ CanSplit version → HasFewItems version.chain
   few_items alive short narrow =
-      let m = made version.chain (hand old.limits k now r version h.level h.low h.earlier h.arrives).sound.is_chain.fitted in
+      let m = made version.chain hand_here.sound.is_chain.fitted in
       (m.0.items, m.1.items, lt_of_not-le (λ many. narrow (record { alive = alive; short = short; wide = (m.0.items, m.1.items, many) })))
 
   -- what finishes a split isn't due in a round that splits pages
   where_split : old.splits ≡ true → IsSplitFinished old.splits old.parent old.left version → IsSplitFinished true old.parent old.left version
-  where_split on finished = subst (λ (splits : Bool). IsSplitFinished splits old.parent old.left version) on finished
+  where_split on finished = rw on at finished
 
   -- goes on
 
@@ -121,7 +128,7 @@ module _ (old : WriteRound) (k now : Knowledge) (r : Recalled) (version : Versio
         aside = record {
           kept = kept_here alive;
           inner = inner (low_in version.chain) leads.low
-              (spans version.chain leads.low (hand old.limits k now r version h.level h.low h.earlier h.arrives).sound.is_chain.fitted leads.is_high);
+              (spans version.chain leads.low hand_here.sound.is_chain.fitted leads.is_high);
         };
         based = based_on old.parent old.left pid leads.low h.based h.aside;
         led = λ so on. led_aside old.limits (goes_left old.goal) old.key k now r version h.level h.low h.earlier h.arrives alive pid leads old.parent old.left h.above h.aside (h.led so on)
@@ -149,10 +156,10 @@ module _ (old : WriteRound) (k now : Knowledge) (r : Recalled) (version : Versio
   -- reads the removed page again
   module _ (pid : ℕ) (goal : old.goal ≡ Left pid) (alive : is_removed version.chain ≡ false) where
     by : IsMissing old.limits k old.key old.floor pid (version.pid ∷ h.earlier) × IsMissing old.limits now old.key old.floor pid (version.pid ∷ h.earlier)
-    by = subst (λ (g : WriteGoal). Passed old.limits old.key old.floor k now version.pid h.earlier g) goal h.passed
+    by = rw goal at h.passed
 
     left_of : IsTrue (is_below h.low old.key)
-    left_of = subst (λ (g : WriteGoal). IsTrue (write_way g old.key h.low)) goal h.passing
+    left_of = rw goal at h.passing
 
     above_low : IsTrue (is_below [] old.key)
     above_low = inner h.low old.key left_of
@@ -185,10 +192,10 @@ module _ (old : WriteRound) (k now : Knowledge) (r : Recalled) (version : Versio
       apart_parent = differs pid parent.pid h.earlier by.1.unread.1 over.kept.among
 
       some : 0 < pid
-      some = subst (λ (p : ℕ). 0 < p) by.1.is by.1.removed.is_pid.0
+      some = rw by.1.is at by.1.removed.is_pid.0
 
       below_limit : pid < old.limits.pids
-      below_limit = subst (λ (p : ℕ). p < old.limits.pids) by.1.is by.1.gone.in_hand.page
+      below_limit = rw by.1.is at by.1.gone.in_hand.page
 
       back_to_unterm : VisitsToWrite old.limits old.key old.floor old.splits (Unterm parent version) None None now r (page.to_page old.limits pid)
       back_to_unterm = record {
@@ -205,7 +212,7 @@ module _ (old : WriteRound) (k now : Knowledge) (r : Recalled) (version : Versio
               stands = inr (record {
                 other = parent.pid;
                 row = parent.head;
-                basis = record { head = over.kept.in_hand.seen.head; chain = parent.chain; read = over.kept.in_hand.seen.read; alive = over.kept.alive };
+                basis = has_read over.kept.in_hand.seen over.kept.alive;
                 named = inr (inl (level_in version.chain, old.key, true, over.up, inside_parent, term));
               });
             };
@@ -236,7 +243,7 @@ module _ (old : WriteRound) (k now : Knowledge) (r : Recalled) (version : Versio
 
   term_end : (parent : Version) (term : Term) → EndsUnposted old version parent term → IsTermEnd old now r parent term
   term_end parent term t =
-      let over : LiesAbove old.limits now version h.earlier parent = subst (λ (o : Option Version). IfSome o (LiesAbove old.limits now version h.earlier)) t.above h.above in
+      let over = rw t.above at h.above in
       record { page = alive_of parent over.kept; child = version; below = alive_here t.plan.can.alive; after = over.after; plan = t.plan }
 
   root_of : (left : Version) → IsBased r None (Some left) version.pid h.low → low_in left.chain ≡ [] → WasHead r 0 left.pid
@@ -247,14 +254,13 @@ module _ (old : WriteRound) (k now : Knowledge) (r : Recalled) (version : Versio
 
   root_end : (left : Version) (root : PageOf) → EndsUnrooted old version left root → IsRootEnd old now r left root
   root_end left root t =
-      let beside : IsLeftOf old.limits now h.low h.earlier left = subst (λ (o : Option Version). IfSome o (IsLeftOf old.limits now h.low h.earlier)) t.aside h.aside in
-      let based : IsBased r None (Some left) version.pid h.low =
-      subst (λ (o : Option Version). IsBased r None o version.pid h.low) t.aside (subst (λ (o : Option Version). IsBased r o old.left version.pid h.low) t.above h.based) in
+      let beside = rw t.aside at h.aside in
+      let based = rw (t.above, t.aside) at h.based in
       record { page = alive_of left beside.kept; right = version; aside = alive_here t.plan.can.alive; rooted = root_of left based t.plan.can.lowest; plan = t.plan }
 
   tend_end : (parent page : Version) (upkeep : Plan) → EndsSmall old version parent page upkeep → IsTendEnd old now r parent page upkeep
   tend_end parent page upkeep t =
-      let over : LiesAbove old.limits now version h.earlier parent = subst (λ (o : Option Version). IfSome o (LiesAbove old.limits now version h.earlier)) t.tended.above h.above in
+      let over = rw t.tended.above at h.above in
       rw t.is (record {
         tends = t.tended.tends;
         seeks = t.tended.seeks;
@@ -275,8 +281,8 @@ module _ (old : WriteRound) (k now : Knowledge) (r : Recalled) (version : Versio
         level = t.level;
         covered =
             covers_here old.key version.chain
-            (reached old.limits k now r version h.level h.low h.earlier h.arrives (reaches old.key) (subst (λ (g : WriteGoal). IsTrue (write_way g old.key h.low)) t.seeks h.passing)).reached
-            (subst (λ (g : WriteGoal). StaysLeft (write_way g old.key) version.chain) t.seeks t.here.stays);
+            (reached old.limits k now r version h.level h.low h.earlier h.arrives (reaches old.key) (rw t.seeks at h.passing)).reached
+            (rw t.seeks at t.here.stays);
         short = short;
         early = early;
         few = λ on. few_items alive short (t.fine.narrow on);
@@ -287,24 +293,19 @@ module _ (old : WriteRound) (k now : Knowledge) (r : Recalled) (version : Versio
       })
 
   merge_end : (left removed : Version) (merge : MergeRecord) → EndsMerged old version left removed merge → IsMergeEnd old now r left removed merge
-  merge_end left removed merge t =
-      let kept : IsKept old.limits now left h.earlier = subst (λ (g : WriteGoal). Passed old.limits old.key old.floor k now version.pid h.earlier g) t.goal h.passed in
-      rw t.is (record { page = alive_of left kept; gone = is_gone old.limits k now r version h.level h.low h.earlier h.arrives t.plan.can.gone; plan = t.plan })
+  merge_end left removed merge t = rw t.is (record { page = alive_of left (rw t.goal at h.passed); gone = gone_here t.plan.can.gone; plan = t.plan })
 
   unterm_end : (parent left removed : Version) (unterm : UntermRecord) → EndsCut old version parent left removed unterm → IsUntermEnd old now r parent left removed unterm
   unterm_end parent left removed unterm t =
-      let cut : IsLosingTerm old.limits now h.earlier parent left = subst (λ (g : WriteGoal). Passed old.limits old.key old.floor k now version.pid h.earlier g) t.goal h.passed in
+      let cut = rw t.goal at h.passed in
       rw t.is (record {
         page = alive_of parent cut.above;
         aside = alive_of left cut.aside;
-        gone = is_gone old.limits k now r version h.level h.low h.earlier h.arrives t.plan.can.gone;
+        gone = gone_here t.plan.can.gone;
         up = cut.up;
         after = cut.after;
         plan = t.plan;
       })
-
-  hand_here : IsInHand old.limits now version
-  hand_here = hand old.limits k now r version h.level h.low h.earlier h.arrives
 
   clean_end : EndsClean old version → IsCleanEnd old now r
   clean_end t = record {
@@ -320,13 +321,11 @@ module _ (old : WriteRound) (k now : Knowledge) (r : Recalled) (version : Versio
   }
 
   unmerged_end : EndsUnmerged old version → IsUnmergedEnd old now r
-  unmerged_end t =
-      let kept : IsKept old.limits now t.left h.earlier = subst (λ (g : WriteGoal). Passed old.limits old.key old.floor k now version.pid h.earlier g) t.goal h.passed in
-      record { left = t.left; goal = t.goal; aside = alive_of t.left kept; version = version; page = hand_here; none = t.none }
+  unmerged_end t = record { left = t.left; goal = t.goal; aside = alive_of t.left (rw t.goal at h.passed); version = version; page = hand_here; none = t.none }
 
   uncut_end : EndsUncut old version → IsUncutEnd old now r
   uncut_end t =
-      let cut : IsLosingTerm old.limits now h.earlier t.parent t.left = subst (λ (g : WriteGoal). Passed old.limits old.key old.floor k now version.pid h.earlier g) t.goal h.passed in
+      let cut = rw t.goal at h.passed in
       record { parent = t.parent; left = t.left; goal = t.goal; above = alive_of t.parent cut.above; aside = alive_of t.left cut.aside; version = version; page = hand_here; none = t.none }
 
   due_end : (change : DueChange) → EndsBy old version change → IsDueBy old now r change
@@ -340,15 +339,15 @@ module _ (old : WriteRound) (k now : Knowledge) (r : Recalled) (version : Versio
 
   pub treated : (new : WriteRound) (result : Option WriteEnd) → TreatsWrite old version new result → After old now r new result
   treated new None t = elim t [
-    | inl right ↦ subst (λ (x : WriteRound). Shows x now r) (sym right.goes) (aside right.right right.alive right.seeks right.finished right.leads)
-    | inr (inl down) ↦ subst (λ (x : WriteRound). Shows x now r) (sym down.goes) (below down.child down.here down.fine (let index = down.index in omega (arith, index)) down.leads)
-    | inr (inr (inl merge)) ↦ subst (λ (x : WriteRound). Shows x now r) (sym merge.goes) (back_to_merge merge.pid merge.left.goal merge.left.here.alive merge.beside)
+    | inl right ↦ rw right.goes (aside right.right right.alive right.seeks right.finished right.leads)
+    | inr (inl down) ↦ rw down.goes (below down.child down.here down.fine (let index = down.index in omega (arith, index)) down.leads)
+    | inr (inr (inl merge)) ↦ rw merge.goes (back_to_merge merge.pid merge.left.goal merge.left.here.alive merge.beside)
     | inr (inr (inr cut)) ↦
-        let over : LiesAbove old.limits now version h.earlier cut.parent = subst (λ (o : Option Version). IfSome o (LiesAbove old.limits now version h.earlier)) cut.above h.above in
-        subst (λ (x : WriteRound). Shows x now r) (sym cut.goes) (back_to_unterm cut.pid cut.left.goal cut.left.here.alive cut.parent over cut.term)
+        let over = rw cut.above at h.above in
+        rw cut.goes (back_to_unterm cut.pid cut.left.goal cut.left.here.alive cut.parent over cut.term)
   ]
   treated new (Some end.Again) t = inr (record { pid = t.pid; goal = t.goal; version = version; page = alive_here t.here.alive; below = t.below })
   treated new (Some end.Done) t = elim t [ inl clean ↦ inl (clean_end clean) | inr (inl unmerged) ↦ inr (inl (unmerged_end unmerged)) | inr (inr uncut) ↦ inr (inr (uncut_end uncut)) ]
-  treated new (Some (end.Removed removed)) t = rw t.is (is_gone old.limits k now r version h.level h.low h.earlier h.arrives t.gone)
+  treated new (Some (end.Removed removed)) t = rw t.is (gone_here t.gone)
   treated new (Some (end.Due plan after)) t = record { change = t.change; planned = t.planned; due = due_end t.change t.due }
   treated new (Some (end.Leaf parent leaf)) t = leaf_end parent leaf t

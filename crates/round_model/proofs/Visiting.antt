@@ -1,5 +1,5 @@
 -- What the steps of a visit leave it.
-use Rattle.round_model.proofs.Words.{◌≡◌, ◌<◌, ◌==◌, ◌++◌, inl, inr, ℕ, zero, suc, true, List, [], ◌∷◌, Option, Some, None, refl, sym, ap, ◌∙◌, subst, arith, eq-eqb, Limits, Answer, Record}
+use Rattle.round_model.proofs.Words.{◌≡◌, ◌<◌, ◌==◌, ◌++◌, inl, inr, ℕ, zero, suc, true, List, [], ◌∷◌, Option, Some, None, refl, ap, ◌∙◌, arith, eq-eqb, Limits, Answer, Record}
 use Rattle.round_model.proofs.Words.{replaced_at, next_row, IsChainFrom, IsFront, Fits, FitsRow, IsReadWhole, Knowledge, learn, learn_slot, Version}
 use Rattle.bw_model.specs.declared.step.Step.TheVariants as step
 use Rattle.bw_model.specs.declared.step.Answer.TheVariants as answer
@@ -22,9 +22,8 @@ read_head k (suc pid) (suc row) some linked = record
     { linked = linked; in_slot = replaced_same k.read.heads (suc pid) (Some (suc row)); seen = refl; named = replaced_same k.read.learnt (suc row) true }
 
 inside_slot : (k : Knowledge) (pid n : ℕ) → (learn_slot pid n k).inside ≡ k.inside
-inside_slot k zero n = refl
 inside_slot k (suc pid) zero = refl
-inside_slot k (suc pid) (suc n) = refl
+inside_slot k pid n = refl
 
 -- a slot that was read has a row that there is
 pub row_below : (limits : Limits) (k : Knowledge) (pid row : ℕ) → 0 < pid → Fits limits k (step.Slot pid) (answer.Number row) → row < limits.rows
@@ -72,15 +71,15 @@ pub arrives_at : (k : Knowledge) (visit : Visit) (row : ℕ) (w : Record) (versi
     → Arrives k (learn k (step.Row row) (answer.Content w)) (at visit (Row version.head row)) version
 arrives_at k visit row w version pid chain i h f =
     let read = read_whole visit.limits k visit.pid version.head row visit.part w i h.stands f in
-    let whole : IsReadWhole visit.limits k version.pid version.chain = subst (λ (c : List Record). IsReadWhole visit.limits k version.pid c) (sym chain)
-    (subst (λ (p : ℕ). IsReadWhole visit.limits k p (visit.part ++ w ∷ [])) (sym pid) read.2) in
+    let whole : IsReadWhole visit.limits k version.pid version.chain = rw chain
+    (rw pid read.2) in
     record {
       pid = pid;
       inside = h.inside;
       in_hand = record {
         page = rw pid h.below;
         row = h.head;
-        seen = record { head = ap k.read.heads pid ∙ read.0; read = subst (λ (c : List Record). IsChainFrom (replaced_at row (Some w) k.read.seen) version.head c) (sym chain) read.1 };
+        seen = record { head = ap k.read.heads pid ∙ read.0; read = rw chain read.1 };
         sound = sound_from visit.limits k version.pid version.chain whole;
       };
       whole = whole;
@@ -89,10 +88,10 @@ arrives_at k visit row w version pid chain i h f =
 -- the answer to the step wanted last is the one that the state was waiting for
 
 pub back : (visit : Visit) (P : Visit → Answer Record → Type 0) (state : VisitState) (told real : Answer Record) → visit.state ≡ state → real ≡ told → P (at visit state) told → P visit real
-back visit P state told real e i h = subst (λ (x : Answer Record). P visit x) (sym i) (subst (λ (s : VisitState). P (at visit s) told) (sym e) h)
+back visit P state told real e i h = rw (i, e) h
 
 pub there : (visit : Visit) (P : Visit → Answer Record → Type 0) (state : VisitState) (told real : Answer Record) → visit.state ≡ state → real ≡ told → P visit real → P (at visit state) told
-there visit P state told real e i h = subst (λ (s : VisitState). P (at visit s) told) e (subst (λ (x : Answer Record). P visit x) i h)
+there visit P state told real e i h = rw (i, e) at h
 
 module _ (k : Knowledge) (old : Visit) where
   abbrev Then : Visit → Option Sight → Visit → Answer Record → Type 0

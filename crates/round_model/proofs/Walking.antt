@@ -1,15 +1,15 @@
 -- From page to page: what a step of a visit leaves, and that a page that is named by the one just read was not read before.
-use Rattle.std.proofs.Common.{◌≡◌, ◌≢◌, ◌<◌, ◌++◌, ◌||◌, ◌&&◌, not, ◌==◌, inl, inr, ◌⊎◌, ℕ, zero, suc, List, [], ◌∷◌, Bool, true, false, Some, None, refl, sym, ap, ◌∙◌, subst, arith}
+use Rattle.std.proofs.Common.{◌≡◌, ◌≢◌, ◌<◌, ◌++◌, ◌||◌, ◌&&◌, not, ◌==◌, inl, inr, ◌⊎◌, ℕ, zero, suc, List, [], ◌∷◌, Bool, true, false, Some, None, refl, sym, ap, ◌∙◌, arith}
 use Rattle.round_model.proofs.Words.{IsTrue, if◌then◌else◌, AllByRecursion, is_lt, eq-eqb, eqb_tells, same_Some, Limits, is_below, Record, replaced_at, next_row, is_removed, level_in}
-use Rattle.round_model.proofs.Words.{low_in, HasRead, IsFitted, FitsRow, IsReadWhole, SaysOf, Knowledge, learn, learn_slot, IsUnread, Recalled, Walk, is_lower, is_removal, recall, trail}
-use Rattle.round_model.proofs.Words.{Version, NamesPages, NamesAt}
+use Rattle.round_model.proofs.Words.{low_in, IsFitted, FitsRow, IsReadWhole, SaysOf, Knowledge, learn, learn_slot, IsUnread, Recalled, Walk, is_lower, is_removal, recall, trail}
+use Rattle.round_model.proofs.Words.{Version, NamesAt}
 use Rattle.std.proofs.lemmas.Cmp.{tied_itself, nat_list_cmp_total}
 use Rattle.bw_model.specs.declared.step.Step.TheVariants as step
 use Rattle.bw_model.specs.declared.step.Answer.TheVariants as answer
 use Rattle.base_page.proofs.KeyLaws.{below_from, below-trans}
 use Rattle.round_model.specs.Visits.{Slot, Row, Arrives, MayVisit, Visit, at, to_page}
 use Rattle.round_model.specs.Walks.{AreRecalled, HasArrived, IsAmongPids, IsExpected, IsNamedAt, IsOnWay, IsPast, IsPastAt}
-use Rattle.round_model.proofs.Holding.{named_row, named_slot, next_read, next_slot, past_row, past_slot, read_more}
+use Rattle.round_model.proofs.Holding.{has_read, named_row, named_slot, next_read, next_slot, past_row, past_slot, read_more}
 use Rattle.round_model.proofs.Meeting.{kept_push, removed_push}
 use Rattle.round_model.proofs.PageLaws.{spans}
 use Rattle.round_model.proofs.Removals.{level_noted, lower_removes, removal_is_at, told_more}
@@ -116,7 +116,7 @@ module _ (limits : Limits) (k : Knowledge) (r : Recalled) (visit : Visit) (level
     same = h.same;
     bare = tt;
     visited = ap (λ (pages : List ℕ). visit.pid ∷ pages) h.visited;
-    recalled = recalled_slot visit.pid row h.shows.page linked earlier h.distinct.2 (subst (λ (t : List ℕ). AllByRecursion (λ page. r.heads page ≡ k.read.heads page) t) refl h.recalled);
+    recalled = recalled_slot visit.pid row h.shows.page linked earlier h.distinct.2 h.recalled;
     expected = expected_slot visit.pid row h.shows.page h.expected;
     distinct = h.distinct;
     past = past_slot k visit.pid row level low earlier h.distinct.2 h.past;
@@ -164,13 +164,12 @@ module _ (limits : Limits) (k : Knowledge) (r : Recalled) (visit : Visit) (level
       where_it_is whole e = elim e [
         | inl root ↦ (whole.root (rw pid root.0) ∙ sym root.1, inl root.2)
         | inr (inl named) ↦
-            let basis : HasRead k named.naming.pid named.naming.head = record { head = named.in_hand.seen.head; chain = named.naming.chain; read = named.in_hand.seen.read; alive = named.alive } in
-            let so = told_of named.naming.chain version.pid version.chain level low (whole.named named.naming.pid named.naming.head basis) (rw pid named.names) in
+            let so = told_of named.naming.chain version.pid version.chain level low
+            (whole.named named.naming.pid named.naming.head (has_read named.in_hand.seen named.alive)) (rw pid named.names) in
             (so.1, inr so.0)
         | inr (inr next) ↦
-            let basis : HasRead k next.left.pid next.left.head = record { head = next.in_hand.seen.head; chain = next.left.chain; read = next.in_hand.seen.read; alive = next.alive } in
             let b = next.beyond in
-            let says = whole.beside next.left.pid next.left.head basis
+            let says = whole.beside next.left.pid next.left.head (has_read next.in_hand.seen next.alive)
             (record { removed = b.removed; row = b.row; chain = b.chain; right = b.right; order = b.order; read = b.read; gone = b.gone; named = rw pid b.named })
             in
             let so = told_of b.chain version.pid version.chain level low says (rw pid next.names) in
@@ -180,7 +179,7 @@ module _ (limits : Limits) (k : Knowledge) (r : Recalled) (visit : Visit) (level
       pub on_base : next_row content ≡ None → IsOnWay limits k r (at visit (Row version.head row)) level low earlier → HasArrived limits k now walked version level low earlier
       on_base last h =
           let arrived : Arrives k now (at visit (Row version.head row)) version = arrives_at k visit row content version pid made last h.shows (rw (← h.same) at fits) in
-          let whole : IsReadWhole limits k version.pid version.chain = subst (λ (l : Limits). IsReadWhole l k version.pid version.chain) h.same arrived.whole in
+          let whole : IsReadWhole limits k version.pid version.chain = rw h.same at arrived.whole in
           let here = where_it_is whole h.expected in
           record {
             visit = at visit (Row version.head row);
@@ -248,13 +247,13 @@ module _ (limits : Limits) (k now : Knowledge) (r : Recalled) (version : Version
   -- it isn't the page itself
   apart : page ≢ version.pid
   apart e =
-      let so = told_of chain version.pid chain level low (h.arrives.in_hand.sound.own alive) (subst (λ (p : ℕ). NamesAt chain p level low) e names) in
+      let so = told_of chain version.pid chain level low (h.arrives.in_hand.sound.own alive) (rw e at names) in
       never_there level (level_in chain) low (low_in chain) on so.0 so.1
 
   -- nor one that was read before it
   apart_past : (other : ℕ) → IsPast k was_level was_low other → (level_in chain ≡ was_level) → page ≢ other
   apart_past other past is e =
-      let so = told_of chain other past.chain level low (h.arrives.whole.names alive other past.head past.chain past.in_slot past.read) (subst (λ (p : ℕ). NamesAt chain p level low) e names) in
+      let so = told_of chain other past.chain level low (h.arrives.whole.names alive other past.head past.chain past.in_slot past.read) (rw e at names) in
       let before : IsPastAt (level_in chain) (low_in chain) (level_in past.chain) (low_in past.chain) = rw (is, h.is_low) past.past in
       never_there level (level_in past.chain) low (low_in past.chain) (past_on (level_in chain) level (level_in past.chain) (low_in chain) low (low_in past.chain) on before) so.0 so.1
 
@@ -266,7 +265,7 @@ module _ (limits : Limits) (k now : Knowledge) (r : Recalled) (version : Version
   is_new = (apart, elim h.is_level [ inl first ↦ rw first tt | inr is ↦ new_among earlier is h.past ])
 
   pub is_page : (0 < page) × (page < limits.pids)
-  is_page = named_within limits chain page level low (subst (λ (l : Limits). NamesPages l chain) h.same (h.arrives.in_hand.sound.names alive)) names
+  is_page = named_within limits chain page level low (rw h.same at (h.arrives.in_hand.sound.names alive)) names
 
   named : IsNamedAt limits now page level low
   named = record { naming = version; in_hand = rw (← h.same) h.arrives.in_hand; alive = alive; apart = λ e. apart (sym e); names = names }

@@ -1,6 +1,6 @@
 -- What an answer leaves a writer's round.
-use Rattle.round_model.proofs.Words.{◌∙◌, ◌≡◌, ◌≢◌, ◌<◌, ◌+◌, inl, inr, ℕ, List, [], Bool, true, false, Option, Some, None, refl, sym, subst, arith, IsTrue, IfSome_then, Limits, Answer}
-use Rattle.round_model.proofs.Words.{is_below, Record, is_removed, low_in, Fits, Knowledge, learn, Recalled, recall, Version, DueChange, WriteEnd, Sight, Slot, Empty, Whole, IsSeeking}
+use Rattle.round_model.proofs.Words.{◌∙◌, ◌≡◌, ◌≢◌, ◌<◌, ◌+◌, inl, inr, ℕ, List, [], Bool, true, false, Option, Some, None, refl, sym, arith, IsTrue, IfSome_then, Limits, Answer}
+use Rattle.round_model.proofs.Words.{Record, is_removed, low_in, Fits, Knowledge, learn, Recalled, recall, Version, DueChange, WriteEnd, Sight, Slot, Empty, Whole, IsSeeking}
 use Rattle.round_model.proofs.Words.{reads_left_at, reads_left_in, with_walk, precedes, reaches, IsTold}
 use Rattle.bw_model.specs.declared.step.Step.TheVariants as step
 use Rattle.bw_model.specs.declared.step.Answer.TheVariants as answer
@@ -12,6 +12,7 @@ use Rattle.round_model.specs.WriteRounds.{BeginsToWrite, IsMissing, KeepsToWrite
 use Rattle.round_model.specs.Rounds.{CanSee, Follows, Responds, Sees, machine}
 use Rattle.round_model.specs.WriteResponses.{CanMeetGoal, IsHere, IsAtLeft, IsTended, TreatsWrite, writing, EndsBy}
 use Rattle.round_model.proofs.Lost.{found_nothing}
+use Rattle.round_model.proofs.Holding.{in_hand_as}
 use Rattle.round_model.proofs.Keeping.{Passed, reached_next, visits_next}
 use Rattle.round_model.proofs.PageLaws.{above_empty}
 use Rattle.round_model.proofs.Seeking.{reached, seeks_root}
@@ -106,7 +107,7 @@ module _ (limits : Limits) (key : List ℕ) (floor : ℕ) (splits : Bool) (k : K
 
   first_on_way : (goal : WriteGoal) → BeginsToWrite limits key floor k goal → IsTrue (write_way goal key [])
   first_on_way Seek b = lowest key
-  first_on_way (Left removed) b = subst (λ (q : List ℕ). IsTrue (is_below [] q)) b.low (above_empty b.removed.chain b.gone.in_hand.sound.is_chain.fitted b.gone.gone)
+  first_on_way (Left removed) b = rw b.low at (above_empty b.removed.chain b.gone.in_hand.sound.is_chain.fitted b.gone.gone)
   first_on_way (Merge left) b = absurd b
   first_on_way (Unterm parent left) b = absurd b
 
@@ -123,8 +124,7 @@ module _ (limits : Limits) (key : List ℕ) (floor : ℕ) (splits : Bool) (k : K
       let hand = b.gone.in_hand in
       record {
         removed = b.removed;
-        gone = record
-            { in_hand = record { page = hand.page; row = hand.row; seen = record { head = hand.seen.head; read = hand.seen.read }; sound = hand.sound }; gone = b.gone.gone };
+        gone = record { in_hand = in_hand_as begun hand hand.seen.head hand.seen.read; gone = b.gone.gone };
         is = b.is;
         low = b.low;
         level = b.level;
@@ -179,8 +179,8 @@ pub can_see : (old : WriteRound) (other : WayState) (told : Answer Record) (sigh
 can_see old other told Empty b t = tt
 can_see old other told (Whole version) b t =
     let visit = b.visit in
-    let h : VisitsToWrite old.limits old.key old.floor old.splits old.goal old.parent old.left t.k t.r visit = subst (λ (s : WayState). Shows (at old s) t.k t.r) b.asked t.shows in
-    let f : Fits old.limits t.k (page.wanted_step visit) told = subst (λ (s : WayState). Fits old.limits t.k (wanted_step (at old s)) told) b.asked t.fits in
+    let h = rw b.asked at t.shows in
+    let f = rw b.asked at t.fits in
     let d = reached_next old.limits old.key old.floor old.splits old.goal old.parent old.left t.k t.r visit told h f version b.responds in
     record {
       reached = reached old.limits t.k (learn t.k (page.wanted_step visit) told)
@@ -191,7 +191,7 @@ can_see old other told (Whole version) b t =
   where
     meets_at : (k now : Knowledge) (earlier : List ℕ) (goal : WriteGoal) → Passed old.limits old.key old.floor k now version.pid earlier goal → CanMeetGoal old.limits goal
     meets_at k now earlier Seek p = tt
-    meets_at k now earlier (Left pid) p = (subst (λ (q : ℕ). 0 < q) p.1.is p.1.removed.is_pid.0, subst (λ (q : ℕ). q < old.limits.pids) p.1.is p.1.gone.in_hand.page)
+    meets_at k now earlier (Left pid) p = (rw p.1.is at p.1.removed.is_pid.0, rw p.1.is at p.1.gone.in_hand.page)
     meets_at k now earlier (Merge left) p = tt
     meets_at k now earlier (Unterm parent left) p = p.above.alive
 
