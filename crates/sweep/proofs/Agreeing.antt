@@ -1,18 +1,15 @@
 -- What each step of a sweep leaves of the agreement between a limbo and what is known.
-use Rattle.std.proofs.Common.{◌≡◌, ◌≢◌, ◌<◌, ◌≤◌, ◌==◌, inl, inr, ℕ, zero, suc, [], ◌∷◌, Option, Some, None, Bool, true, false, refl, arith, IsTrue}
-use Rattle.std.specs.Prelude.{◌||◌, ltb, if◌then◌else◌, IfSome}
-use Rattle.std.proofs.lemmas.Bool.{and_parts, cases_Bool, cases_lt, eq-eqb, lt-ltb, ltb-false, ltb-true, or_right, or_cases}
-use Rattle.tree_limits.specs.declared.limits.Limits.{Limits}
-use Rattle.deltas.specs.Memory.{replaced_at}
+use Rattle.sweep.proofs.Words.{◌≡◌, ◌≢◌, ◌<◌, ◌≤◌, inl, inr, ℕ, zero, suc, [], ◌∷◌, Option, Some, None, Bool, true, false, refl, arith, ◌||◌, if◌then◌else◌, and_parts, cases_Bool, cases_lt}
+use Rattle.sweep.proofs.Words.{eq-eqb, or_right, or_cases, Limits, replaced_at, Stage, Unstamped, Stamped, Passed, compared_with, stamped_by, Announced, none_yet, with_next, Agrees}
+use Rattle.std.proofs.Common.{◌==◌, IsTrue}
+use Rattle.std.specs.Prelude.{ltb, IfSome}
+use Rattle.std.proofs.lemmas.Bool.{lt-ltb, ltb-false, ltb-true}
 use Rattle.traces.specs.discipline.Discipline.{IsPassed}
 use Rattle.traces.specs.discipline.Knowledge as known
 use Rattle.traces.specs.discipline.Knowledge.{passed_by, with_stamp}
-use Rattle.epochs.specs.declared.entry.Stage.{Stage}
-use Rattle.epochs.specs.declared.entry.Stage.TheVariants.{Unstamped, Stamped, Passed}
-use Rattle.epochs.specs.Limbo.{compared_with, stamped_by}
 use Rattle.epochs.specs.Reclamation.{has_passed, may_be_freed}
-use Rattle.sweep.specs.Announced.{Announced, least_of, none_yet, with_next}
-use Rattle.sweep.specs.Kept.{Agrees, HavePassed, IsReadStamp}
+use Rattle.sweep.specs.Announced.{least_of}
+use Rattle.sweep.specs.Kept.{HavePassed, IsReadStamp}
 use Rattle.sweep.specs.Sweeps.{HaveTold, Told, other_at}
 use Rattle.sweep.proofs.Stages.{after}
 
@@ -24,46 +21,28 @@ read_before (Some before) t epoch later was = omega (arith, later, was)
 pub stamped_agrees : (limits : Limits) (actor t : ℕ) (last : Option ℕ) (stage : Option Stage) (limbo : known.LimboMark) → IfSome last (λ before. before ≤ t)
     → Agrees limits actor last stage limbo → Agrees limits actor (Some t) (after (stamped_by t) stage) (with_stamp t limbo)
 stamped_agrees limits actor t last None known.Absent later h = tt
-stamped_agrees limits actor t last None known.Unstamped later h = absurd h
-stamped_agrees limits actor t last None (known.Stamped epoch passed) later h = absurd h
-stamped_agrees limits actor t last (Some Unstamped) known.Absent later h = absurd h
 stamped_agrees limits actor t last (Some Unstamped) known.Unstamped later h = (omega arith, omega arith)
 stamped_agrees limits actor t last (Some Unstamped) (known.Stamped epoch passed) later h = (read_before last t epoch later h, read_before last t epoch later h)
-stamped_agrees limits actor t last (Some (Stamped stamp)) known.Absent later h = absurd h
-stamped_agrees limits actor t last (Some (Stamped stamp)) known.Unstamped later h = absurd h
 stamped_agrees limits actor t last (Some (Stamped stamp)) (known.Stamped epoch passed) later h = (read_before last t epoch later h.0, h.1)
-stamped_agrees limits actor t last (Some (Passed stamp)) known.Absent later h = absurd h
-stamped_agrees limits actor t last (Some (Passed stamp)) known.Unstamped later h = absurd h
 stamped_agrees limits actor t last (Some (Passed stamp)) (known.Stamped epoch passed) later h = (read_before last t epoch later h.0, h.1, h.2)
+stamped_agrees limits actor t last stage limbo later h = absurd h
 
 -- the epoch was read outside of a sweep
 pub read_agrees : (limits : Limits) (actor t : ℕ) (last : Option ℕ) (stage : Option Stage) (limbo : known.LimboMark) → IfSome last (λ before. before ≤ t)
     → Agrees limits actor last stage limbo → Agrees limits actor (Some t) stage (with_stamp t limbo)
 read_agrees limits actor t last None known.Absent later h = tt
-read_agrees limits actor t last None known.Unstamped later h = absurd h
-read_agrees limits actor t last None (known.Stamped epoch passed) later h = absurd h
-read_agrees limits actor t last (Some Unstamped) known.Absent later h = absurd h
 read_agrees limits actor t last (Some Unstamped) known.Unstamped later h = omega arith
 read_agrees limits actor t last (Some Unstamped) (known.Stamped epoch passed) later h = read_before last t epoch later h
-read_agrees limits actor t last (Some (Stamped stamp)) known.Absent later h = absurd h
-read_agrees limits actor t last (Some (Stamped stamp)) known.Unstamped later h = absurd h
 read_agrees limits actor t last (Some (Stamped stamp)) (known.Stamped epoch passed) later h = (read_before last t epoch later h.0, h.1)
-read_agrees limits actor t last (Some (Passed stamp)) known.Absent later h = absurd h
-read_agrees limits actor t last (Some (Passed stamp)) known.Unstamped later h = absurd h
 read_agrees limits actor t last (Some (Passed stamp)) (known.Stamped epoch passed) later h = (read_before last t epoch later h.0, h.1, h.2)
+read_agrees limits actor t last stage limbo later h = absurd h
 
 -- nobody is known to have announced anything, and all is stamped
 pub stamped_told : (actor t : ℕ) (stage : Option Stage) (limbo : known.LimboMark) → Told actor none_yet (after (stamped_by t) stage) limbo
-stamped_told actor t None limbo = tt
-stamped_told actor t (Some Unstamped) known.Absent = tt
-stamped_told actor t (Some Unstamped) known.Unstamped = tt
 stamped_told actor t (Some Unstamped) (known.Stamped epoch passed) = λ has place lt. absurd (omega (arith, lt))
-stamped_told actor t (Some (Stamped stamp)) known.Absent = tt
-stamped_told actor t (Some (Stamped stamp)) known.Unstamped = tt
 stamped_told actor t (Some (Stamped stamp)) (known.Stamped epoch passed) = λ has place lt. absurd (omega (arith, lt))
-stamped_told actor t (Some (Passed stamp)) known.Absent = tt
-stamped_told actor t (Some (Passed stamp)) known.Unstamped = tt
 stamped_told actor t (Some (Passed stamp)) (known.Stamped epoch passed) = λ has place lt. absurd (omega (arith, lt))
+stamped_told actor t stage limbo = tt
 
 -- ---- an announced epoch was read
 -- those that are known to have passed, then
@@ -91,17 +70,11 @@ passes_below epoch stamp n low h = elim (or_cases (n == 0) (ltb stamp n) h) [
 pub announced_agrees : (limits : Limits) (actor other n : ℕ) (last : Option ℕ) (stage : Option Stage) (limbo : known.LimboMark)
     → Agrees limits actor last stage limbo → Agrees limits actor last stage (passed_by other n limbo)
 announced_agrees limits actor other n last None known.Absent h = tt
-announced_agrees limits actor other n last None known.Unstamped h = absurd h
-announced_agrees limits actor other n last None (known.Stamped epoch passed) h = absurd h
-announced_agrees limits actor other n last (Some Unstamped) known.Absent h = absurd h
 announced_agrees limits actor other n last (Some Unstamped) known.Unstamped h = tt
 announced_agrees limits actor other n last (Some Unstamped) (known.Stamped epoch passed) h = h
-announced_agrees limits actor other n last (Some (Stamped stamp)) known.Absent h = absurd h
-announced_agrees limits actor other n last (Some (Stamped stamp)) known.Unstamped h = absurd h
 announced_agrees limits actor other n last (Some (Stamped stamp)) (known.Stamped epoch passed) h = h
-announced_agrees limits actor other n last (Some (Passed stamp)) known.Absent h = absurd h
-announced_agrees limits actor other n last (Some (Passed stamp)) known.Unstamped h = absurd h
 announced_agrees limits actor other n last (Some (Passed stamp)) (known.Stamped epoch passed) h = (h.0, h.1, λ a below apart. still_passed other n epoch passed a (h.2 a below apart))
+announced_agrees limits actor other n last stage limbo h = absurd h
 
 -- what is above an epoch that lets the stamp pass lets it pass
 above_passed : (stamp one other : ℕ) → (other == 0) ≡ false → other ≤ one → IsTrue (has_passed stamp other) → IsTrue (has_passed stamp one)
@@ -139,14 +112,10 @@ more_told actor n announced stamp epoch passed low h has place lt =
 pub announced_told : (limits : Limits) (actor n : ℕ) (announced : Announced) (last : Option ℕ) (stage : Option Stage) (limbo : known.LimboMark)
     → Agrees limits actor last stage limbo → Told actor announced stage limbo
     → Told actor (with_next n announced) stage (passed_by (other_at actor announced.count) n limbo)
-announced_told limits actor n announced last None limbo h told = tt
 announced_told limits actor n announced last (Some Unstamped) limbo h told = absurd told
-announced_told limits actor n announced last (Some (Stamped stamp)) known.Absent h told = tt
-announced_told limits actor n announced last (Some (Stamped stamp)) known.Unstamped h told = tt
 announced_told limits actor n announced last (Some (Stamped stamp)) (known.Stamped epoch passed) h told = more_told actor n announced stamp epoch passed h.1 told
-announced_told limits actor n announced last (Some (Passed stamp)) known.Absent h told = tt
-announced_told limits actor n announced last (Some (Passed stamp)) known.Unstamped h told = tt
 announced_told limits actor n announced last (Some (Passed stamp)) (known.Stamped epoch passed) h told = more_told actor n announced stamp epoch passed h.1 told
+announced_told limits actor n announced last stage limbo h told = tt
 
 -- ---- all other actors have been read
 -- each other actor has a place
@@ -171,7 +140,7 @@ all_passed : (limits : Limits) (actor stamp : ℕ) (announced : Announced) (pass
     → may_be_freed stamp (announced.least ∷ []) ≡ true → HaveTold actor announced stamp passed → HavePassed limits actor passed
 all_passed limits actor stamp announced passed inside all free told other below apart =
     let at = place_of limits actor other inside below apart in
-    let lt : at.0 < announced.count = (let small = at.1 in omega (arith, small, all)) in
+    let lt : at.0 < announced.count = omega (arith, all) in
     rw at.2 at (told (and_parts (has_passed stamp announced.least) true free).0 at.0 lt)
 
 freed_agrees : (limits : Limits) (actor : ℕ) (last : Option ℕ) (announced : Announced) (stamp epoch : ℕ) (passed : ℕ → Bool) → actor < limits.actors
@@ -188,12 +157,9 @@ pub compared_agrees : (limits : Limits) (actor : ℕ) (last : Option ℕ) (annou
     → Agrees limits actor last (after (compared_with (announced.least ∷ [])) stage) limbo
 compared_agrees limits actor last announced None limbo inside all h told = h
 compared_agrees limits actor last announced (Some Unstamped) limbo inside all h told = h
-compared_agrees limits actor last announced (Some (Stamped stamp)) known.Absent inside all h told = absurd h
-compared_agrees limits actor last announced (Some (Stamped stamp)) known.Unstamped inside all h told = absurd h
 compared_agrees limits actor last announced (Some (Stamped stamp)) (known.Stamped epoch passed) inside all h told = freed_agrees limits actor last announced stamp epoch passed inside all h.0 h.1 told
-compared_agrees limits actor last announced (Some (Passed stamp)) known.Absent inside all h told = absurd h
-compared_agrees limits actor last announced (Some (Passed stamp)) known.Unstamped inside all h told = absurd h
 compared_agrees limits actor last announced (Some (Passed stamp)) (known.Stamped epoch passed) inside all h told = freed_agrees limits actor last announced stamp epoch passed inside all h.0 h.1 told
+compared_agrees limits actor last announced stage limbo inside all h told = absurd h
 
 -- what may be freed each other actor has passed
 pub may_free : (limits : Limits) (actor stamp : ℕ) (last : Option ℕ) (limbo : known.LimboMark) → Agrees limits actor last (Some (Passed stamp)) limbo → IsPassed limits actor limbo

@@ -5,3 +5,4 @@ pub mod SmallLimbo
 pub mod Sound
 pub mod Short
 pub mod Unlinking
+mod Words

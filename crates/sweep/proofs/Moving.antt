@@ -1,31 +1,22 @@
 -- What an answer leaves a sweep in: what is known then.
-use Rattle.std.proofs.Common.{◌≡◌, ◌<◌, ◌≤◌, ◌/◌, ◌^◌, inl, inr, ℕ, suc, List, [], ◌∷◌, eqb, Option, Some, None, Bool, true, false, refl, sym, ap, ◌∙◌, arith, IsFalse}
-use Rattle.std.specs.Prelude.{if◌then◌else◌, IfSome}
-use Rattle.std.specs.List.{list_any}
-use Rattle.std.proofs.lemmas.Bool.{cases_Bool, cases_lt, and_parts, or_parts}
-use Rattle.tree_limits.specs.declared.limits.Limits.{Limits}
-use Rattle.bw_model.specs.declared.step.Answer.{Answer}
+use Rattle.sweep.proofs.Words.{◌≡◌, ◌<◌, ◌≤◌, ◌/◌, ◌^◌, inl, inr, ℕ, suc, List, [], ◌∷◌, eqb, Option, Some, None, Bool, true, false, refl, sym, ap, ◌∙◌, arith, if◌then◌else◌, list_any}
+use Rattle.sweep.proofs.Words.{cases_Bool, cases_lt, and_parts, or_parts, Limits, Answer, Record, Entry, Stage, Unstamped, Stamped, Passed, Rows, Pids, Limbo, LimboList, all_restaged}
+use Rattle.sweep.proofs.Words.{compared_with, stage_in, stage_of, stamped_by, HandsOn, may_go, without, State, Announced, none_yet, with_next, Agrees, AreKept, MOST_COMPARED, BeginsSweep}
+use Rattle.sweep.proofs.Words.{Compares, Frees, Moves, Stamps, after_comparing, has_unstamped, IsSameSweep, Sweep}
+use Rattle.std.proofs.Common.{IsFalse}
+use Rattle.std.specs.Prelude.{IfSome}
 use Rattle.bw_model.specs.declared.step.Answer.TheVariants as answer
 use Rattle.bw_model.specs.declared.step.Step.TheVariants as step
-use Rattle.deltas.specs.declared.record.Record.{Record}
 use Rattle.traces.specs.discipline.Discipline.{IsPassed}
 use Rattle.traces.specs.discipline.Fitting.{Fits}
 use Rattle.traces.specs.discipline.Knowledge as known
 use Rattle.traces.specs.discipline.Knowledge.{Knowledge, Limbos, after_freeing, learn}
 use Rattle.tree_limits.specs.Words.{is_among}
-use Rattle.epochs.specs.declared.entry.Entry.{Entry}
-use Rattle.epochs.specs.declared.entry.Stage.{Stage}
-use Rattle.epochs.specs.declared.entry.Stage.TheVariants.{Unstamped, Stamped, Passed}
-use Rattle.epochs.specs.declared.item.Reuse.TheVariants.{Rows, Pids}
-use Rattle.epochs.specs.Limbo.{Limbo, LimboList, all_restaged, compared_with, firsts_restaged, is_unstamped, stage_in, stage_of, stamped_by}
-use Rattle.epochs.specs.Words.{HandsOn, may_go, without}
-use Rattle.sweep.specs.declared.sweep.State.{State}
+use Rattle.epochs.specs.Limbo.{firsts_restaged, is_unstamped}
 use Rattle.sweep.specs.declared.sweep.State.TheVariants as state
-use Rattle.sweep.specs.Announced.{Announced, none_yet, with_next}
-use Rattle.sweep.specs.Kept.{Agrees, AreKept, IsLimboOf}
-use Rattle.sweep.specs.declared.sweep.TheConstants.{MOST_COMPARED}
-use Rattle.sweep.specs.Moves.{BeginsSweep, Compares, Frees, Moves, Stamps, after_comparing, has_unstamped, state_if}
-use Rattle.sweep.specs.Sweeps.{AreTold, LearnsOfLimbo, IsSameSweep, Shows, ShowsState, ShowsThen, Sweep, Told, other_at, wanted_step, wanted_at}
+use Rattle.sweep.specs.Kept.{IsLimboOf}
+use Rattle.sweep.specs.Moves.{state_if}
+use Rattle.sweep.specs.Sweeps.{AreTold, LearnsOfLimbo, Shows, ShowsState, ShowsThen, Told, other_at, wanted_step, wanted_at}
 use Rattle.sweep.proofs.Agreeing.{announced_agrees, announced_told, compared_agrees, may_free, stamped_agrees, stamped_told}
 use Rattle.sweep.proofs.Stages.{first_stage, kept_stage, no_item, no_stage, passed_stage, restaged_stage}
 
@@ -82,9 +73,7 @@ module _ (limits : Limits) (actor : ℕ) where
       pids = hands_agree limits actor k.limbo.epoch limbo.pids k.limbo.pids kept.pids word bits after.pids frees.1;
     },
   )
-  frees_shows k limbo after (Some state.Epoch) kept frees = absurd frees
-  frees_shows k limbo after (Some (state.Retire epoch)) kept frees = absurd frees
-  frees_shows k limbo after (Some (state.Announce announced)) kept frees = absurd frees
+  frees_shows k limbo after next kept frees = absurd frees
 
   all_kept : (announced : Announced) (limbo : Limbo) (now : Limbos) → actor < limits.actors → limits.actors ≤ suc announced.count
       → AreKept limits actor limbo now → AreTold actor announced limbo now → AreKept limits actor (all_restaged (compared_with (announced.least ∷ [])) limbo) now
@@ -176,37 +165,23 @@ module _ (limits : Limits) (actor : ℕ) where
       → Fits limits k (wanted_at actor old) told → ShowsState limits actor old limbo k → Moves limits old limbo told next after
       → ShowsNext limits actor next after (learn k (wanted_at actor old) told)
   moves_show k state.Epoch (answer.Number n) limbo after next inside fits shows moves = stamps_shows k n limbo after next inside fits.2 shows moves
-  moves_show k state.Epoch answer.Start limbo after next inside fits shows moves = absurd fits
-  moves_show k state.Epoch (answer.Content content) limbo after next inside fits shows moves = absurd fits
-  moves_show k state.Epoch (answer.Whether b) limbo after next inside fits shows moves = absurd fits
-  moves_show k state.Epoch answer.Done limbo after next inside fits shows moves = absurd fits
   moves_show k (state.Retire epoch) told limbo after next inside fits shows moves = compares_shows k none_yet limbo after next inside shows.0 shows.1 moves
   moves_show k (state.Announce announced) (answer.Number n) limbo after next inside fits shows moves =
       let now = announced_kept k announced n limbo shows.0 shows.1 in
       compares_shows (learn k (step.Announce (other_at actor announced.count)) (answer.Number n)) (with_next n announced) limbo after next inside now.0 now.1 moves
-  moves_show k (state.Announce announced) answer.Start limbo after next inside fits shows moves = absurd fits
-  moves_show k (state.Announce announced) (answer.Content content) limbo after next inside fits shows moves = absurd fits
-  moves_show k (state.Announce announced) (answer.Whether b) limbo after next inside fits shows moves = absurd fits
-  moves_show k (state.Announce announced) answer.Done limbo after next inside fits shows moves = absurd fits
   moves_show k (state.Reuse (Rows word bits)) told limbo after next inside fits shows moves = frees_shows (learn k (step.ReuseRows word bits) told) limbo after next shows.1 moves
   moves_show k (state.Reuse (Pids word bits)) told limbo after next inside fits shows moves = frees_shows (learn k (step.ReusePids word bits) told) limbo after next shows.1 moves
+  moves_show k old told limbo after next inside fits shows moves = absurd fits
 
   -- nothing but the limbo is learnt
   pub only_limbo : (k : Knowledge) (old : State) (told : Answer Record) → Fits limits k (wanted_at actor old) told
       → learn k (wanted_at actor old) told ≡ record k { limbo = (learn k (wanted_at actor old) told).limbo }
   only_limbo k state.Epoch (answer.Number n) fits = refl
-  only_limbo k state.Epoch answer.Start fits = absurd fits
-  only_limbo k state.Epoch (answer.Content content) fits = absurd fits
-  only_limbo k state.Epoch (answer.Whether b) fits = absurd fits
-  only_limbo k state.Epoch answer.Done fits = absurd fits
   only_limbo k (state.Retire epoch) told fits = refl
   only_limbo k (state.Announce announced) (answer.Number n) fits = refl
-  only_limbo k (state.Announce announced) answer.Start fits = absurd fits
-  only_limbo k (state.Announce announced) (answer.Content content) fits = absurd fits
-  only_limbo k (state.Announce announced) (answer.Whether b) fits = absurd fits
-  only_limbo k (state.Announce announced) answer.Done fits = absurd fits
   only_limbo k (state.Reuse (Rows word bits)) told fits = refl
   only_limbo k (state.Reuse (Pids word bits)) told fits = refl
+  only_limbo k old told fits = absurd fits
 
 shown_then : (goes : Bool) (limits : Limits) (actor : ℕ) (next : State) (limbo : Limbo) (k : Knowledge) → IsFalse k.inside
     → ShowsNext limits actor (state_if goes next) limbo k → ShowsThen goes (record { limits = limits; actor = actor; state = next }) limbo k
@@ -236,14 +211,10 @@ has_stamp (e ∷ es) stamped n is =
     ] is
 
 told_first : (actor : ℕ) (stage : Option Stage) (limbo : known.LimboMark) → (stage ≡ Some Unstamped → ⊥) → Told actor none_yet stage limbo
-told_first actor None limbo stamped = tt
 told_first actor (Some Unstamped) limbo stamped = absurd (stamped refl)
-told_first actor (Some (Stamped stamp)) known.Absent stamped = tt
-told_first actor (Some (Stamped stamp)) known.Unstamped stamped = tt
 told_first actor (Some (Stamped stamp)) (known.Stamped epoch passed) stamped = λ has place lt. absurd (omega (arith, lt))
-told_first actor (Some (Passed stamp)) known.Absent stamped = tt
-told_first actor (Some (Passed stamp)) known.Unstamped stamped = tt
 told_first actor (Some (Passed stamp)) (known.Stamped epoch passed) stamped = λ has place lt. absurd (omega (arith, lt))
+told_first actor stage limbo stamped = tt
 
 pub begins_show : (limits : Limits) (actor : ℕ) (limbo after : Limbo) (first : Option State) → actor < limits.actors → BeginsSweep limits limbo first after
     → (k : Knowledge) → AreKept limits actor limbo k.limbo → ShowsNext limits actor first after k

@@ -1,28 +1,18 @@
 -- A sweep of a large tree is short.
-use Rattle.std.proofs.Common.{◌+◌, ◌≡◌, ◌<◌, ◌≤◌, ◌*◌, ◌-◌, ◌/◌, ◌^◌, ◌++◌, ◌∙◌, inl, inr, refl, ap, arith}
-use Rattle.std.proofs.Common.{ℕ, zero, suc, List, [], ◌∷◌, drop, take, eqb, Option, Some, None, Bool, true, false}
-use Rattle.std.specs.Prelude.{◌&&◌, not, if◌then◌else◌}
+use Rattle.sweep.proofs.Words.{◌≡◌, ◌<◌, ◌≤◌, ◌/◌, ◌^◌, ◌∙◌, inl, inr, refl, ap, arith, ℕ, suc, List, [], ◌∷◌, drop, take, eqb, Option, Some, None, Bool, true, false, ◌&&◌, if◌then◌else◌}
+use Rattle.sweep.proofs.Words.{and_parts, cases_Bool, cases_lt, eq-eqb, eqb-true, or_cases, or_parts, Limits, Answer, Record, Entry, Stage, Unstamped, Rows, Pids, Limbo, LimboList}
+use Rattle.sweep.proofs.Words.{all_restaged, compared_with, first_restaged, is_passed, with_stages, stamped_by, HandsOn, may_go, without, Announced, none_yet, with_next, State, MOST_COMPARED}
+use Rattle.sweep.proofs.Words.{BeginsSweep, Compares, Frees, Moves, Stamps, after_comparing, has_unstamped, IsSoundState}
+use Rattle.std.proofs.Common.{◌+◌, ◌*◌, ◌-◌, ◌++◌}
+use Rattle.std.specs.Prelude.{not}
 use Rattle.std.specs.List.{filter}
-use Rattle.std.proofs.lemmas.Bool.{and_parts, cases_Bool, cases_lt, eq-eqb, eqb-true, or_cases, or_parts}
-use Rattle.tree_limits.specs.declared.limits.Limits.{Limits}
-use Rattle.bw_model.specs.declared.step.Answer.{Answer}
 use Rattle.bw_model.specs.declared.step.Answer.TheVariants as answer
-use Rattle.deltas.specs.declared.record.Record.{Record}
-use Rattle.epochs.specs.declared.entry.Entry.{Entry}
-use Rattle.epochs.specs.declared.entry.Stage.{Stage}
-use Rattle.epochs.specs.declared.entry.Stage.TheVariants.{Unstamped, Stamped, Passed}
 use Rattle.epochs.specs.declared.item.Item.{Item}
 use Rattle.epochs.specs.declared.item.Item.TheVariants.{Row, Pid}
-use Rattle.epochs.specs.declared.item.Reuse.TheVariants.{Rows, Pids}
-use Rattle.epochs.specs.Limbo.{Limbo, LimboList, all_restaged, compared_with, first_restaged, is_passed, with_stages, stamped_by, with_item}
-use Rattle.epochs.specs.Words.{HandsNothingOn, HandsOn, HasNone, may_go, without}
-use Rattle.sweep.specs.Announced.{Announced, none_yet, with_next}
-use Rattle.sweep.specs.declared.sweep.State.{State}
+use Rattle.epochs.specs.Limbo.{with_item}
+use Rattle.epochs.specs.Words.{HandsNothingOn, HasNone}
 use Rattle.sweep.specs.declared.sweep.State.TheVariants as state
-use Rattle.sweep.specs.declared.sweep.TheConstants.{MOST_COMPARED}
-use Rattle.sweep.specs.Moves.{BeginsSweep, Compares, Frees, Moves, Stamps, after_comparing, has_unstamped}
 use Rattle.sweep.specs.Short.{GoesShort, IsClear, count_free, free_now, most_short, short_left}
-use Rattle.sweep.specs.Sweeps.{IsSoundState}
 use Rattle.sweep.proofs.Stages.{no_item}
 
 count_append : (xs ys : List Entry) → count_free (xs ++ ys) ≡ count_free xs + count_free ys
@@ -36,26 +26,22 @@ count_append (x ∷ xs) ys =
 
 -- the others of a list of which none may be freed
 none_dropped : (most : ℕ) (xs : List Entry) → count_free xs ≡ 0 → count_free (drop most xs) ≡ 0
-none_dropped zero [] none = none
-none_dropped zero (x ∷ xs) none = none
-none_dropped (suc most) [] none = none
 none_dropped (suc most) (x ∷ xs) none = none_dropped most xs (rest_none (is_passed x.stage) none)
   where
     rest_none : (b : Bool) → (if b then suc (count_free xs) else count_free xs) ≡ 0 → count_free xs ≡ 0
     rest_none true e = absurd (omega (arith, e))
     rest_none false e = e
+none_dropped most xs none = none
 
 -- the first entries
 few_restaged : (f : Stage → Stage) (most : ℕ) (xs : List Entry) → count_free (with_stages f (take most xs)) ≤ most
-few_restaged f zero [] = omega arith
-few_restaged f zero (x ∷ xs) = omega arith
-few_restaged f (suc most) [] = omega arith
 few_restaged f (suc most) (x ∷ xs) =
     let rest = few_restaged f most xs in
     elim (is_passed (f x.stage)) as (λ b. (if b then suc (count_free (with_stages f (take most xs))) else count_free (with_stages f (take most xs))) ≤ suc most) [
       | true ↦ omega (arith, rest)
       | false ↦ omega (arith, rest)
     ]
+few_restaged f most xs = omega arith
 
 first_few : (f : Stage → Stage) (most : ℕ) (xs : List Entry) → count_free xs ≡ 0 → count_free (first_restaged most f xs) ≤ most
 first_few f most xs none =
@@ -67,8 +53,7 @@ first_few f most xs none =
 -- a stamp lets nothing be freed
 stamp_keeps : (epoch : ℕ) (stage : Stage) → is_passed (stamped_by epoch stage) ≡ is_passed stage
 stamp_keeps epoch Unstamped = refl
-stamp_keeps epoch (Stamped stamp) = refl
-stamp_keeps epoch (Passed stamp) = refl
+stamp_keeps epoch stage = refl
 
 same_ifs : (b c : Bool) (m n : ℕ) → b ≡ c → m ≡ n → (if b then suc m else m) ≡ (if c then suc n else n)
 same_ifs true true m n e same = ap suc same
@@ -154,9 +139,7 @@ frees_short limits limbo after (Some (state.Reuse (Pids word bits))) bound few f
     let rows : count_free after.rows.entries ≡ count_free limbo.rows.entries = ap (λ (list : LimboList). count_free list.entries) frees.0.rest in
     let pids = hands_fewer limbo.pids after.pids word bits frees.1 in
     (tt, omega (arith, rows, pids, few))
-frees_short limits limbo after (Some state.Epoch) bound few frees = absurd frees
-frees_short limits limbo after (Some (state.Retire epoch)) bound few frees = absurd frees
-frees_short limits limbo after (Some (state.Announce announced)) bound few frees = absurd frees
+frees_short limits limbo after next bound few frees = absurd frees
 
 module _ (limits : Limits) (large : limits.is_large ≡ true) where
   -- of what is compared few may be freed
@@ -189,33 +172,26 @@ module _ (limits : Limits) (large : limits.is_large ≡ true) where
 
       further : (next : Option State) → GoesShort limits (suc (limits.actors + 2 * MOST_COMPARED - 1)) next after → GoesShort limits (most_short limits) next after
       further None h = h
-      further (Some next) h = (h.0, (let few = h.1 in omega (arith, few)))
+      further (Some next) h = (h.0, omega arith)
 
   -- an answer leads on to fewer steps, or to the end
   pub moves_short : (old : State) (next : Option State) (told : Answer Record) (limbo after : Limbo) → IsSoundState limits old → IsClear old limbo → Moves limits old limbo told next after
       → GoesShort limits (short_left limits old limbo) next after
   moves_short state.Epoch next (answer.Number n) limbo after sound clear moves = stamps_short n limbo after next clear moves
-  moves_short state.Epoch next answer.Start limbo after sound clear moves = absurd moves
-  moves_short state.Epoch next (answer.Content content) limbo after sound clear moves = absurd moves
-  moves_short state.Epoch next (answer.Whether b) limbo after sound clear moves = absurd moves
-  moves_short state.Epoch next answer.Done limbo after sound clear moves = absurd moves
   moves_short (state.Retire epoch) next told limbo after sound clear moves = further next (compares_short none_yet limbo after next clear limits.allowed.some_actor moves)
     where
       further : (next : Option State) → GoesShort limits (suc (limits.actors + 2 * MOST_COMPARED - 1)) next after → GoesShort limits (limits.actors + 2 * MOST_COMPARED) next after
       further None h = h
-      further (Some next) h = (h.0, (let few = h.1 in omega (arith, few)))
+      further (Some next) h = (h.0, omega arith)
   moves_short (state.Announce announced) next (answer.Number n) limbo after sound clear moves =
       further next (compares_short (with_next n announced) limbo after next clear (omega (arith, sound)) moves)
     where
       further : (next : Option State) → GoesShort limits (suc (limits.actors + 2 * MOST_COMPARED - suc (suc announced.count))) next after
           → GoesShort limits (limits.actors + 2 * MOST_COMPARED - suc announced.count) next after
       further None h = h
-      further (Some next) h = (h.0, (let less = h.1 in omega (arith, less, sound)))
-  moves_short (state.Announce announced) next answer.Start limbo after sound clear moves = absurd moves
-  moves_short (state.Announce announced) next (answer.Content content) limbo after sound clear moves = absurd moves
-  moves_short (state.Announce announced) next (answer.Whether b) limbo after sound clear moves = absurd moves
-  moves_short (state.Announce announced) next answer.Done limbo after sound clear moves = absurd moves
+      further (Some next) h = (h.0, omega (arith, sound))
   moves_short (state.Reuse reuse) next told limbo after sound clear moves = frees_short limits limbo after next (suc (free_now limbo)) (omega arith) moves
+  moves_short old next told limbo after sound clear moves = absurd moves
 
   -- and so does the begin
   pub begins_short : (limbo after : Limbo) (first : State) → free_now limbo ≡ 0 → BeginsSweep limits limbo (Some first) after → GoesShort limits (suc (most_short limits)) (Some first) after
@@ -223,7 +199,7 @@ module _ (limits : Limits) (large : limits.is_large ≡ true) where
     | inl empty ↦ absurd (cc ((begins.empty empty).0))
     | inr some ↦ elim (cases_Bool (has_unstamped limbo)) [
       | inl unstamped ↦ reads (Some first) (begins.epoch unstamped)
-      | inr stamped ↦ (let h = compares_short none_yet limbo after (Some first) none limits.allowed.some_actor (begins.stamped some stamped) in (h.0, (let few = h.1 in omega (arith, few))))
+      | inr stamped ↦ (let h = compares_short none_yet limbo after (Some first) none limits.allowed.some_actor (begins.stamped some stamped) in (h.0, omega arith))
     ]
   ]
     where
@@ -237,4 +213,4 @@ comes_free (Pid pid) limbo = let more = count_append limbo.pids.entries (record 
 
 pub begins_few : (limits : Limits) (limbo after : Limbo) (first : State) → limits.is_large ≡ true → free_now limbo ≡ 0 → BeginsSweep limits limbo (Some first) after
     → IsClear first after × (short_left limits first after ≤ most_short limits)
-begins_few limits limbo after first large none begins = let h = begins_short limits large limbo after first none begins in (h.0, (let few = h.1 in omega (arith, few)))
+begins_few limits limbo after first large none begins = let h = begins_short limits large limbo after first none begins in (h.0, omega arith)

@@ -1,15 +1,8 @@
 -- A small limbo agrees with what is known, number by number.
-use Rattle.std.proofs.Common.{ℕ, List, [], ◌∷◌, drop, eqb, Option, Some, true, false, refl, arith}
-use Rattle.std.specs.Prelude.{if◌then◌else◌}
-use Rattle.tree_limits.specs.declared.limits.Limits.{Limits}
-use Rattle.deltas.specs.Memory.{replaced_at}
+use Rattle.sweep.proofs.Words.{ℕ, List, [], ◌∷◌, drop, eqb, Option, Some, true, false, refl, arith, if◌then◌else◌, Limits, replaced_at, Entry, Stage, Unstamped, Stamped, Passed, stage_in}
+use Rattle.sweep.proofs.Words.{Agrees, AreKept}
 use Rattle.traces.specs.discipline.Knowledge as known
-use Rattle.epochs.specs.declared.entry.Entry.{Entry}
-use Rattle.epochs.specs.declared.entry.Stage.{Stage}
-use Rattle.epochs.specs.declared.entry.Stage.TheVariants.{Unstamped, Stamped, Passed}
-use Rattle.epochs.specs.Limbo.{stage_in}
 use Rattle.sweep.specs.Examples.{all_passed, known_with, none_passed, small_limbo}
-use Rattle.sweep.specs.Kept.{Agrees, AreKept}
 use Rattle.sweep.proofs.Unlinking.{eqb_turned}
 
 module _ (limits : Limits) (actor : ℕ) (last : Option ℕ) where

@@ -1,30 +1,21 @@
 -- A sweep stays sound, and has fewer steps left after each answer.
-use Rattle.std.proofs.Common.{◌+◌, ◌≡◌, ◌<◌, ◌*◌, ◌-◌, ◌/◌, ◌^◌, inl, inr, ℕ, suc, List, [], ◌∷◌, drop, take, eqb, Some, None}
-use Rattle.std.proofs.Common.{Bool, true, false, refl, sym, ap, ◌∙◌, arith}
-use Rattle.std.specs.Prelude.{◌&&◌, if◌then◌else◌}
-use Rattle.std.specs.List.{All, list_any}
-use Rattle.std.proofs.lemmas.Bool.{cases_Bool, cases_eq, cases_lt, eq-eqb, eqb-true, and_parts, or_parts}
+use Rattle.sweep.proofs.Words.{◌≡◌, ◌<◌, ◌≤◌, ◌/◌, ◌^◌, inl, inr, ℕ, suc, List, [], ◌∷◌, drop, take, eqb, Some, None, Bool, true, false, refl, sym, ap, ◌∙◌, arith, ◌&&◌, if◌then◌else◌}
+use Rattle.sweep.proofs.Words.{list_any, cases_Bool, cases_eq, cases_lt, eq-eqb, eqb-true, and_parts, or_parts, Limits, Answer, Record, Entry, Stage, Unstamped, Stamped, Passed, Rows, Pids}
+use Rattle.sweep.proofs.Words.{Limbo, LimboList, all_restaged, compared_with, first_restaged, is_passed, with_stages, stamped_by, HandsOn, may_go, Announced, none_yet, with_next, State}
+use Rattle.sweep.proofs.Words.{MOST_COMPARED, BeginsSweep, Compares, Frees, Moves, Stamps, after_comparing, has_unstamped, IsSameSweep, IsSoundState, Sweep}
+use Rattle.std.proofs.Common.{◌+◌, ◌*◌, ◌-◌}
+use Rattle.std.specs.List.{All}
 use Rattle.std.proofs.lemmas.List.Elements.{All-append, All-drop, All-map, All-take}
 use Rattle.std.proofs.lemmas.List.Folds.{Any-from_list_any}
-use Rattle.tree_limits.specs.declared.limits.Limits.{Limits}
-use Rattle.bw_model.specs.declared.step.Answer.{Answer}
 use Rattle.bw_model.specs.declared.step.Answer.TheVariants as answer
-use Rattle.deltas.specs.declared.record.Record.{Record}
-use Rattle.epochs.specs.declared.entry.Entry.{Entry}
-use Rattle.epochs.specs.declared.entry.Stage.{Stage}
-use Rattle.epochs.specs.declared.entry.Stage.TheVariants.{Unstamped, Stamped, Passed}
 use Rattle.epochs.specs.declared.item.Reuse.{Reuse}
-use Rattle.epochs.specs.declared.item.Reuse.TheVariants.{Rows, Pids}
-use Rattle.epochs.specs.Limbo.{IsLimboList, Limbo, LimboList, all_restaged, compared_with, first_restaged, firsts_restaged, is_passed, is_unstamped, with_stages, stamped_by}
-use Rattle.epochs.specs.Words.{HandsNothingOn, HandsOn, HasNone, may_go}
-use Rattle.sweep.specs.Announced.{Announced, none_yet, with_next}
-use Rattle.sweep.specs.declared.sweep.State.{State}
+use Rattle.epochs.specs.Limbo.{IsLimboList, firsts_restaged, is_unstamped}
+use Rattle.epochs.specs.Words.{HandsNothingOn, HasNone}
 use Rattle.sweep.specs.declared.sweep.State.TheVariants as state
 use Rattle.sweep.specs.Bounded.{most_steps, reuses_left, steps_left}
 use Rattle.sweep.specs.Kept.{IsLimboOf}
-use Rattle.sweep.specs.declared.sweep.TheConstants.{MOST_COMPARED}
-use Rattle.sweep.specs.Moves.{BeginsSweep, Compares, Frees, IsEmpty, Moves, Stamps, after_comparing, has_unstamped}
-use Rattle.sweep.specs.Sweeps.{ComesFirst, HasPlace, IsInOrder, IsSameSweep, IsSoundState, IsSoundSweep, Sweep}
+use Rattle.sweep.specs.Moves.{IsEmpty}
+use Rattle.sweep.specs.Sweeps.{ComesFirst, HasPlace, IsInOrder, IsSoundSweep}
 use Rattle.sweep.proofs.Stages.{left_later, no_item}
 
 -- the numbers of the list are below its limit
@@ -85,6 +76,9 @@ pub record Follow (limits : Limits) (limbo : Limbo) (next : State) (few : ℕ) :
   pub order : IsInOrder next limbo
   pub fewer : steps_left limits next < few
 
+fewer_still : {limits : Limits} {after : Limbo} {next : State} {few more : ℕ} → Follow limits after next few → few ≤ more → Follow limits after next more
+fewer_still h le = record { lists = h.lists; sound = h.sound; order = h.order; fewer = omega (arith, le) }
+
 module _ (limits : Limits) where
   restaged_whole : (f : Stage → Stage) (limbo : Limbo) → IsWhole limits limbo → IsWhole limits (all_restaged f limbo)
   restaged_whole f limbo whole = record {
@@ -122,9 +116,7 @@ module _ (limits : Limits) where
         order = (none_then limbo.rows after.rows frees.0, place.1);
         fewer = omega arith;
       }
-  frees_follow limbo after state.Epoch whole frees = absurd frees
-  frees_follow limbo after (state.Retire epoch) whole frees = absurd frees
-  frees_follow limbo after (state.Announce announced) whole frees = absurd frees
+  frees_follow limbo after next whole frees = absurd frees
 
   -- the next one has a later word
   later_follow : (limbo after : Limbo) (reuse : Reuse) (next : State) → IsWhole limits limbo → HasPlace limits reuse → ComesFirst reuse limbo
@@ -134,12 +126,10 @@ module _ (limits : Limits) where
       let some = frees.0.first.some in
       let beyond : word < some.0 / 64 = first some.0 some.2 in
       let at : some.0 / 64 ≡ word' = some.1 in
-      let few = limits.allowed.whole_rows in
-      record { lists = h.lists; sound = h.sound; order = h.order; fewer = omega (arith, beyond, at, place, few) }
+      record { lists = h.lists; sound = h.sound; order = h.order; fewer = omega (arith, beyond, at, place) }
   later_follow limbo after (Rows word bits) (state.Reuse (Pids word' bits')) whole place first frees =
       let h = frees_follow limbo after (state.Reuse (Pids word' bits')) whole frees in
-      let few = limits.allowed.whole_rows in
-      record { lists = h.lists; sound = h.sound; order = h.order; fewer = omega (arith, place, few) }
+      record { lists = h.lists; sound = h.sound; order = h.order; fewer = omega (arith, place) }
   later_follow limbo after (Pids word bits) (state.Reuse (Rows word' bits')) whole place first frees =
       let some = frees.0.first.some in
       absurd (let e : true ≡ false = sym some.2 ∙ first.0 some.0 in cc)
@@ -148,19 +138,15 @@ module _ (limits : Limits) where
       let some = frees.1.first.some in
       let beyond : word < some.0 / 64 = first.1 some.0 some.2 in
       let at : some.0 / 64 ≡ word' = some.1 in
-      let few = limits.allowed.whole_pids in
-      record { lists = h.lists; sound = h.sound; order = h.order; fewer = omega (arith, beyond, at, place, few) }
-  later_follow limbo after reuse state.Epoch whole place first frees = absurd frees
-  later_follow limbo after reuse (state.Retire epoch) whole place first frees = absurd frees
-  later_follow limbo after reuse (state.Announce announced) whole place first frees = absurd frees
+      record { lists = h.lists; sound = h.sound; order = h.order; fewer = omega (arith, beyond, at, place) }
+  later_follow limbo after reuse next whole place first frees = absurd frees
 
   pub compares_follow : (announced : Announced) (limbo after : Limbo) (next : State) → IsWhole limits limbo → announced.count < limits.actors
       → Compares limits announced limbo (Some next) after → Follow limits after next (suc (limits.rows / 64 + limits.pids / 64 + limits.actors - suc announced.count))
   compares_follow announced limbo after next whole short compares = elim (cases_lt (suc announced.count) limits.actors) [
     | inl more ↦ reads next (compares.reads more) more
     | inr all ↦
-        let h = frees_follow (after_comparing limits announced.least limbo) after next (compared_whole announced.least limbo whole) (compares.frees all) in
-        record { lists = h.lists; sound = h.sound; order = h.order; fewer = (let few = h.fewer in omega (arith, few, short)) }
+        fewer_still (frees_follow (after_comparing limits announced.least limbo) after next (compared_whole announced.least limbo whole) (compares.frees all)) (omega (arith, short))
   ]
     where
       reads : (next : State) → (Some next ≡ Some (state.Announce announced)) × (after ≡ limbo) → suc announced.count < limits.actors
@@ -168,44 +154,32 @@ module _ (limits : Limits) where
       reads (state.Announce others) is more =
           let same : others ≡ announced = cc (is.0) in
           rw (is.1, same) (record { lists = whole.lists; sound = more; order = tt; fewer = omega arith })
-      reads state.Epoch is more = absurd (cc (is.0))
-      reads (state.Retire epoch) is more = absurd (cc (is.0))
-      reads (state.Reuse reuse) is more = absurd (cc (is.0))
+      reads next is more = absurd (cc (is.0))
 
   stamps_follow : (epoch : ℕ) (limbo after : Limbo) (next : State) → IsWhole limits limbo → Stamps limits epoch limbo (Some next) after → Follow limits after next (most_steps limits)
   stamps_follow epoch limbo after next whole stamps = elim (cases_lt epoch (2 ^ 62)) [
     | inl below ↦ retires next (stamps.retires below) below
     | inr last ↦
-        let h = compares_follow none_yet (all_restaged (stamped_by epoch) limbo) after next (restaged_whole (stamped_by epoch) limbo whole) limits.allowed.some_actor (stamps.last last) in
-        record { lists = h.lists; sound = h.sound; order = h.order; fewer = (let few = h.fewer in omega (arith, few)) }
+        fewer_still
+        (compares_follow none_yet (all_restaged (stamped_by epoch) limbo) after next (restaged_whole (stamped_by epoch) limbo whole) limits.allowed.some_actor (stamps.last last))
+        (omega arith)
   ]
     where
       retires : (next : State) → (Some next ≡ Some (state.Retire epoch)) × (after ≡ all_restaged (stamped_by epoch) limbo) → epoch < 2 ^ 62 → Follow limits after next (most_steps limits)
       retires (state.Retire other) is below =
           let same : other ≡ epoch = cc (is.0) in
           rw (is.1, same) (record { lists = record { rows = whole.lists.rows; pids = whole.lists.pids }; sound = below; order = tt; fewer = omega arith })
-      retires state.Epoch is below = absurd (cc (is.0))
-      retires (state.Announce announced) is below = absurd (cc (is.0))
-      retires (state.Reuse reuse) is below = absurd (cc (is.0))
+      retires next is below = absurd (cc (is.0))
 
   moves_follow : (old next : State) (told : Answer Record) (limbo after : Limbo) → IsWhole limits limbo → IsSoundState limits old → IsInOrder old limbo
       → Moves limits old limbo told (Some next) after → Follow limits after next (steps_left limits old)
   moves_follow state.Epoch next (answer.Number n) limbo after whole sound order moves = stamps_follow n limbo after next whole moves
-  moves_follow state.Epoch next answer.Start limbo after whole sound order moves = absurd moves
-  moves_follow state.Epoch next (answer.Content content) limbo after whole sound order moves = absurd moves
-  moves_follow state.Epoch next (answer.Whether b) limbo after whole sound order moves = absurd moves
-  moves_follow state.Epoch next answer.Done limbo after whole sound order moves = absurd moves
   moves_follow (state.Retire epoch) next told limbo after whole sound order moves =
-      let h = compares_follow none_yet limbo after next whole limits.allowed.some_actor moves in
-      record { lists = h.lists; sound = h.sound; order = h.order; fewer = (let fewer = h.fewer in omega (arith, fewer)) }
+      fewer_still (compares_follow none_yet limbo after next whole limits.allowed.some_actor moves) (omega arith)
   moves_follow (state.Announce announced) next (answer.Number n) limbo after whole sound order moves =
-      let h = compares_follow (with_next n announced) limbo after next whole sound moves in
-      record { lists = h.lists; sound = h.sound; order = h.order; fewer = (let fewer = h.fewer in omega (arith, fewer, sound)) }
-  moves_follow (state.Announce announced) next answer.Start limbo after whole sound order moves = absurd moves
-  moves_follow (state.Announce announced) next (answer.Content content) limbo after whole sound order moves = absurd moves
-  moves_follow (state.Announce announced) next (answer.Whether b) limbo after whole sound order moves = absurd moves
-  moves_follow (state.Announce announced) next answer.Done limbo after whole sound order moves = absurd moves
+      fewer_still (compares_follow (with_next n announced) limbo after next whole sound moves) (omega (arith, sound))
   moves_follow (state.Reuse reuse) next told limbo after whole sound order moves = later_follow limbo after reuse next whole sound order moves
+  moves_follow old next told limbo after whole sound order moves = absurd moves
 
 -- a sweep that goes on
 pub goes_on : (old new : Sweep) (told : Answer Record) (limbo after : Limbo) → IsLimboList limbo.rows → IsLimboList limbo.pids
@@ -276,6 +250,4 @@ begins_sound limits actor limbo after first rows pids lists begins = elim (no_it
   where
     reads : (first : State) → (Some first ≡ Some state.Epoch) × (after ≡ limbo) → IsSoundState limits first × IsSoundSweep (record { limits = limits; actor = actor; state = first }) after
     reads state.Epoch is = (tt, record { lists = rw is.1 lists; order = tt })
-    reads (state.Retire epoch) is = absurd (cc (is.0))
-    reads (state.Announce announced) is = absurd (cc (is.0))
-    reads (state.Reuse reuse) is = absurd (cc (is.0))
+    reads first is = absurd (cc (is.0))

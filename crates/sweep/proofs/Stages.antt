@@ -1,13 +1,8 @@
 -- The stages of the numbers in a limbo list.
-use Rattle.std.proofs.Common.{◌≡◌, ◌⊎◌, ◌/◌, ◌≢◌, ℕ, zero, suc, List, [], ◌∷◌, Option, Some, None, Bool, true, false, not, eqb, refl, ap, inl, inr}
-use Rattle.std.specs.Prelude.{◌&&◌, ◌||◌, if◌then◌else◌}
-use Rattle.std.specs.List.{list_any}
-use Rattle.std.proofs.lemmas.Bool.{cases_eq, eq-eqb, eqb-true, ne_eqb, or_right, or_cases, and_parts}
-use Rattle.epochs.specs.declared.entry.Entry.{Entry}
-use Rattle.epochs.specs.declared.entry.Stage.{Stage}
-use Rattle.epochs.specs.declared.entry.Stage.TheVariants.{Unstamped, Stamped, Passed}
-use Rattle.epochs.specs.Limbo.{Limbo, first_restaged, is_passed, with_stages, stage_in}
-use Rattle.epochs.specs.Words.{may_go, without}
+use Rattle.sweep.proofs.Words.{◌≡◌, ◌/◌, ◌≢◌, ℕ, zero, suc, List, [], ◌∷◌, Option, Some, None, Bool, true, false, eqb, refl, ap, inl, inr, ◌&&◌, ◌||◌, if◌then◌else◌, list_any, cases_eq, eq-eqb}
+use Rattle.sweep.proofs.Words.{eqb-true, or_right, or_cases, and_parts, Entry, Stage, Unstamped, Stamped, Passed, Limbo, first_restaged, is_passed, with_stages, stage_in, may_go, without}
+use Rattle.std.proofs.Common.{◌⊎◌, not}
+use Rattle.std.proofs.lemmas.Bool.{ne_eqb}
 use Rattle.sweep.specs.Moves.{IsEmpty}
 
 -- what becomes of a stage, if there is one

@@ -1,25 +1,21 @@
 -- What is taken out of the tree comes into limbo.
-use Rattle.std.proofs.Common.{◌≡◌, ◌≢◌, ◌<◌, ◌≤◌, ◌++◌, inl, inr, ℕ, zero, suc, List, [], ◌∷◌, length, map, take, get_or, eqb, Option, Some, None, Bool, true}
-use Rattle.std.proofs.Common.{false, refl, sym, subst, ap, ◌∙◌, arith, IsTrue}
-use Rattle.std.specs.Prelude.{◌||◌, if◌then◌else◌, MatchOption, unwrap_or}
-use Rattle.std.specs.List.{All, AllPairs, Contains, list_any}
-use Rattle.std.proofs.lemmas.Bool.{cases_Bool, cases_eq, eq-eqb, eqb-true, ne_eqb, or_right}
+use Rattle.sweep.proofs.Words.{◌≡◌, ◌≢◌, ◌<◌, ◌≤◌, inl, inr, ℕ, zero, suc, List, [], ◌∷◌, take, eqb, Option, Some, None, Bool, true, false, refl, sym, ap, ◌∙◌, arith, ◌||◌, if◌then◌else◌}
+use Rattle.sweep.proofs.Words.{list_any, cases_Bool, cases_eq, eq-eqb, eqb-true, or_right, Limits, replaced_at, Record, Entry, Stage, Unstamped, Limbo, LimboList, stage_in, stage_of, Agrees}
+use Rattle.sweep.proofs.Words.{AreKept}
+use Rattle.std.proofs.Common.{◌++◌, length, map, get_or}
+use Rattle.std.proofs.Common.{IsTrue}
+use Rattle.std.specs.Prelude.{MatchOption, unwrap_or}
+use Rattle.std.specs.List.{All, AllPairs, Contains}
+use Rattle.std.proofs.lemmas.Bool.{ne_eqb}
 use Rattle.std.proofs.lemmas.List.{get_or-take, get_or_default, length-take-le}
 use Rattle.std.proofs.lemmas.List.Folds.{Any-from_list_any, list_any-append, list_any_at}
 use Rattle.std.proofs.lemmas.List.Kept.{AllPairs-cons}
-use Rattle.tree_limits.specs.declared.limits.Limits.{Limits}
-use Rattle.deltas.specs.Memory.{replaced_at}
 use Rattle.deltas.specs.Records.{next_row}
-use Rattle.deltas.specs.declared.record.Record.{Record}
 use Rattle.traces.specs.chain.Chains.{IsChainFrom, chain_rows}
 use Rattle.traces.specs.discipline.Fitting.{AreOutOfLimbo}
 use Rattle.traces.specs.discipline.Knowledge as known
 use Rattle.traces.specs.discipline.Knowledge.{Knowledge, is_on_walk, taken_out}
-use Rattle.epochs.specs.declared.entry.Entry.{Entry}
-use Rattle.epochs.specs.declared.entry.Stage.{Stage}
-use Rattle.epochs.specs.declared.entry.Stage.TheVariants.{Unstamped, Stamped, Passed}
-use Rattle.epochs.specs.Limbo.{IsNew, Limbo, LimboList, with_entry, stage_in, stage_of}
-use Rattle.sweep.specs.Kept.{Agrees, AreKept}
+use Rattle.epochs.specs.Limbo.{IsNew, with_entry}
 use Rattle.sweep.specs.Taken.{IsTakenOut, fresh, with_rows}
 
 -- whether the row is one of these
@@ -70,8 +66,7 @@ stage_append (e ∷ es) more n = elim (eqb e.number n) as (λ b. (if b then Some
 absent_stage : (limits : Limits) (actor : ℕ) (last : Option ℕ) (stage : Option Stage) → Agrees limits actor last stage known.Absent → stage ≡ None
 absent_stage limits actor last None h = refl
 absent_stage limits actor last (Some Unstamped) h = absurd h
-absent_stage limits actor last (Some (Stamped stamp)) h = absurd h
-absent_stage limits actor last (Some (Passed stamp)) h = absurd h
+absent_stage limits actor last stage h = absurd h
 
 out_of : (entries : List Entry) (n : ℕ) → stage_in entries n ≡ None → list_any (λ (entry : Entry). eqb entry.number n) entries ≡ false
 out_of [] n none = refl
@@ -108,13 +103,13 @@ rest_of : (seen : ℕ → Option Record) (head : ℕ) (chain : List Record) → 
     → (rest : List Record) × IsChainFrom seen row rest × (length rest ≤ length chain)
 rest_of seen head [] is row on = absurd is
 rest_of seen head (x ∷ xs) is row on = elim (cases_eq head row) [
-  | inl same ↦ (x ∷ xs, subst (λ r. IsChainFrom seen r (x ∷ xs)) same is, omega arith)
+  | inl same ↦ (x ∷ xs, rw (← same) is, omega arith)
   | inr other ↦
       let below : is_one (chain_rows (unwrap_or (next_row x) 0) xs) row ≡ true = rw (ne_eqb head row other) at on in
       elim (next_row x) as (λ o. MatchOption o (xs ≡ []) (λ next. IsChainFrom seen next xs) → is_one (chain_rows (unwrap_or o 0) xs) row ≡ true →
       (rest : List Record) × IsChainFrom seen row rest × (length rest ≤ suc (length xs))) [
         | None ↦ λ empty h. absurd (let k : false ≡ true = rw empty at h in cc)
-        | Some next ↦ λ under h. (let rest = rest_of seen next xs under row h in (rest.0, rest.1, (let few = rest.2 in omega (arith, few))))
+        | Some next ↦ λ under h. (let rest = rest_of seen next xs under row h in (rest.0, rest.1, omega arith))
       ] is.1 below
 ]
 
@@ -151,7 +146,7 @@ rows_apart seen one head (x ∷ xs) is some = elim (next_row x) as (λ o. next_r
           let rest = rest_of seen next xs under head on in
           let first : 0 < head = some head (rw (eq-eqb head head refl) refl) in
           let same : rest.0 ≡ x ∷ xs = one head first rest.0 (x ∷ xs) rest.1 is in
-          absurd (let few = rest.2 in let long : length rest.0 ≡ suc (length xs) = ap length same in omega (arith, few, long))
+          absurd (let long : length rest.0 ≡ suc (length xs) = ap length same in omega (arith, long))
     ]
 
 -- the walk has the rows of the chain

@@ -1,4 +1,4 @@
-use Rattle.std.proofs.Common.{arith}
+use Rattle.sweep.proofs.Words.{arith}
 use Rattle.sweep.proofs.examples.other_limbos_are_refused.Goals as goal
 
 pub returns-clause-freed : goal.returns-clause-freed

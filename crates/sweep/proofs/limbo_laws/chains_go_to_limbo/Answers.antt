@@ -1,6 +1,5 @@
-use Rattle.std.proofs.Common.{◌∙◌, ℕ, Option, sym, arith, false}
+use Rattle.sweep.proofs.Words.{◌∙◌, ℕ, Option, sym, arith, false, Record}
 use Rattle.deltas.specs.Memory.{Memory}
-use Rattle.deltas.specs.declared.record.Record.{Record}
 use Rattle.traces.specs.chain.Chains.{chain_rows}
 use Rattle.sweep.proofs.Unlinking.{OneChain, chain_taken, is_on, on_chain, page_taken, walk_rows}
 use Rattle.sweep.proofs.limbo_laws.chains_go_to_limbo.Goals as goal

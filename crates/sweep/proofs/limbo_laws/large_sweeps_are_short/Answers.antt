@@ -1,4 +1,4 @@
-use Rattle.std.proofs.Common.{refl, arith}
+use Rattle.sweep.proofs.Words.{refl, arith}
 use Rattle.sweep.proofs.Short.{begins_few, comes_free, moves_short}
 use Rattle.sweep.proofs.limbo_laws.large_sweeps_are_short.Goals as goal
 

@@ -1,7 +1,6 @@
+use Rattle.sweep.proofs.Words.{stage_of, refl}
 use Rattle.sweep.proofs.Agreeing.{read_agrees}
 use Rattle.sweep.proofs.limbo_laws.limbos_are_kept.Goals as goal
-use Rattle.epochs.specs.Limbo.{stage_of}
-use Rattle.std.proofs.Common.{refl}
 
 pub returns-clause-new : goal.returns-clause-new
 returns-clause-new c = λ limits actor. record { lists = record { rows = refl; pids = refl }; rows = λ row. tt; pids = λ pid. tt }

@@ -1,4 +1,4 @@
-use Rattle.std.proofs.Common.{◌≡◌, take}
+use Rattle.sweep.proofs.Words.{◌≡◌, take}
 use Rattle.sweep.specs.Taken.{with_rows}
 use Rattle.sweep.proofs.taking_out.take_out.Given as goal
 

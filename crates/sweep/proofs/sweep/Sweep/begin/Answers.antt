@@ -1,4 +1,4 @@
-use Rattle.std.proofs.Common.{Some, None, refl}
+use Rattle.sweep.proofs.Words.{Some, None, refl}
 use Rattle.sweep.proofs.Moving.{begins_show}
 use Rattle.sweep.proofs.Sound.{begins_not, begins_sound}
 use Rattle.sweep.proofs.sweep.Sweep.begin.Goals as goal

@@ -1,7 +1,7 @@
-use Rattle.std.proofs.Common.{◌<◌, true, false}
+use Rattle.sweep.proofs.Words.{◌<◌, true, false, IsSameSweep, IsSoundState, Sweep}
 use Rattle.bw_model.specs.Answers.{answer_of}
 use Rattle.sweep.specs.Bounded.{steps_left}
-use Rattle.sweep.specs.Sweeps.{IsSameSweep, IsSoundState, IsSoundSweep, Sweep}
+use Rattle.sweep.specs.Sweeps.{IsSoundSweep}
 use Rattle.sweep.proofs.Moving.{follows}
 use Rattle.sweep.proofs.Sound.{goes_on}
 use Rattle.sweep.proofs.sweep.Sweep.next.Goals as goal
