@@ -1,23 +1,11 @@
 -- What follows from an answer, whatever the state.
-use Rattle.std.proofs.Common.{arith, ◌≤◌, ◌≡◌, ℕ, Bool, true, false, Option, refl, subst}
-use Rattle.tree_limits.specs.declared.limits.Limits.{Limits}
-use Rattle.bw_model.specs.declared.step.Answer.{Answer}
+use Rattle.change_machine.proofs.Words.{arith, ◌≤◌, ◌≡◌, ℕ, Bool, true, false, Option, refl, Limits, Answer, Record, Fits, Knowledge, learn, Change, Follows, IsSameChange, IsSoundChange}
+use Rattle.change_machine.proofs.Words.{IsTarget, Shows, linked_number, needed_from, wanted_step, wanted_at, head_of, needs_pid, slot_of, Moved, decided_by, next_move, whether_in, Spares, End}
+use Rattle.change_machine.proofs.Words.{State, Plan, kind_of, Kind, Pid, Row}
 use Rattle.bw_model.specs.declared.step.Answer.TheVariants as answer
-use Rattle.deltas.specs.declared.record.Record.{Record}
-use Rattle.traces.specs.discipline.Fitting.{Fits}
-use Rattle.traces.specs.discipline.Knowledge.{Knowledge, learn}
-use Rattle.change_machine.specs.Changes.{Change, Follows, IsSameChange, IsSoundChange, IsTarget, Shows, linked_number, needed_from, wanted_step, wanted_at}
-use Rattle.structure_changes.specs.Plans.{head_of, needs_pid, slot_of}
-use Rattle.change_machine.specs.Moves.{Moved, decided_by, next_move, whether_in}
-use Rattle.change_machine.specs.Spares.{Spares}
-use Rattle.change_machine.specs.declared.change.End.{End}
-use Rattle.change_machine.specs.declared.change.State.{State}
 use Rattle.change_machine.specs.declared.change.State.TheVariants as state
-use Rattle.structure_changes.specs.declared.plan.Plan.{Plan}
 use Rattle.change_machine.proofs.Clearing.{cleared_so}
-use Rattle.change_machine.specs.Taking.{kind_of, least_word}
-use Rattle.change_machine.specs.declared.taking.Kind.{Kind}
-use Rattle.change_machine.specs.declared.taking.Kind.TheVariants.{Pid, Row}
+use Rattle.change_machine.specs.Taking.{least_word}
 use Rattle.change_machine.proofs.RowNeeds.{wanted_there}
 use Rattle.change_machine.proofs.Following.{base_placed, lost_bare, lost_ready, may_link, record_placed, slot_set, undone}
 use Rattle.change_machine.proofs.Learning.{went}
@@ -73,4 +61,4 @@ module _ (old new : Change) (had has : Spares) (told : Answer Record) (end : Opt
   follows actor k sound target h fits =
       let at_state = follows_at actor old.limits k old.plan had old.state told (sound_bare old had sound) target (shows_bare actor old had k h) fits in
       follows_bare actor k (learn k (wanted_step old had) told) old told new has end
-      (rw only_state (subst (λ (now : Moved). Follows actor k (learn k (wanted_step old had) told) (bare old) told (bare_at old.limits old.plan now.state) now.spares now.end) is at_state))
+      (rw only_state (rw is at at_state))

@@ -1,19 +1,11 @@
 -- A change in the first state of its plan has begun.
-use Rattle.std.proofs.Common.{◌≡◌, ◌≤◌, ℕ, ap, ◌∙◌, sym, subst, refl}
-use Rattle.tree_limits.specs.declared.limits.Limits.{Limits}
-use Rattle.traces.specs.discipline.Knowledge.{Knowledge}
-use Rattle.deltas.specs.declared.record.Record.{Record}
-use Rattle.structure_changes.specs.declared.plan.Plan.{Plan}
-use Rattle.structure_changes.specs.declared.plan.Plan.TheVariants.{Install}
+use Rattle.change_machine.proofs.Words.{◌≡◌, ◌≤◌, ℕ, ap, ◌∙◌, sym, subst, refl, Limits, Record, Plan, Install, Change, IsSoundChange, IsTarget, first_state, HaveRoom, Spares, State}
 use Rattle.change_machine.specs.Begun.{HasBegun}
 use Rattle.change_machine.specs.Bounded.{Recalls, few_steps, steps_left}
-use Rattle.change_machine.specs.Changes.{Change, IsMade, IsMadeAt, IsSoundChange, IsTarget, Shows, has_decided}
-use Rattle.change_machine.specs.Moves.{first_state}
-use Rattle.change_machine.specs.Spares.{HaveRoom, Spares}
-use Rattle.change_machine.specs.declared.change.State.{State}
-use Rattle.change_machine.specs.declared.change.State.TheVariants.{Taking, Base, Ready, Place, Link, Undo, Clear}
+use Rattle.change_machine.specs.Changes.{IsMade, IsMadeAt, has_decided}
+use Rattle.change_machine.specs.declared.change.State.TheVariants.{Base, Place}
 use Rattle.change_machine.proofs.Deciding.{first_open}
-use Rattle.change_machine.proofs.Making.{bare, bare_at}
+use Rattle.change_machine.proofs.Making.{bare, bare_at, shows_of_bare}
 use Rattle.change_machine.proofs.Sound.{first_sound}
 use Rattle.change_machine.proofs.Spending.{few_first, recalls_first}
 use Rattle.change_machine.proofs.Taken.{shows_first}
@@ -22,19 +14,16 @@ use Rattle.change_machine.proofs.Taken.{shows_first}
 is_bare : (change : Change) (limits : Limits) (plan : Plan) (state : State) → change.limits ≡ limits → change.plan ≡ plan → change.state ≡ state → bare_at limits plan state ≡ bare change
 is_bare change limits plan state l p s = λ i. bare_at (sym l i) (sym p i) (sym s i)
 
-shows_bare_of : (actor : ℕ) (change : Change) (spares : Spares) (k : Knowledge) → Shows actor (bare change) spares k → Shows actor change spares k
-shows_bare_of actor change spares k h = record { may = h.may; keeps = h.keeps; are = h.are; stands = h.stands }
-
 pub begun : (change : Change) (limits : Limits) (plan : Plan) (spares : Spares) → change.limits ≡ limits → change.plan ≡ plan → change.state ≡ first_state limits plan spares
     → IsMade change spares → HaveRoom limits spares → IsTarget limits plan → HasBegun limits plan spares change
 begun change limits plan spares l p s made room target =
     let is = is_bare change limits plan (first_state limits plan spares) l p s in
     let first : IsSoundChange (bare_at limits plan (first_state limits plan spares)) spares = record { room = room; state = first_sound limits plan spares target } in
-    let sound = subst (λ change. IsSoundChange change spares) is first in
+    let sound = rw is at first in
     record {
       limits = l;
       plan = p;
-      shows = λ actor k may keeps rest. shows_bare_of actor change spares k (subst (λ change. Shows actor change spares k) is (shows_first actor limits k plan spares may keeps rest.are rest.unset));
+      shows = λ actor k may keeps rest. shows_of_bare actor change spares k (rw (← is) (shows_first actor limits k plan spares may keeps rest.are rest.unset));
       sound = record { room = sound.room; state = sound.state };
       made = made;
       recalls = λ r head apart.
@@ -46,10 +35,6 @@ begun change limits plan spares l p s made room target =
 
 -- what a plan has as it is, is made
 pub made_there : (pid head : ℕ) (content made : Record) (spares : Spares) (state : State) → IsMadeAt (Install pid head content) made spares state
-made_there pid head content made spares (Taking taking) = tt
 made_there pid head content made spares Base = refl
-made_there pid head content made spares Ready = tt
 made_there pid head content made spares Place = refl
-made_there pid head content made spares Link = tt
-made_there pid head content made spares Undo = tt
-made_there pid head content made spares Clear = tt
+made_there pid head content made spares state = tt

@@ -1,18 +1,9 @@
 -- A page whose term is out is cleared.
-use Rattle.std.proofs.Common.{◌≡◌, ◌<◌, ℕ, zero, suc, true, inr, refl, arith}
-use Rattle.tree_limits.specs.declared.limits.Limits.{Limits}
-use Rattle.bw_model.specs.declared.step.Answer.{Answer}
-use Rattle.deltas.specs.declared.record.Record.{Record}
-use Rattle.traces.specs.discipline.Discipline.{MayExchange}
-use Rattle.traces.specs.discipline.Fitting.{Fits}
-use Rattle.traces.specs.discipline.Knowledge.{Knowledge, Other, Gone, learn}
-use Rattle.change_machine.specs.Changes.{Change, ChangeIsOver, IsSoundChange, IsTarget, Shows, wanted_at}
-use Rattle.structure_changes.specs.Plans.{cleared_page, cleared_row, clears}
-use Rattle.change_machine.specs.Spares.{AreUnset, Spares}
+use Rattle.change_machine.proofs.Words.{◌≡◌, ◌<◌, ℕ, zero, suc, true, inr, refl, arith, Limits, Answer, Record, MayExchange, Fits, Knowledge, Other, Gone, learn, Change, ChangeIsOver}
+use Rattle.change_machine.proofs.Words.{IsSoundChange, IsTarget, Shows, wanted_at, clears, AreUnset, Spares, Plan, Unlink}
+use Rattle.structure_changes.specs.Plans.{cleared_page, cleared_row}
 use Rattle.change_machine.specs.declared.change.End.TheVariants as end
 use Rattle.change_machine.specs.declared.change.State.TheVariants as state
-use Rattle.structure_changes.specs.declared.plan.Plan.{Plan}
-use Rattle.structure_changes.specs.declared.plan.Plan.TheVariants.{Install, Split, Root, Unlink}
 use Rattle.change_machine.proofs.Learning.{clear_went, cleared_learnt}
 use Rattle.change_machine.proofs.SpareLaws.{page_gone}
 use Rattle.change_machine.proofs.Winning.{kept_apart, unset_gone}
@@ -26,10 +17,8 @@ may_clear actor k (suc page) (suc row) p r e = inr e
 
 -- a page that is to be cleared, and its row, are above 0
 pub some_page : (limits : Limits) (plan : Plan) → clears plan ≡ true → IsTarget limits plan → (0 < cleared_page plan) × (0 < cleared_row plan)
-some_page limits (Install pid head content) is target = cc
-some_page limits (Split pid plan) is target = cc
-some_page limits (Root left root) is target = cc
 some_page limits (Unlink pid head unterm removal) is target = (target.1.0, target.2)
+some_page limits plan is target = cc
 
 -- a change that is to clear a page may do so
 pub may_end : (actor : ℕ) (change : Change) (spares : Spares) (k : Knowledge) → change.state ≡ state.Clear → IsSoundChange change spares
@@ -46,9 +35,6 @@ module _ (actor : ℕ) (limits : Limits) (k : Knowledge) (spares : Spares) where
   pub cleared_so : (plan : Plan) (told : Answer Record) → clears plan ≡ true → IsTarget limits plan → Shows actor (bare_at limits plan state.Clear) spares k
       → Fits limits k (wanted_at limits plan spares state.Clear) told
       → ChangeIsOver k (learn k (wanted_at limits plan spares state.Clear) told) (bare_at limits plan state.Clear) told spares end.Won
-  cleared_so (Install pid head content) told is target h fits = cc
-  cleared_so (Split pid plan) told is target h fits = cc
-  cleared_so (Root left root) told is target h fits = cc
   cleared_so (Unlink pid head unterm removal) told is target h fits =
       let page = target.1.0 in
       let is_told = clear_went k limits unterm.child removal told page target.2 h.stands.1 h.may.links.1 fits in
@@ -60,3 +46,4 @@ module _ (actor : ℕ) (limits : Limits) (k : Knowledge) (spares : Spares) where
         };
         decided = (refl, refl);
       })
+  cleared_so plan told is target h fits = cc

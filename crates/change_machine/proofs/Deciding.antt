@@ -1,37 +1,21 @@
 -- By which step a change comes to its end, or to where its exchange was taken.
-use Rattle.std.proofs.Common.{◌≡◌, inl, inr, Bool, true, false, Option, None, Some, refl, sym, ap, subst, ◌∙◌}
-use Rattle.std.specs.Prelude.{if◌then◌else◌, ◌&&◌, ◌/◌, not, is_some}
-use Rattle.tree_limits.specs.declared.limits.Limits.{Limits}
-use Rattle.bw_model.specs.declared.step.Answer.{Answer}
-use Rattle.deltas.specs.declared.record.Record.{Record}
-use Rattle.structure_changes.specs.Plans.{clears, head_of, needs_pid}
-use Rattle.structure_changes.specs.declared.plan.Plan.{Plan}
-use Rattle.structure_changes.specs.declared.plan.Plan.TheVariants.{Install, Split, Root, Unlink}
+use Rattle.change_machine.proofs.Words.{◌≡◌, inl, inr, Bool, true, false, None, Some, refl, sym, ◌∙◌, if◌then◌else◌, ◌&&◌, not, is_some, Limits, Answer, Record, clears, head_of, needs_pid}
+use Rattle.change_machine.proofs.Words.{Plan, Install, Moved, after_ready, after_taking, decided_by, first_state, has_rows, moved_by, next_move, spares_left, wanted_from, whether_in}
+use Rattle.change_machine.proofs.Words.{with_number, Spares, begun_at, found_after, State, Found, Pid, Row}
+use Rattle.std.specs.Prelude.{◌/◌}
 use Rattle.change_machine.specs.Changes.{CanDecide, EndsByDeciding, has_decided}
-use Rattle.change_machine.specs.Moves.{Moved, after_ready, after_taking, decided_by, first_state, has_rows, moved_by, next_move, spares_left, wanted_from, whether_in, with_number}
-use Rattle.change_machine.specs.Spares.{Spares}
-use Rattle.change_machine.specs.Taking.{begun_at, found_after}
-use Rattle.change_machine.specs.declared.change.End.{End}
 use Rattle.change_machine.specs.declared.change.End.TheVariants as end
-use Rattle.change_machine.specs.declared.change.State.{State}
 use Rattle.change_machine.specs.declared.change.State.TheVariants.{Taking, Base, Ready, Place, Link, Undo, Clear}
-use Rattle.change_machine.specs.declared.taking.Found.{Found}
 use Rattle.change_machine.specs.declared.taking.Found.TheVariants as found
-use Rattle.change_machine.specs.declared.taking.Kind.{Kind}
-use Rattle.change_machine.specs.declared.taking.Kind.TheVariants.{Pid, Row}
 use Rattle.change_machine.specs.declared.taking.Taking.{Taking as TakingOf}
 
 after_open : (plan : Plan) → has_decided (after_taking plan) ≡ false
 after_open (Install pid head content) = refl
-after_open (Split pid plan) = refl
-after_open (Root left root) = refl
-after_open (Unlink pid head unterm removal) = refl
+after_open plan = refl
 
 ready_open : (plan : Plan) → has_decided (after_ready plan) ≡ false
 ready_open (Install pid head content) = refl
-ready_open (Split pid plan) = refl
-ready_open (Root left root) = refl
-ready_open (Unlink pid head unterm removal) = refl
+ready_open plan = refl
 
 either_open : (b c : Bool) (one two : TakingOf) (rest : State) → has_decided rest ≡ false → has_decided (if b then Taking one else if c then rest else Taking two) ≡ false
 either_open true c one two rest opens = refl

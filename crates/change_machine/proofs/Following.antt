@@ -1,34 +1,28 @@
 -- What each answer leaves a change in.
-use Rattle.std.proofs.Common.{◌≡◌, ◌<◌, ◌≤◌, ◌∙◌, ◌==◌, ◌-◌, inl, inr, ℕ, zero, suc, List, [], ◌∷◌, length, Bool, true, false, Option, Some, None, refl, sym, ap, subst, arith}
-use Rattle.std.specs.Prelude.{is_some, unwrap_or}
-use Rattle.std.proofs.lemmas.Bool.{cases_eq, eq-eqb}
-use Rattle.tree_limits.specs.declared.limits.Limits.{Limits}
-use Rattle.bw_model.specs.declared.step.Answer.{Answer}
+use Rattle.change_machine.proofs.Words.{◌≡◌, ◌<◌, ◌≤◌, ◌∙◌, inl, inr, ℕ, zero, suc, List, [], ◌∷◌, length, Bool, true, false, Option, Some, None, refl, sym, ap, subst, arith, is_some, cases_eq}
+use Rattle.change_machine.proofs.Words.{Limits, Answer, replaced_at, Record, MayExchange, Fits, ReadsRemoved, Belongings, Knowledge, OwnPage, OwnRow, Written, Empty, learn, split_to, AreEnough}
+use Rattle.change_machine.proofs.Words.{Change, IsLike, ChangeIsOver, IsPlaced, StandsReady, IsSoundChange, IsTarget, KeepsSpare, MayChange, Shows, linked_number, split_row, wanted_at, head_of}
+use Rattle.change_machine.proofs.Words.{needs_pid, rows_needed, slot_of, after_ready, AreTheSpares, AreUnset, HaveRoom, IsUnlinked, Spares, last_row, pid_of, State, Plan, Kind, Install, Root}
+use Rattle.change_machine.proofs.Words.{Unlink, replaced_same, replaced_other}
+use Rattle.std.proofs.Common.{◌==◌}
+use Rattle.std.specs.Prelude.{unwrap_or}
+use Rattle.std.proofs.lemmas.Bool.{eq-eqb}
 use Rattle.bw_model.specs.declared.step.Answer.TheVariants as answer
-use Rattle.deltas.specs.Memory.{replaced_at}
-use Rattle.deltas.specs.declared.record.Record.{Record}
 use Rattle.deltas.specs.declared.record.Record.TheVariants as kind
 use Rattle.deltas.specs.Spellable.{IsPid}
-use Rattle.traces.specs.discipline.Discipline.{IsOwn, IsOwnBase, IsUnset, MayExchange}
-use Rattle.traces.specs.discipline.Fitting.{Fits, ReadsRemoved}
-use Rattle.traces.specs.discipline.Knowledge.{Belongings, Knowledge, OwnPage, OwnRow, Written, Empty, Ready, learn, set_page}
-use Rattle.structure_changes.specs.Splits.{split_to}
-use Rattle.change_machine.specs.Changes.{AreEnough, Change, ChangesOn, IsLike, ChangeIsOver, IsPlaced, StandsReady, IsSoundChange, IsTarget, KeepsSpare}
-use Rattle.change_machine.specs.Changes.{MayChange, MayInstall, MayLinkAs, Shows, ShowsState, base_row, linked_after, linked_number, record_row, split_base_row, split_row, wanted_at}
-use Rattle.structure_changes.specs.Plans.{head_of, needs_pid, new_base, new_record, rows_needed, slot_of}
-use Rattle.change_machine.specs.Moves.{after_ready}
-use Rattle.change_machine.specs.Spares.{AreSpare, AreTheSpares, AreUnset, HaveRoom, IsUnlinked, Spares, last_of, last_row, pid_of, second_of}
+use Rattle.traces.specs.discipline.Discipline.{IsOwn, IsOwnBase, IsUnset}
+use Rattle.traces.specs.discipline.Knowledge.{Ready, set_page}
+use Rattle.change_machine.specs.Changes.{ChangesOn}
+use Rattle.change_machine.specs.Changes.{MayInstall, MayLinkAs, ShowsState, base_row, linked_after, record_row, split_base_row}
+use Rattle.structure_changes.specs.Plans.{new_base, new_record}
+use Rattle.change_machine.specs.Spares.{AreSpare, last_of, second_of}
 use Rattle.change_machine.specs.declared.change.End.TheVariants as end
-use Rattle.change_machine.specs.declared.change.State.{State}
 use Rattle.change_machine.specs.declared.change.State.TheVariants as state
-use Rattle.structure_changes.specs.declared.plan.Plan.{Plan}
-use Rattle.change_machine.specs.declared.taking.Kind.{Kind}
-use Rattle.structure_changes.specs.declared.plan.Plan.TheVariants.{Install, Split, Root, Unlink}
+use Rattle.structure_changes.specs.declared.plan.Plan.TheVariants.{Split}
 use Rattle.change_machine.proofs.Learning.{empty_page, ready_learnt, ready_went, undo_went, undone_learnt}
 use Rattle.change_machine.proofs.SpareLaws.{apart, page_moved, row_placed}
 use Rattle.change_machine.proofs.Making.{bare_at}
 use Rattle.change_machine.proofs.RowNeeds.{last_behind, second_behind}
-use Rattle.deltas.proofs.Replaced.{replaced_same, replaced_other}
 
 pub like_self : (k : Knowledge) → IsLike k.asked.linked k k
 like_self k = record { inside = refl; read = refl; command = refl; linked_now = refl }
@@ -61,9 +55,7 @@ still_may actor k now plan like may = record { inside = like.inside ∙ may.insi
 -- a change that has not won has linked nothing
 pub unlinked : (plan : Plan) (linked : Option (Option ℕ)) → (linked_after plan end.Lost linked ≡ linked) × ((which : Kind) → linked_after plan (end.Full which) linked ≡ linked)
 unlinked (Install pid head content) linked = (refl, λ which. refl)
-unlinked (Split pid plan) linked = (refl, λ which. refl)
-unlinked (Root left root) linked = (refl, λ which. refl)
-unlinked (Unlink pid head unterm removal) linked = (refl, λ which. refl)
+unlinked plan linked = (refl, λ which. refl)
 
 -- ---- the spares that a plan uses
 pub some_pid : (pid : Option ℕ) → is_some pid ≡ true → pid ≡ Some (unwrap_or pid 0)
@@ -126,19 +118,15 @@ module _ (actor : ℕ) (limits : Limits) (k : Knowledge) (plan : Plan) (spares :
   record_is = by_plan plan enough.rows
     where
       by_plan : (plan : Plan) → rows_needed plan ≤ length spares.rows → IsOwn (k.own.rows (record_row limits plan spares)) × (0 < record_row limits plan spares)
-      by_plan (Install pid head content) some = own_last k.own.rows spares.rows some are.rows
       by_plan (Split pid plan) some = split_own limits.is_large k.own.rows spares (omega (arith, some)) are.rows
-      by_plan (Root left root) some = own_last k.own.rows spares.rows some are.rows
-      by_plan (Unlink pid head unterm removal) some = own_last k.own.rows spares.rows some are.rows
+      by_plan plan some = own_last k.own.rows spares.rows some are.rows
 
   base_is : IsOwn (k.own.rows (base_row limits plan spares)) × (0 < base_row limits plan spares)
   base_is = by_plan plan enough.rows
     where
       by_plan : (plan : Plan) → rows_needed plan ≤ length spares.rows → IsOwn (k.own.rows (base_row limits plan spares)) × (0 < base_row limits plan spares)
-      by_plan (Install pid head content) some = own_last k.own.rows spares.rows some are.rows
       by_plan (Split pid plan) some = split_base_own limits.is_large k.own.rows spares (omega (arith, some)) are.rows
-      by_plan (Root left root) some = own_last k.own.rows spares.rows some are.rows
-      by_plan (Unlink pid head unterm removal) some = own_last k.own.rows spares.rows some are.rows
+      by_plan plan some = own_last k.own.rows spares.rows some are.rows
 
   pid_is : needs_pid plan ≡ true → spares.pid ≡ Some (pid_of spares)
   pid_is needs = some_pid spares.pid (enough.pid needs)

@@ -1,17 +1,12 @@
 -- What an exchange that was answered leaves known, and what its answer may be.
-use Rattle.std.proofs.Common.{◌≡◌, ◌<◌, ◌∙◌, ℕ, zero, suc, true, refl, sym, ap, subst, arith}
-use Rattle.tree_limits.specs.declared.limits.Limits.{Limits}
-use Rattle.bw_model.specs.declared.step.Answer.{Answer}
+use Rattle.change_machine.proofs.Words.{◌≡◌, ◌<◌, ◌∙◌, ℕ, zero, suc, true, refl, sym, ap, arith, Limits, Answer, Record, MayExchange, Fits, ReadsRemoved, Knowledge, OwnPage, OwnRow, Foreign}
+use Rattle.change_machine.proofs.Words.{Written, Other, Empty, Gone, linked_over, whether_in, AreUnset, IsUnlinked}
 use Rattle.bw_model.specs.declared.step.Answer.TheVariants as answer
 use Rattle.bw_model.specs.declared.step.Step.TheVariants as step
-use Rattle.deltas.specs.declared.record.Record.{Record}
 use Rattle.deltas.specs.declared.record.Record.TheVariants as kind
 use Rattle.deltas.specs.declared.record.Split.{Split}
-use Rattle.traces.specs.discipline.Discipline.{MayExchange, MayLink}
-use Rattle.traces.specs.discipline.Fitting.{AreOutOfLimbo, Fits, ReadsRemoved}
-use Rattle.traces.specs.discipline.Knowledge.{Absent, Knowledge, OwnPage, OwnRow, Foreign, Taken, Written, Other, Empty, Ready, Gone, after_clear, after_exchange, handed_page, linked_over, set_page}
-use Rattle.change_machine.specs.Moves.{whether_in}
-use Rattle.change_machine.specs.Spares.{AreUnset, IsUnlinked}
+use Rattle.traces.specs.discipline.Fitting.{AreOutOfLimbo}
+use Rattle.traces.specs.discipline.Knowledge.{Absent, Taken, Ready, after_clear, after_exchange, handed_page, set_page}
 
 -- an own page is empty where its slot isn't set
 pub empty_page : (o : OwnPage) → IsUnlinked o → ((row : ℕ) → o ≡ Ready row → ⊥) → o ≡ Empty
@@ -46,10 +41,7 @@ module _ (k : Knowledge) where
   module _ (limits : Limits) where
     pub went : (slot old new : ℕ) (told : Answer Record) → Fits limits k (step.Exchange slot old new) told → told ≡ answer.Whether (whether_in told)
     went slot old new (answer.Whether b) fits = refl
-    went slot old new answer.Start fits = absurd fits
-    went slot old new (answer.Number n) fits = absurd fits
-    went slot old new (answer.Content content) fits = absurd fits
-    went slot old new answer.Done fits = absurd fits
+    went slot old new told fits = absurd fits
 
     pub ready_went : (page row : ℕ) (told : Answer Record) → 0 < page → Fits limits k (step.Exchange page 0 row) told → told ≡ answer.Whether true
     ready_went page row (answer.Whether b) p fits = ap answer.Whether (set page p fits)
@@ -57,10 +49,7 @@ module _ (k : Knowledge) where
         set : (page : ℕ) → 0 < page → Fits limits k (step.Exchange page 0 row) (answer.Whether b) → b ≡ true
         set zero p fits = absurd (omega (arith, p))
         set (suc page) p fits = fits
-    ready_went page row answer.Start p fits = absurd fits
-    ready_went page row (answer.Number n) p fits = absurd fits
-    ready_went page row (answer.Content content) p fits = absurd fits
-    ready_went page row answer.Done p fits = absurd fits
+    ready_went page row told p fits = absurd fits
 
     pub undo_went : (page row : ℕ) (told : Answer Record) → 0 < page → 0 < row → k.own.pages page ≡ Ready row → Fits limits k (step.Exchange page row 0) told → told ≡ answer.Whether true
     undo_went page row (answer.Whether b) p r e fits = ap answer.Whether (undone page row p r e fits)
@@ -69,10 +58,7 @@ module _ (k : Knowledge) where
         undone zero row p r e fits = absurd (omega (arith, p))
         undone (suc page) zero p r e fits = absurd (omega (arith, r))
         undone (suc page) (suc row) p r e fits = fits.0 e
-    undo_went page row answer.Start p r e fits = absurd fits
-    undo_went page row (answer.Number n) p r e fits = absurd fits
-    undo_went page row (answer.Content content) p r e fits = absurd fits
-    undo_went page row answer.Done p r e fits = absurd fits
+    undo_went page row told p r e fits = absurd fits
 
     pub clear_went : (page row : ℕ) (told : Answer Record) → 0 < page → 0 < row → k.own.pages page ≡ Gone → ReadsRemoved k page row
         → Fits limits k (step.Exchange page row 0) told → told ≡ answer.Whether true
@@ -82,10 +68,7 @@ module _ (k : Knowledge) where
         gone zero row p r e read fits = absurd (omega (arith, p))
         gone (suc page) zero p r e read fits = absurd (omega (arith, r))
         gone (suc page) (suc row) p r e read fits = fits.1 e read
-    clear_went page row answer.Start p r e read fits = absurd fits
-    clear_went page row (answer.Number n) p r e read fits = absurd fits
-    clear_went page row (answer.Content content) p r e read fits = absurd fits
-    clear_went page row answer.Done p r e read fits = absurd fits
+    clear_went page row told p r e read fits = absurd fits
 
     -- what is taken out was in no limbo
     pub clear_fresh : (page row : ℕ) → 0 < page → 0 < row → k.own.pages page ≡ Gone → Fits limits k (step.Exchange page row 0) (answer.Whether true)
@@ -121,5 +104,5 @@ no_split actor k (suc page) zero new split p o n may e bare = absurd (omega (ari
 no_split actor k (suc page) (suc old) zero split p o n may e bare = absurd (omega (arith, n))
 no_split actor k (suc page) (suc old) (suc new) split p o n may e bare =
     let is : may.content ≡ kind.Split split = ap (content_in_row may.content) (sym may.placed ∙ e) in
-    let due = subst (λ (content : Record). MayLink actor k (suc page) (suc old) may.basis.chain content) is may.due in
+    let due = rw is at may.due in
     bare due.right due.row due.ready

@@ -1,18 +1,8 @@
 -- What a change has made to be placed is of no matter to anything but the placing.
-use Rattle.std.proofs.Common.{ℕ, Option, Some, None}
-use Rattle.tree_limits.specs.declared.limits.Limits.{Limits}
-use Rattle.bw_model.specs.declared.step.Answer.{Answer}
-use Rattle.deltas.specs.declared.record.Record.{Record}
+use Rattle.change_machine.proofs.Words.{ℕ, Option, None, Limits, Answer, Record, Knowledge, Change, Follows, IsSoundChange, Shows, Spares, End, State, Plan}
 use Rattle.deltas.specs.declared.record.Record.TheVariants as kind
-use Rattle.traces.specs.discipline.Knowledge.{Knowledge}
 use Rattle.traces.specs.discipline.Recalled.{Recalled}
 use Rattle.change_machine.specs.Bounded.{SpendsTo}
-use Rattle.change_machine.specs.Changes.{Change, Follows, IsSoundChange, Shows}
-use Rattle.change_machine.specs.Spares.{Spares}
-use Rattle.change_machine.specs.declared.change.End.{End}
-use Rattle.change_machine.specs.declared.change.End.TheVariants.{Won, Lost, Full}
-use Rattle.change_machine.specs.declared.change.State.{State}
-use Rattle.structure_changes.specs.declared.plan.Plan.{Plan}
 
 -- a change that has made nothing
 abbrev pub bare_at : Limits → Plan → State → Change
@@ -27,16 +17,15 @@ sound_bare change spares h = record { room = h.room; state = h.state }
 pub shows_bare : (actor : ℕ) (change : Change) (spares : Spares) (k : Knowledge) → Shows actor change spares k → Shows actor (bare change) spares k
 shows_bare actor change spares k h = record { may = h.may; keeps = h.keeps; are = h.are; stands = h.stands }
 
+pub shows_of_bare : (actor : ℕ) (change : Change) (spares : Spares) (k : Knowledge) → Shows actor (bare change) spares k → Shows actor change spares k
+shows_of_bare actor change spares k h = record { may = h.may; keeps = h.keeps; are = h.are; stands = h.stands }
+
 pub follows_bare : (actor : ℕ) (k now : Knowledge) (old : Change) (told : Answer Record) (new : Change) (has : Spares) (end : Option End)
     → Follows actor k now (bare old) told (bare new) has end → Follows actor k now old told new has end
-follows_bare actor k now old told new has None h = record { shows = record { may = h.shows.may; keeps = h.shows.keeps; are = h.shows.are; stands = h.shows.stands }; like = h.like }
-follows_bare actor k now old told new has (Some Won) h = record { like = h.like; rest = h.rest; decided = h.decided }
-follows_bare actor k now old told new has (Some Lost) h = record { like = h.like; rest = h.rest; decided = h.decided }
-follows_bare actor k now old told new has (Some (Full which)) h = record { like = h.like; rest = h.rest; decided = h.decided }
+follows_bare actor k now old told new has None h = record { shows = shows_of_bare actor new has now h.shows; like = h.like }
+follows_bare actor k now old told new has end h = record { like = h.like; rest = h.rest; decided = h.decided }
 
 pub spends_bare : (after : ℕ) (r : Recalled) (old : Change) (had : Spares) (told : Answer Record) (new : Change) (has : Spares) (end : Option End)
     → SpendsTo after r (bare old) had told (bare new) has end → SpendsTo after r old had told new has end
 spends_bare after r old had told new has None h = (record { at = h.0.at; apart = h.0.apart }, h.1)
-spends_bare after r old had told new has (Some Won) h = h
-spends_bare after r old had told new has (Some Lost) h = h
-spends_bare after r old had told new has (Some (Full which)) h = h
+spends_bare after r old had told new has end h = h

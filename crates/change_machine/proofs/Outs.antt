@@ -1,30 +1,16 @@
 -- What a change takes out of the tree, whatever the answer.
-use Rattle.std.proofs.Common.{◌≡◌, ◌<◌, ℕ, Bool, true, false, Option, refl, subst}
-use Rattle.tree_limits.specs.declared.limits.Limits.{Limits}
-use Rattle.bw_model.specs.declared.step.Answer.{Answer}
+use Rattle.change_machine.proofs.Words.{◌≡◌, ◌<◌, ℕ, Bool, true, false, Option, refl, Limits, Answer, Record, Fits, Knowledge, OwnPage, Other, Written, learn, linked_over, split_to, Change}
+use Rattle.change_machine.proofs.Words.{IsPlaced, IsSoundChange, IsTarget, Shows, StandsReady, linked_number, split_row, wanted_step, wanted_at, clears, head_of, slot_of, next_move, moved_by}
+use Rattle.change_machine.proofs.Words.{whether_in, Spares, last_row, pid_of, found_after, wanted_number, End, State, Plan, Install, Root, Unlink, Found, Not, Pid, Row, Bits, Take}
 use Rattle.bw_model.specs.declared.step.Answer.TheVariants as answer
 use Rattle.bw_model.specs.declared.step.Step.TheVariants as step
-use Rattle.deltas.specs.declared.record.Record.{Record}
 use Rattle.deltas.specs.declared.record.Record.TheVariants as kind
-use Rattle.traces.specs.discipline.Fitting.{Fits}
-use Rattle.traces.specs.discipline.Knowledge.{Knowledge, OwnPage, Other, Empty, Ready, Gone, Written, after_exchange, learn, linked_over, split_off}
-use Rattle.structure_changes.specs.Splits.{split_to}
-use Rattle.change_machine.specs.Changes.{Change, IsPlaced, IsSoundChange, IsTarget, Shows, StandsReady, linked_number, record_row, split_row, wanted_step, wanted_at}
-use Rattle.structure_changes.specs.Plans.{clears, head_of, slot_of}
-use Rattle.change_machine.specs.Moves.{Moved, next_move, moved_by, whether_in}
+use Rattle.traces.specs.discipline.Knowledge.{after_exchange, split_off}
+use Rattle.change_machine.specs.Changes.{record_row}
 use Rattle.change_machine.specs.Outs.{IsFreshOver, TakesFresh, limbo_after, limbo_over}
-use Rattle.change_machine.specs.Spares.{Spares, last_row, pid_of}
-use Rattle.change_machine.specs.Taking.{found_after, wanted_number}
-use Rattle.change_machine.specs.declared.change.End.{End}
-use Rattle.change_machine.specs.declared.change.State.{State}
 use Rattle.change_machine.specs.declared.change.State.TheVariants as state
-use Rattle.structure_changes.specs.declared.plan.Plan.{Plan}
-use Rattle.structure_changes.specs.declared.plan.Plan.TheVariants.{Install, Split, Root, Unlink}
-use Rattle.change_machine.specs.declared.taking.Found.{Found}
-use Rattle.change_machine.specs.declared.taking.Found.TheVariants.{Not, Taken, Full}
-use Rattle.change_machine.specs.declared.taking.Kind.TheVariants.{Pid, Row}
+use Rattle.structure_changes.specs.declared.plan.Plan.TheVariants.{Split}
 use Rattle.change_machine.specs.declared.taking.Taking.{Taking}
-use Rattle.change_machine.specs.declared.taking.Taking.TheVariants.{Bits, Take}
 use Rattle.change_machine.proofs.Following.{record_is, set_learnt, undo_learnt}
 use Rattle.change_machine.proofs.Learning.{clear_fresh, clear_went, cleared_learnt, over_fresh, over_learnt, over_other, rooted_learnt, went}
 use Rattle.change_machine.proofs.Making.{bare_at, shows_bare, sound_bare}
@@ -136,5 +122,4 @@ module _ (old new : Change) (had has : Spares) (told : Answer Record) (end : Opt
   pub outs : (actor : ℕ) (k : Knowledge) → IsSoundChange old had → IsTarget old.limits old.plan → Shows actor old had k → Fits old.limits k (wanted_step old had) told
       → TakesOut old.limits k (learn k (wanted_step old had) told) old.plan end
   outs actor k sound target h fits =
-      subst (λ (now : Moved). TakesOut old.limits k (learn k (wanted_step old had) told) old.plan now.end) is
-      (outs_at actor old.limits k had old.plan old.state told (sound_bare old had sound) target (shows_bare actor old had k h) fits)
+      rw is at (outs_at actor old.limits k had old.plan old.state told (sound_bare old had sound) target (shows_bare actor old had k h) fits)

@@ -1,8 +1,7 @@
 -- What is planned may be linked once it is placed.
-use Rattle.std.proofs.Common.{◌≡◌, ◌<◌, ◌∙◌, ℕ, zero, suc, false, ap, arith}
+use Rattle.change_machine.proofs.Words.{◌≡◌, ◌<◌, ◌∙◌, ℕ, zero, suc, false, ap, arith, Record, MayExchange, ReadsRemoved, Knowledge, Written, split_to, IsLike}
 use Rattle.bw_model.specs.Log.{Update, set, unset}
 use Rattle.base_page.specs.Pages.{Page}
-use Rattle.deltas.specs.declared.record.Record.{Record}
 use Rattle.deltas.specs.declared.record.Record.TheVariants as kind
 use Rattle.deltas.specs.declared.record.Hold.{Hold}
 use Rattle.deltas.specs.declared.record.Merge.{Merge}
@@ -10,16 +9,15 @@ use Rattle.deltas.specs.declared.record.Remove.{Remove}
 use Rattle.deltas.specs.declared.record.Term.{Term}
 use Rattle.deltas.specs.declared.record.Unterm.{Unterm}
 use Rattle.traces.specs.chain.Chains.{is_removed}
-use Rattle.traces.specs.discipline.Discipline.{FitsOn, IsUnset, MayAdd, MayConsolidate, MayExchange, MayHold, MayLink, MayMerge, MayPost, MayRemove, MaySplit, MayUnterm, MayUpdate, update_record}
-use Rattle.traces.specs.discipline.Fitting.{ReadsRemoved}
-use Rattle.traces.specs.discipline.Knowledge.{Knowledge, Ready, Written}
+use Rattle.traces.specs.discipline.Discipline.{FitsOn, IsUnset, MayAdd, MayConsolidate, MayHold, MayLink, MayMerge, MayPost, MayRemove, MaySplit, MayUnterm, MayUpdate, update_record}
+use Rattle.traces.specs.discipline.Knowledge.{Ready}
 use Rattle.structure_changes.specs.declared.split.SplitPlan.{SplitPlan}
 use Rattle.structure_changes.specs.Versions.{Version}
 use Rattle.structure_changes.specs.Readings.{HasSeen, IsAfter}
-use Rattle.structure_changes.specs.Splits.{IsSplitPlan, split_to}
+use Rattle.structure_changes.specs.Splits.{IsSplitPlan}
 use Rattle.structure_changes.specs.Terms.{IsTermPlan}
 use Rattle.structure_changes.specs.Unterms.{IsUntermPlan}
-use Rattle.change_machine.specs.Changes.{IsLike, MayDivide, MayInstall}
+use Rattle.change_machine.specs.Changes.{MayDivide, MayInstall}
 
 -- over a page's row a row is added
 added : (actor : ℕ) (k : Knowledge) (page old new : ℕ) → 0 < page → 0 < old → 0 < new → MayAdd actor k page old new → MayExchange actor k page old new

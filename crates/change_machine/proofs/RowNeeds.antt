@@ -1,18 +1,13 @@
 -- Which rows a plan needs, and what the ones that are taken for it come to.
-use Rattle.std.proofs.Common.{◌≡◌, ◌<◌, ◌≤◌, ◌⊎◌, inl, inr, ◌+◌, ◌-◌, ◌*◌, ◌/◌, ◌%◌, ℕ, zero, suc, List, [], ◌∷◌, ◌++◌, length, length-append, get_or, take}
-use Rattle.std.proofs.Common.{Bool, true, false, refl, sym, ap, subst, arith}
-use Rattle.std.specs.Prelude.{ltb, not, ◌&&◌, ◌||◌, if◌then◌else◌, ⊤}
-use Rattle.std.proofs.lemmas.Bool.{ltb-true, ltb-false}
-use Rattle.tree_limits.specs.declared.limits.Limits.{Limits}
+use Rattle.change_machine.proofs.Words.{◌≡◌, ◌<◌, ◌≤◌, inl, inr, ◌+◌, ◌*◌, ℕ, zero, suc, List, [], ◌∷◌, ◌++◌, length, take, Bool, true, false, refl, sym, ap, arith, ltb, not, ◌&&◌}
+use Rattle.change_machine.proofs.Words.{if◌then◌else◌, ltb-true, ltb-false, Limits, Record, rows_needed, split_to, Plan, Install, Root, Unlink, has_rows, wanted_from}
+use Rattle.std.proofs.Common.{◌⊎◌, ◌-◌, ◌/◌, length-append, get_or}
+use Rattle.std.specs.Prelude.{◌||◌}
 use Rattle.deltas.specs.Sizes.{delta_row, page_row, record_size, row_from}
-use Rattle.deltas.specs.declared.record.Record.{Record}
 use Rattle.deltas.specs.declared.record.Record.TheVariants as kind
-use Rattle.structure_changes.specs.Plans.{new_base, rows_needed}
-use Rattle.structure_changes.specs.Splits.{split_to}
-use Rattle.structure_changes.specs.declared.plan.Plan.{Plan}
-use Rattle.structure_changes.specs.declared.plan.Plan.TheVariants.{Install, Split, Root, Unlink}
+use Rattle.structure_changes.specs.declared.plan.Plan.TheVariants.{Split}
 use Rattle.change_machine.specs.Bounded.{rows_missing}
-use Rattle.change_machine.specs.Moves.{has_rows, lacks_lower, lower_from, upper_from, wanted_from}
+use Rattle.change_machine.specs.Moves.{lacks_lower, lower_from, upper_from}
 use Rattle.change_machine.specs.Spares.{AreStacked, last_of, least_at, second_of}
 
 -- ---- the last rows of a list
@@ -172,10 +167,8 @@ some_lack false false true e = inr (inr refl)
 some_lack false false false e = cc
 
 none_lack : (x y z : Bool) → (not x && (not y && not z)) ≡ true → (x ≡ false) × (y ≡ false) × (z ≡ false)
-none_lack true y z e = cc
-none_lack false true z e = cc
-none_lack false false true e = cc
 none_lack false false false e = (refl, refl, refl)
+none_lack x y z e = cc
 
 either : (x y : Bool) → (x || y) ≡ true → (x ≡ true) ⊎ (y ≡ true)
 either true y e = inl refl
@@ -213,10 +206,10 @@ module _ (limits : Limits) (plan : Plan) (rows : List ℕ) where
       (ltb-false (suc (length rows)) (rows_needed plan) both.0, ltb-false (last_of rows) (lower_from limits plan) both.1)
 
   wanted_lower : (number : ℕ) → lacks_lower limits plan rows ≡ true → wanted_from limits plan rows ≤ number → lower_from limits plan ≤ number
-  wanted_lower number e at = subst (λ (b : Bool). (if b then lower_from limits plan else upper_from limits plan) ≤ number) e at
+  wanted_lower number e at = rw e at at
 
   wanted_upper : (number : ℕ) → lacks_lower limits plan rows ≡ false → wanted_from limits plan rows ≤ number → upper_from limits plan ≤ number
-  wanted_upper number e at = subst (λ (b : Bool). (if b then lower_from limits plan else upper_from limits plan) ≤ number) e at
+  wanted_upper number e at = rw e at at
 
   pub missing_few : rows_missing limits plan rows ≤ 2
   missing_few = go (has_rows limits plan rows) (lacks_lower limits plan rows)

@@ -1,35 +1,22 @@
 -- A change that goes on names no number that has no place.
-use Rattle.std.proofs.Common.{◌≡◌, ◌<◌, ◌≤◌, ◌+◌, ◌*◌, ◌/◌, ◌-◌, ◌∙◌, ℕ, zero, suc, [], ◌∷◌, ◌++◌, length, length-append, length-take-le, take, Bool, true}
-use Rattle.std.proofs.Common.{false, Option, Some, None, refl, sym, ap, subst, arith}
-use Rattle.std.specs.Prelude.{IfNone, IfSome, ⊤, ltb, ◌%◌, is_some, not, ◌&&◌, if◌then◌else◌}
+use Rattle.change_machine.proofs.Words.{◌≡◌, ◌<◌, ◌≤◌, ◌+◌, ◌*◌, ◌∙◌, ℕ, zero, suc, [], ◌∷◌, ◌++◌, length, take, Bool, true, false, Option, Some, None, refl, sym, ap, subst, arith, ltb}
+use Rattle.change_machine.proofs.Words.{is_some, not, ◌&&◌, if◌then◌else◌, ltb-true, trailing_zeros, w64, Limits, Answer, Record, Fits, FitsWord, Knowledge, AreEnough, Change, IsNeededNext}
+use Rattle.change_machine.proofs.Words.{IsSameChange, IsSoundChange, IsTarget, needed_from, wanted_step, wanted_at, clears, head_of, needs_pid, rows_needed, Moved, after_ready, after_taking}
+use Rattle.change_machine.proofs.Words.{decided_by, first_state, has_rows, next_move, moved_by, spares_left, wanted_from, whether_in, with_number, HaveRoom, Spares, begun_at, count_of}
+use Rattle.change_machine.proofs.Words.{found_after, from_of, kind_of, wanted_number, words_end, End, State, Plan, Install, Root, Unlink, Found, Not, Full, Kind, Pid, Row, Bits, Take}
+use Rattle.std.proofs.Common.{◌/◌, ◌-◌, length-append, length-take-le}
+use Rattle.std.specs.Prelude.{IfNone, IfSome, ⊤, ◌%◌}
 use Rattle.std.proofs.Math.Nat.{mod-lt}
-use Rattle.std.proofs.lemmas.Bool.{ltb-true, ltb-false}
 use Rattle.std.proofs.lemmas.List.Elements.{All-push, All-take}
-use Rattle.std.specs.Int.{trailing_zeros, w64}
 use Rattle.std.proofs.lemmas.Nat.Bits.{bit_at-trailing_zeros}
 use Rattle.bw_model.specs.declared.step.Answer.TheVariants as answer
 use Rattle.deltas.specs.Spellable.{IsPid}
-use Rattle.tree_limits.specs.declared.limits.Limits.{Limits}
-use Rattle.bw_model.specs.declared.step.Answer.{Answer}
-use Rattle.deltas.specs.declared.record.Record.{Record}
-use Rattle.traces.specs.discipline.Fitting.{Fits, FitsWord}
-use Rattle.traces.specs.discipline.Knowledge.{Knowledge}
-use Rattle.change_machine.specs.Changes.{AreEnough, Change, IsNeededNext, IsSameChange, IsSoundChange, IsSoundState, IsTarget, needed_from, wanted_step, wanted_at}
-use Rattle.structure_changes.specs.Plans.{clears, head_of, needs_pid, rows_needed}
-use Rattle.change_machine.specs.Moves.{Moved, after_ready, after_taking, decided_by, first_state, has_rows, next_move, moved_by, spares_left, wanted_from, whether_in, with_number}
-use Rattle.change_machine.specs.Spares.{HaveRoom, Spares}
-use Rattle.change_machine.specs.Taking.{IsSoundFound, IsSoundTaking, begun_at, count_of, found_after, from_of, kind_of, wanted_number, words_end, words_until}
-use Rattle.change_machine.specs.declared.change.End.{End}
-use Rattle.change_machine.specs.declared.change.State.{State}
+use Rattle.change_machine.specs.Changes.{IsSoundState}
+use Rattle.change_machine.specs.Taking.{IsSoundFound, IsSoundTaking, words_until}
 use Rattle.change_machine.specs.declared.change.State.TheVariants as state
-use Rattle.structure_changes.specs.declared.plan.Plan.{Plan}
-use Rattle.structure_changes.specs.declared.plan.Plan.TheVariants.{Install, Split, Root, Unlink}
-use Rattle.change_machine.specs.declared.taking.Found.{Found}
-use Rattle.change_machine.specs.declared.taking.Found.TheVariants.{Not, Taken, Full}
-use Rattle.change_machine.specs.declared.taking.Kind.{Kind}
-use Rattle.change_machine.specs.declared.taking.Kind.TheVariants.{Pid, Row}
+use Rattle.structure_changes.specs.declared.plan.Plan.TheVariants.{Split}
+use Rattle.change_machine.specs.declared.taking.Found.TheVariants.{Taken}
 use Rattle.change_machine.specs.declared.taking.Taking.{Taking}
-use Rattle.change_machine.specs.declared.taking.Taking.TheVariants.{Bits, Take}
 use Rattle.change_machine.proofs.RowNeeds.{Adds, adds, has_all, stacked_push, stacked_take, wanted_there}
 
 -- the lowest free number of a word is there
@@ -226,7 +213,7 @@ module _ (limits : Limits) (plan : Plan) where
       → HaveRoom limits spares → IsSoundState limits plan spares state → IsTarget limits plan → StaysSound (next_move limits plan spares state told)
   stays_at spares (state.Taking taking) told k fits room sound target =
       found_stays spares (state.Taking taking) (found_after limits taking told) room (kind_of taking) sound.1 target
-      (subst (λ from. IsSoundFound limits from (found_after limits taking told)) sound.2 (found_sound limits k taking told fits sound.0)) (found_of limits taking told)
+      (rw (← sound.2) (found_sound limits k taking told fits sound.0)) (found_of limits taking told)
   stays_at spares state.Base told k fits room sound target = (room, sound)
   stays_at spares state.Ready told k fits room sound target = (room, after_ready_sound spares plan refl target sound.0 sound.1)
   stays_at spares state.Place told k fits room sound target = (room, sound.0)
@@ -261,7 +248,7 @@ module _ (old new : Change) (had has : Spares) (told : Answer Record) (end : Opt
     (is : next_move old.limits old.plan had old.state told ≡ record { state = new.state; spares = has; end = end }) (same : IsSameChange old new) (k : Knowledge)
     (fits : Fits old.limits k (wanted_step old had) told) (sound : IsSoundChange old had) (target : IsTarget old.limits old.plan) where
   stays : HaveRoom old.limits has × IfNone end (IsSoundState old.limits old.plan has new.state)
-  stays = subst (λ (now : Moved). StaysSound old.limits old.plan now) is (stays_at old.limits old.plan had old.state told k fits sound.room sound.state target)
+  stays = rw is at (stays_at old.limits old.plan had old.state told k fits sound.room sound.state target)
 
   pub room_stays : HaveRoom old.limits has
   room_stays = stays.0

@@ -1,14 +1,14 @@
 -- The spares, as rows and pages go from hand to hand.
-use Rattle.std.proofs.Common.{◌≡◌, ◌<◌, ◌∙◌, inl, inr, ℕ, ◌==◌, List, [], ◌∷◌, ◌++◌, Bool, true, false, Option, Some, None, refl, sym, ap, subst, cond, arith}
+use Rattle.change_machine.proofs.Words.{◌≡◌, ◌<◌, ◌∙◌, inl, inr, ℕ, List, [], ◌∷◌, ◌++◌, Bool, true, false, Option, Some, None, refl, sym, ap, subst, arith, cases_eq, replaced_at, Belongings}
+use Rattle.change_machine.proofs.Words.{OwnPage, OwnRow, Foreign, Other, Empty, AreTheSpares, IsUnlinked, Spares, replaced_same, replaced_other}
+use Rattle.std.proofs.Common.{◌==◌, cond}
 use Rattle.std.specs.Prelude.{IfSome}
-use Rattle.std.proofs.lemmas.Bool.{cases_eq, ne_eqb, eq-eqb}
+use Rattle.std.proofs.lemmas.Bool.{ne_eqb, eq-eqb}
 use Rattle.std.proofs.lemmas.List.Elements.{Contains-append_cases, Contains-append_left, Contains-push, Contains-push_cases}
 use Rattle.std.specs.List.{Contains}
-use Rattle.deltas.specs.Memory.{replaced_at}
 use Rattle.traces.specs.discipline.Discipline.{IsOwn}
-use Rattle.traces.specs.discipline.Knowledge.{Belongings, OwnPage, OwnRow, Foreign, Taken, Other, Empty}
-use Rattle.change_machine.specs.Spares.{AreSpare, AreTheSpares, IsNoneOf, IsUnlinked, Spares}
-use Rattle.deltas.proofs.Replaced.{replaced_same, replaced_other}
+use Rattle.traces.specs.discipline.Knowledge.{Taken}
+use Rattle.change_machine.specs.Spares.{AreSpare, IsNoneOf}
 
 own_put : (b : Bool) (o p : OwnRow) → IsOwn o → IsOwn p → IsOwn (cond b o p)
 own_put true o p h i = h
@@ -71,7 +71,7 @@ module _ (own : Belongings) (spares : Spares) (h : AreTheSpares own spares) wher
         spare_kept (replaced_at row Taken own.rows) row spares.rows
         ((subst IsOwn (sym (replaced_same row Taken own.rows)) tt, some), new_foreign own.rows row spares.rows e h.rows, spare_placed own.rows row Taken spares.rows tt h.rows);
     all_rows = λ r is. elim (cases_eq r row) [
-      | inl same ↦ subst (λ n. Contains (spares.rows ++ row ∷ []) n) (sym same) (Contains-push spares.rows row)
+      | inl same ↦ rw same (Contains-push spares.rows row)
       | inr other ↦ Contains-append_left spares.rows (row ∷ []) r (h.all_rows r (subst IsOwn (replaced_other row Taken own.rows r other) is))
     ];
     page = h.page;
@@ -83,7 +83,7 @@ module _ (own : Belongings) (spares : Spares) (h : AreTheSpares own spares) wher
   row_placed row o is was = record {
     rows = spare_placed own.rows row o spares.rows is h.rows;
     all_rows = λ r now. elim (cases_eq r row) [
-      | inl same ↦ h.all_rows r (subst (λ n. IsOwn (own.rows n)) (sym same) was)
+      | inl same ↦ h.all_rows r (rw same was)
       | inr other ↦ h.all_rows r (subst IsOwn (replaced_other row o own.rows r other) now)
     ];
     page = h.page;
@@ -146,7 +146,7 @@ module _ (own : Belongings) (spares : Spares) (h : AreTheSpares own spares) wher
         rows = spare_left own.rows row front taken.1 taken.2;
         all_rows = λ r was. elim (cases_eq r row) [
           | inl same ↦ absurd (subst IsOwn (ap (replaced_at row Foreign own.rows) same ∙ replaced_same row Foreign own.rows) was)
-          | inr other ↦ elim (Contains-push_cases front row r (subst (λ held. Contains held r) is (h.all_rows r (subst IsOwn (replaced_other row Foreign own.rows r other) was)))) [
+          | inr other ↦ elim (Contains-push_cases front row r (rw (← is) (h.all_rows r (subst IsOwn (replaced_other row Foreign own.rows r other) was)))) [
             | inl there ↦ there
             | inr same ↦ absurd (other (sym same))
           ]

@@ -1,40 +1,26 @@
 -- What a change's steps leave it.
-use Rattle.std.proofs.Common.{◌≡◌, ◌≢◌, ◌<◌, ◌≤◌, ◌∙◌, ◌*◌, ◌/◌, ◌%◌, ◌+◌, inl, inr, ℕ, zero, suc, [], ◌∷◌, ◌++◌, length, length-append, Bool, true, false}
-use Rattle.std.proofs.Common.{Option, Some, None, refl, sym, ap, subst, arith}
-use Rattle.std.specs.Prelude.{ltb, ◌==◌, ◌-◌, is_some, not, ◌&&◌, if◌then◌else◌}
+use Rattle.change_machine.proofs.Words.{◌≡◌, ◌<◌, ◌≤◌, ◌∙◌, ◌*◌, ◌+◌, inl, inr, ℕ, zero, suc, Bool, true, false, Option, Some, None, refl, sym, ap, arith, ltb, is_some, not, ◌&&◌}
+use Rattle.change_machine.proofs.Words.{if◌then◌else◌, trailing_zeros, w64, Limits, Answer, Record, Fits, FitsWord, Knowledge, AreEnough, Change, IsNeededNext, IsSameChange, IsSoundChange}
+use Rattle.change_machine.proofs.Words.{linked_number, needed_from, wanted_step, wanted_at, clears, head_of, needs_pid, slot_of, Moved, after_ready, after_taking, decided_by, first_state}
+use Rattle.change_machine.proofs.Words.{has_rows, next_move, moved_by, spares_left, wanted_from, whether_in, with_number, HaveRoom, Spares, pid_of, begun_at, count_of, found_after, from_of}
+use Rattle.change_machine.proofs.Words.{kind_of, wanted_number, words_end, End, State, Plan, Install, Root, Unlink, Not, Full, Kind, Pid, Row, Bits, Take, replaced_same, replaced_other}
+use Rattle.std.proofs.Common.{◌≢◌, ◌/◌, ◌%◌}
+use Rattle.std.specs.Prelude.{◌==◌, ◌-◌}
 use Rattle.std.proofs.Math.Nat.{mul-le-mul_left, mul-suc}
-use Rattle.std.proofs.lemmas.Bool.{ltb-true}
-use Rattle.std.specs.Int.{bit_at, trailing_zeros, w64}
-use Rattle.tree_limits.specs.declared.limits.Limits.{Limits}
-use Rattle.bw_model.specs.declared.step.Answer.{Answer}
+use Rattle.std.specs.Int.{bit_at}
 use Rattle.bw_model.specs.declared.step.Answer.TheVariants as answer
-use Rattle.deltas.specs.declared.record.Record.{Record}
-use Rattle.traces.specs.discipline.Fitting.{Fits, FitsWord}
-use Rattle.traces.specs.discipline.Knowledge.{Knowledge}
 use Rattle.traces.specs.discipline.Recalled.{Recalled, WasFree, WasHead, recall}
 use Rattle.change_machine.specs.Bounded.{IsApart, RecallsAt, Spends, SpendsTo, few_steps, steps_left_at, numbers_missing, pid_taken, pids_missing}
-use Rattle.change_machine.specs.Changes.{AreEnough, Change, IsNeededNext, IsSameChange, IsSoundChange, linked_number, needed_from, wanted_step, wanted_at}
-use Rattle.structure_changes.specs.Plans.{clears, head_of, needs_pid, slot_of}
-use Rattle.change_machine.specs.Moves.{Moved, after_ready, after_taking, decided_by, first_state, has_rows, next_move, moved_by, spares_left, wanted_from, whether_in, with_number}
-use Rattle.change_machine.specs.Spares.{HaveRoom, Spares, pid_of}
-use Rattle.change_machine.specs.Taking.{IsSoundTaking, begun_at, count_of, first_word, found_after, from_of, kind_of, most_reads, most_words, recalled_words, wanted_number, words_end}
-use Rattle.change_machine.specs.declared.change.End.{End}
-use Rattle.change_machine.specs.declared.change.State.{State}
+use Rattle.change_machine.specs.Taking.{IsSoundTaking, first_word, most_reads, most_words, recalled_words}
 use Rattle.change_machine.specs.declared.change.State.TheVariants as state
-use Rattle.structure_changes.specs.declared.plan.Plan.{Plan}
-use Rattle.structure_changes.specs.declared.plan.Plan.TheVariants.{Install, Split, Root, Unlink}
-use Rattle.change_machine.specs.declared.taking.Found.TheVariants.{Not, Full}
-use Rattle.change_machine.specs.declared.taking.Kind.{Kind}
-use Rattle.change_machine.specs.declared.taking.Kind.TheVariants.{Pid, Row}
+use Rattle.structure_changes.specs.declared.plan.Plan.TheVariants.{Split}
 use Rattle.change_machine.specs.declared.taking.Taking.{Taking}
-use Rattle.change_machine.specs.declared.taking.Taking.TheVariants.{Bits, Take}
 use Rattle.change_machine.proofs.Answered.{only_state}
 use Rattle.change_machine.proofs.Following.{some_pid}
 use Rattle.change_machine.proofs.Learning.{went}
 use Rattle.change_machine.proofs.RowNeeds.{fewer_rows, missing_few, missing_some, wanted_there}
 use Rattle.change_machine.proofs.Taken.{in_word}
-use Rattle.change_machine.proofs.Making.{bare, bare_at, sound_bare, spends_bare}
-use Rattle.deltas.proofs.Replaced.{replaced_same, replaced_other}
+use Rattle.change_machine.proofs.Making.{bare_at, sound_bare, spends_bare}
 
 -- a word of either kind is one of 256
 few_words : (limits : Limits) (kind : Kind) (word : ℕ) → 64 * word < count_of limits kind → word < most_words limits
@@ -124,9 +110,7 @@ recalls_first limits r plan spares h = at_first (needs_pid plan && not (is_some 
   where
     at_place : (other : Plan) → RecallsAt r plan (after_taking other)
     at_place (Install pid head content) = h
-    at_place (Split pid plan) = h
-    at_place (Root left root) = h
-    at_place (Unlink pid head unterm removal) = h
+    at_place other = h
 
     at_first : (pid row : Bool)
         → RecallsAt r plan (if pid then state.Taking (begun_at limits Pid 0 (head_of plan)) else if row then after_taking plan else state.Taking
@@ -228,9 +212,8 @@ module _ (limits : Limits) (plan : Plan) (spares : Spares) (after : ℕ) (r : Re
   takes (Take kind from number whole) (answer.Whether true) k fits sound missing needed h far = took kind from number whole missing (rw needed at sound.0) h.0 far
   takes (Take kind from number whole) (answer.Whether false) k fits sound missing needed h far = missed kind from number whole h.0 h.1
   takes (Bits Pid from word whole) told k fits sound missing needed h far = absurd fits
-  takes (Bits Row from word whole) told k fits sound missing needed h far = absurd fits
   takes (Take Pid from number whole) told k fits sound missing needed h far = absurd fits
-  takes (Take Row from number whole) told k fits sound missing needed h far = absurd fits
+  takes taking told k fits sound missing needed h far = absurd fits
 
   -- the new page isn't the slot that decides
   slot_apart : (plan : Plan) → needs_pid plan ≡ true → IsApart plan (Some (pid_of spares)) → 0 < pid_of spares → slot_of plan ≢ pid_of spares
@@ -285,4 +268,4 @@ module _ (old new : Change) (had has : Spares) (told : Answer Record) (end : Opt
   spends k fits sound = λ after r h far.
       let at_state = spends_at old.limits old.plan had after r h.apart old.state told k fits (sound_bare old had sound) h.at far in
       spends_bare after r old had told new has end
-      (rw (only_state old new had has told end is same) (subst (λ (now : Moved). SpendsTo after r (bare old) had told (bare_at old.limits old.plan now.state) now.spares now.end) is at_state))
+      (rw (only_state old new had has told end is same) (rw is at at_state))

@@ -1,34 +1,25 @@
 -- What the answers of a taking leave known.
-use Rattle.std.proofs.Common.{◌≡◌, ◌<◌, ◌≤◌, ◌∙◌, ◌*◌, ◌/◌, ◌%◌, ◌+◌, inl, inr, ℕ, zero, suc, subst, Bool, true, false, None, Some, refl, sym, ap, arith}
-use Rattle.std.specs.Prelude.{ltb, ◌==◌, is_some, not, ◌&&◌, if◌then◌else◌}
-use Rattle.std.proofs.lemmas.Bool.{cases_eq, eqb-true, ltb-false}
-use Rattle.std.specs.Int.{bit_at, trailing_zeros, w64}
+use Rattle.change_machine.proofs.Words.{◌≡◌, ◌<◌, ◌≤◌, ◌∙◌, ◌*◌, ◌+◌, inl, inr, ℕ, zero, suc, subst, Bool, true, false, None, Some, refl, sym, ap, arith, ltb, is_some, not, ◌&&◌, if◌then◌else◌}
+use Rattle.change_machine.proofs.Words.{cases_eq, ltb-false, trailing_zeros, w64, Limits, Answer, replaced_at, Record, Fits, FitsWord, Knowledge, Empty, learn, Change, Follows, IsLike}
+use Rattle.change_machine.proofs.Words.{IsNeededNext, KeepsSpare, MayChange, Shows, head_of, needs_pid, Moved, after_taking, first_state, has_rows, moved_by, wanted_from, with_number}
+use Rattle.change_machine.proofs.Words.{AreTheSpares, AreUnset, Spares, begun_at, count_of, found_after, from_of, kind_of, wanted_number, words_end, State, Plan, Install, Root, Unlink, Not}
+use Rattle.change_machine.proofs.Words.{Full, Kind, Pid, Row, Bits, Take, replaced_same, replaced_other}
+use Rattle.std.proofs.Common.{◌/◌, ◌%◌}
+use Rattle.std.specs.Prelude.{◌==◌}
+use Rattle.std.proofs.lemmas.Bool.{eqb-true}
+use Rattle.std.specs.Int.{bit_at}
 use Rattle.std.proofs.lemmas.Nat.Bits.{bit_at-trailing_zeros}
-use Rattle.tree_limits.specs.declared.limits.Limits.{Limits}
-use Rattle.bw_model.specs.declared.step.Answer.{Answer}
 use Rattle.bw_model.specs.declared.step.Answer.TheVariants as answer
-use Rattle.deltas.specs.Memory.{replaced_at}
-use Rattle.deltas.specs.declared.record.Record.{Record}
-use Rattle.traces.specs.discipline.Fitting.{Fits, FitsTaken, FitsTakenPid, FitsWord}
-use Rattle.traces.specs.discipline.Knowledge.{Knowledge, Empty, Ready, learn}
-use Rattle.change_machine.specs.Changes.{Change, Follows, IsLike, IsNeededNext, KeepsSpare, MayChange, Shows, ShowsState}
-use Rattle.structure_changes.specs.Plans.{head_of, needs_pid}
-use Rattle.change_machine.specs.Moves.{Moved, after_taking, first_state, has_rows, moved_by, wanted_from, with_number}
-use Rattle.change_machine.specs.Spares.{AreTheSpares, AreUnset, Spares}
-use Rattle.change_machine.specs.Taking.{AreFull, begun_at, count_of, first_word, found_after, from_of, kind_of, least_word, wanted_number, word_read, words_end}
-use Rattle.change_machine.specs.declared.change.State.{State}
+use Rattle.traces.specs.discipline.Fitting.{FitsTaken, FitsTakenPid}
+use Rattle.traces.specs.discipline.Knowledge.{Ready}
+use Rattle.change_machine.specs.Changes.{ShowsState}
+use Rattle.change_machine.specs.Taking.{AreFull, first_word, least_word, word_read}
 use Rattle.change_machine.specs.declared.change.State.TheVariants as state
-use Rattle.structure_changes.specs.declared.plan.Plan.{Plan}
-use Rattle.structure_changes.specs.declared.plan.Plan.TheVariants.{Install, Split, Root, Unlink}
-use Rattle.change_machine.specs.declared.taking.Found.TheVariants.{Not, Full}
-use Rattle.change_machine.specs.declared.taking.Kind.{Kind}
-use Rattle.change_machine.specs.declared.taking.Kind.TheVariants.{Pid, Row}
+use Rattle.structure_changes.specs.declared.plan.Plan.TheVariants.{Split}
 use Rattle.change_machine.specs.declared.taking.Taking.{Taking}
-use Rattle.change_machine.specs.declared.taking.Taking.TheVariants.{Bits, Take}
 use Rattle.change_machine.proofs.Following.{like_self, still_may, unlinked}
 use Rattle.change_machine.proofs.SpareLaws.{pid_taken, row_taken}
 use Rattle.change_machine.proofs.Making.{bare_at}
-use Rattle.deltas.proofs.Replaced.{replaced_same, replaced_other}
 
 -- a word that was read as 0 adds to those below it
 none_free : (words : ℕ → Bool) (word below : ℕ) → below ≤ word → (below < word → words below ≡ true) → replaced_at word true words below ≡ true
@@ -66,9 +57,7 @@ shows_first actor limits k plan spares may keeps are bare = record
   where
     at_place : (plan : Plan) → ShowsState limits plan spares k (after_taking plan)
     at_place (Install pid head content) = bare
-    at_place (Split pid plan) = bare
-    at_place (Root left root) = bare
-    at_place (Unlink pid head unterm removal) = bare
+    at_place plan = bare
 
     at_first : (pid row : Bool)
         → ShowsState limits plan spares k (if pid then state.Taking (begun_at limits Pid 0 (head_of plan)) else if row then after_taking plan else state.Taking
@@ -142,7 +131,7 @@ module _ (actor : ℕ) (limits : Limits) (k : Knowledge) (plan : Plan) (spares :
       }
         where
           last : count_of limits kind / 64 ≤ suc word
-          last = ltb-false (suc word) (count_of limits kind / 64) (subst (λ (b : Bool). ltb (suc word) (words_end limits kind from b) ≡ false) (sym same) is)
+          last = ltb-false (suc word) (count_of limits kind / 64) (rw (← same) at is)
 
           all_read : AreFull now.asked kind from (count_of limits kind / 64)
           all_read below least lt =
@@ -214,6 +203,5 @@ module _ (actor : ℕ) (limits : Limits) (k : Knowledge) (plan : Plan) (spares :
   finds (Take Row from row whole) (answer.Whether true) missing low full fits = taken_row from row whole fits
   finds (Take kind from number whole) (answer.Whether false) missing low full fits = missed kind from number whole full
   finds (Bits Pid from word whole) told missing low full fits = absurd fits
-  finds (Bits Row from word whole) told missing low full fits = absurd fits
   finds (Take Pid from number whole) told missing low full fits = absurd fits
-  finds (Take Row from number whole) told missing low full fits = absurd fits
+  finds taking told missing low full fits = absurd fits

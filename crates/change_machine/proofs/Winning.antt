@@ -1,33 +1,25 @@
 -- What an exchange that won leaves known.
-use Rattle.std.proofs.Common.{◌≡◌, ◌≤◌, ◌<◌, ◌∙◌, ◌-◌, inl, inr, ℕ, suc, List, [], ◌∷◌, ◌++◌, length, take, Bool, true, false, Option, Some, None, refl, sym, ap, arith}
-use Rattle.std.specs.Prelude.{ltb}
-use Rattle.std.proofs.lemmas.Bool.{ltb-false, ltb-true}
-use Rattle.std.proofs.lemmas.Bool.{cases_eq}
-use Rattle.tree_limits.specs.declared.limits.Limits.{Limits}
+use Rattle.change_machine.proofs.Words.{◌≡◌, ◌≤◌, ◌∙◌, inl, inr, ℕ, suc, List, [], ◌∷◌, ◌++◌, length, take, Bool, true, false, Option, Some, None, refl, sym, ap, arith, ltb, ltb-false}
+use Rattle.change_machine.proofs.Words.{ltb-true, cases_eq, Limits, replaced_at, Record, MayExchange, Fits, Belongings, Knowledge, OwnPage, Foreign, Written, Other, Gone, learn, linked_over}
+use Rattle.change_machine.proofs.Words.{split_to, AreEnough, Follows, ChangeIsOver, IsPlaced, StandsReady, IsTarget, KeepsSpare, MayChange, linked_number, split_row, wanted_at, head_of}
+use Rattle.change_machine.proofs.Words.{slot_of, Moved, decided_by, spares_left, AreTheSpares, AreUnset, HaveRoom, Spares, last_row, pid_of, Plan, Install, Root, Unlink, replaced_same}
+use Rattle.change_machine.proofs.Words.{replaced_other}
+use Rattle.std.proofs.Common.{◌-◌}
 use Rattle.bw_model.specs.declared.step.Answer.TheVariants as answer
-use Rattle.deltas.specs.Memory.{replaced_at}
-use Rattle.deltas.specs.declared.record.Record.{Record}
 use Rattle.deltas.specs.declared.record.Record.TheVariants as kind
 use Rattle.deltas.specs.declared.record.Unterm.{Unterm}
-use Rattle.traces.specs.discipline.Discipline.{MayExchange}
-use Rattle.traces.specs.discipline.Fitting.{Fits}
-use Rattle.traces.specs.discipline.Knowledge.{Belongings, Knowledge, OwnPage, Foreign, Written, Other, Ready, Gone, handed_page, learn, linked_over}
-use Rattle.structure_changes.specs.Splits.{split_to}
-use Rattle.change_machine.specs.Changes.{AreEnough, Follows, ChangesOn, KeepsSparePage, ChangeIsOver, IsPlaced, StandsReady, IsTarget, KeepsSpare, MayChange}
-use Rattle.change_machine.specs.Changes.{linked_number, split_base_row, split_row, wanted_at}
-use Rattle.structure_changes.specs.Plans.{head_of, slot_of}
-use Rattle.change_machine.specs.Moves.{Moved, decided_by, spares_left}
-use Rattle.change_machine.specs.Spares.{AreTheSpares, AreUnset, HaveRoom, Spares, last_row, pid_of, second_row}
+use Rattle.traces.specs.discipline.Knowledge.{Ready, handed_page}
+use Rattle.change_machine.specs.Changes.{ChangesOn, KeepsSparePage}
+use Rattle.change_machine.specs.Changes.{split_base_row}
+use Rattle.change_machine.specs.Spares.{second_row}
 use Rattle.change_machine.specs.declared.change.End.TheVariants as end
 use Rattle.change_machine.specs.declared.change.State.TheVariants as state
-use Rattle.structure_changes.specs.declared.plan.Plan.{Plan}
-use Rattle.structure_changes.specs.declared.plan.Plan.TheVariants.{Install, Split, Root, Unlink}
+use Rattle.structure_changes.specs.declared.plan.Plan.TheVariants.{Split}
 use Rattle.change_machine.proofs.Following.{own_last, some_pid, split_own, still_may, unset_then}
 use Rattle.change_machine.proofs.RowNeeds.{rows_last, rows_two}
 use Rattle.change_machine.proofs.Learning.{no_split, over_learnt, over_other, rooted_learnt}
 use Rattle.change_machine.proofs.SpareLaws.{first_linked, last_linked, page_gone, page_linked}
 use Rattle.change_machine.proofs.Making.{bare_at}
-use Rattle.deltas.proofs.Replaced.{replaced_same, replaced_other}
 
 -- the spare PID isn't that of the term
 pub kept_apart : (child : ℕ) (unterm : _) (pid : Option ℕ) → KeepsSparePage (kind.Unterm unterm) pid → pid ≡ Some unterm.child → ⊥
@@ -58,22 +50,8 @@ module _ (actor : ℕ) (limits : Limits) (k : Knowledge) (spares : Spares) (room
       by_content : (content : Record) → KeepsSparePage content spares.pid → k.own.rows (last_row spares) ≡ Written content
           → ChangeIsOver k (linked_over (Written content) head (last_row spares) k) (bare_at limits (Install pid head content) state.Link) (answer.Whether true)
           (spares_left (Install pid head content) spares) end.Won
-      by_content (kind.Base base) kept placed = record
-          { like = record { inside = refl; read = refl; command = refl; linked_now = refl }; rest = record { are = linked; unset = bare }; decided = (refl, refl) }
-      by_content (kind.Put put) kept placed = record
-          { like = record { inside = refl; read = refl; command = refl; linked_now = refl }; rest = record { are = linked; unset = bare }; decided = (refl, refl) }
-      by_content (kind.Delete delete) kept placed = record
-          { like = record { inside = refl; read = refl; command = refl; linked_now = refl }; rest = record { are = linked; unset = bare }; decided = (refl, refl) }
       by_content (kind.Split split) kept placed =
           absurd (no_split actor k pid head (last_row spares) split target.page target.linked (own_last k.own.rows spares.rows some are.rows).1 may placed bare)
-      by_content (kind.Term term) kept placed = record
-          { like = record { inside = refl; read = refl; command = refl; linked_now = refl }; rest = record { are = linked; unset = bare }; decided = (refl, refl) }
-      by_content (kind.Hold hold) kept placed = record
-          { like = record { inside = refl; read = refl; command = refl; linked_now = refl }; rest = record { are = linked; unset = bare }; decided = (refl, refl) }
-      by_content (kind.Remove remove) kept placed = record
-          { like = record { inside = refl; read = refl; command = refl; linked_now = refl }; rest = record { are = linked; unset = bare }; decided = (refl, refl) }
-      by_content (kind.Merge merge) kept placed = record
-          { like = record { inside = refl; read = refl; command = refl; linked_now = refl }; rest = record { are = linked; unset = bare }; decided = (refl, refl) }
       by_content (kind.Unterm unterm) kept placed = record {
         like = record { inside = refl; read = refl; command = refl; linked_now = refl };
         rest = record {
@@ -84,6 +62,8 @@ module _ (actor : ℕ) (limits : Limits) (k : Knowledge) (spares : Spares) (room
         };
         decided = (refl, refl);
       }
+      by_content content kept placed = record
+          { like = record { inside = refl; read = refl; command = refl; linked_now = refl }; rest = record { are = linked; unset = bare }; decided = (refl, refl) }
 
   -- a term is out, and its page is to be cleared
   term_out : (pid head : ℕ) (unterm : Unterm) (removal : ℕ) → 1 ≤ length spares.rows → MayChange actor k (Unlink pid head unterm removal)

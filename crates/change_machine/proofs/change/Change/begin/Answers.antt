@@ -1,4 +1,4 @@
-use Rattle.std.proofs.Common.{◌∙◌}
+use Rattle.change_machine.proofs.Words.{◌∙◌}
 use Rattle.change_machine.proofs.Beginning.{begun}
 use Rattle.change_machine.proofs.change.Change.begin.Goals as goal
 

@@ -1,5 +1,4 @@
-use Rattle.std.proofs.Common.{◌∙◌}
-use Rattle.structure_changes.specs.declared.plan.Plan.TheVariants.{Install}
+use Rattle.change_machine.proofs.Words.{◌∙◌, Install}
 use Rattle.change_machine.proofs.Beginning.{begun}
 use Rattle.change_machine.proofs.change.Change.begin_update.Goals as goal
 

@@ -1,4 +1,4 @@
-use Rattle.std.proofs.Common.{◌∙◌, sym}
+use Rattle.change_machine.proofs.Words.{◌∙◌, sym}
 use Rattle.bw_model.specs.Answers.{answer_of}
 use Rattle.change_machine.proofs.Sound.{keeps_place}
 use Rattle.change_machine.proofs.change.Change.go_on_taking.Goals as goal

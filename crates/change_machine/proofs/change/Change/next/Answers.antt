@@ -1,7 +1,4 @@
-use Rattle.std.proofs.Common.{subst}
 use Rattle.bw_model.specs.Answers.{answer_of}
-use Rattle.change_machine.specs.Changes.{EndsByDeciding}
-use Rattle.change_machine.specs.Moves.{Moved}
 use Rattle.change_machine.proofs.Answered.{follows}
 use Rattle.change_machine.proofs.Deciding.{turns}
 use Rattle.change_machine.proofs.Outs.{outs}
@@ -46,5 +43,4 @@ returns-clause-pid g c =
 
 pub returns-clause-decides : goal.returns-clause-decides
 returns-clause-decides g c =
-    subst (λ (m : Moved). EndsByDeciding c.args.self.now.state m.state m.end) c.move_on.ensures.moved
-    (turns c.args.self.now.limits c.args.self.now.plan c.args.spares.now c.args.self.now.state (answer_of c.args.told))
+    rw c.move_on.ensures.moved at (turns c.args.self.now.limits c.args.self.now.plan c.args.spares.now c.args.self.now.state (answer_of c.args.told))
