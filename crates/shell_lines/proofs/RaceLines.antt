@@ -16,7 +16,7 @@ use Rattle.shell_lines.proofs.Tokens.{chosen, some_is}
 is_job : (n m : ℕ) → job_number n ≡ Some m → (n ≡ m) × (m < 4096)
 is_job n m h =
     elim (chosen (nat_lt n 4096) _ _ (Some m) h) [
-      | inl p ↦ let same = some_is n m p.1 in let low : n < 4096 = grind (arith, nat_tests, p.0) in (same, subst (λ (k : ℕ). k < 4096) same low)
+      | inl p ↦ let same = some_is n m p.1 in let low : n < 4096 = grind (arith, nat_tests, p.0) in (same, rw (← same) low)
       | inr out ↦ cc out.1
     ]
 

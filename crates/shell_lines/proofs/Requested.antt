@@ -80,19 +80,9 @@ link_is w found =
 
 is_link : (w : List ℕ) (link : Link) → word_of link ≡ Some w → link_in w ≡ Some link
 unfolding link_in
-is_link w link.Put h = rw (sym (some_is _ w h)) refl
-is_link w link.Delete h = rw (sym (some_is _ w h)) refl
-is_link w link.Base h = rw (sym (some_is _ w h)) refl
-is_link w link.Split h = rw (sym (some_is _ w h)) refl
-is_link w link.Term h = rw (sym (some_is _ w h)) refl
-is_link w link.Root h = rw (sym (some_is _ w h)) refl
-is_link w link.Hold h = rw (sym (some_is _ w h)) refl
-is_link w link.Remove h = rw (sym (some_is _ w h)) refl
-is_link w link.Merge h = rw (sym (some_is _ w h)) refl
-is_link w link.Unterm h = rw (sym (some_is _ w h)) refl
-is_link w link.Clear h = rw (sym (some_is _ w h)) refl
 is_link w link.Ready h = cc h
 is_link w link.Undo h = cc h
+is_link w link h = rw (sym (some_is _ w h)) refl
 
 -- ---- commands
 
@@ -111,34 +101,27 @@ two_are k v pair h =
 
 pair_is : (args : List (List ℕ)) (pair : List ℕ × List ℕ) → pair_in args ≡ Some pair → (k : List ℕ) × (v : List ℕ) × (args ≡ k ∷ v ∷ []) × Means k pair.0 × Means v pair.1
 unfolding pair_in
-pair_is [] pair h = cc h
-pair_is (k ∷ []) pair h = cc h
 pair_is (k ∷ v ∷ []) pair h = let both = two_are k v pair h in (k, v, refl, both.0, both.1)
-pair_is (k ∷ v ∷ x ∷ rest) pair h = cc h
+pair_is args pair h = cc h
 
 swap_is : (args : List (List ℕ)) (c : Command) → swap_in args ≡ Some c → SpellsCommand (codes "swap" ∷ args) c
 unfolding swap_in
-swap_is [] c h = cc h
-swap_is (k ∷ []) c h = cc h
-swap_is (k ∷ e ∷ []) c h = cc h
 swap_is (k ∷ e ∷ v ∷ []) c h =
     let a = then_some (λ (pair : List ℕ × List ℕ). option_map (Swap pair.0 pair.1) (token_value v)) (pair_said k e) c h in
     let b = map_some (Swap a.0.0 a.0.1) (token_value v) c a.2 in
     let p = two_are k e a.0 a.1 in
     rw (sym b.2) (k, e, v, refl, p.0, p.1, value_means v b.0 b.1)
-swap_is (k ∷ e ∷ v ∷ x ∷ rest) c h = cc h
+swap_is args c h = cc h
 
 addition_is : (args : List (List ℕ)) (c : Command) → addition_in args ≡ Some c → SpellsCommand (codes "add" ∷ args) c
 unfolding addition_in
-addition_is [] c h = cc h
-addition_is (k ∷ []) c h = cc h
 addition_is (k ∷ n ∷ []) c h =
     let a = then_some (λ (key : List ℕ). option_map (Add key) (number_said n)) (token_value k) c h in
     let b = map_some (Add a.0) (number_said n) c a.2 in
     let d = then_some fitting (number_of n) b.0 b.1 in
     let m = is_small d.0 b.0 d.2 in
-    rw (sym b.2) (k, n, refl, value_means k a.0 a.1, d.1 ∙ ap Some m.0, subst (λ (i : ℕ). i < 2 ^ 64) m.0 m.1)
-addition_is (k ∷ n ∷ x ∷ rest) c h = cc h
+    rw (sym b.2) (k, n, refl, value_means k a.0 a.1, d.1 ∙ ap Some m.0, rw (← m.0) m.1)
+addition_is args c h = cc h
 
 pub command_is : (fs : List (List ℕ)) (c : Command) → command_in fs ≡ Some c → SpellsCommand fs c
 unfolding command_in
@@ -210,8 +193,6 @@ begin_is (a ∷ rest) request h =
 
 turn_is : (args : List (List ℕ)) (request : Request) → turn_in args ≡ Some request → Spells Weave (codes "turn" ∷ args) request
 unfolding turn_in
-turn_is [] request h = cc h
-turn_is (a ∷ []) request h = cc h
 turn_is (a ∷ n ∷ []) request h =
     let x = then_some (λ actor. option_and_then (turn_by actor) (capped_number n)) (capped_number a) request h in
     let y = then_some (turn_by x.0) (capped_number n) request x.2 in
@@ -223,17 +204,15 @@ turn_is (a ∷ n ∷ []) request h =
           rw (sym same) ((a, n, refl, number_is a x.0 x.1, number_is n y.0 y.1, low, high), tt)
       | inr out ↦ cc out.1
     ]
-turn_is (a ∷ n ∷ x ∷ rest) request h = cc h
+turn_is args request h = cc h
 
 until_is : (args : List (List ℕ)) (request : Request) → until_in args ≡ Some request → Spells Weave (codes "until" ∷ args) request
 unfolding until_in
-until_is [] request h = cc h
-until_is (a ∷ []) request h = cc h
 until_is (a ∷ w ∷ []) request h =
     let x = then_some (λ actor. option_map (Until actor) (link_in w)) (capped_number a) request h in
     let y = map_some (Until x.0) (link_in w) request x.2 in
     rw (sym y.2) ((a, w, refl, number_is a x.0 x.1, link_is w y.0 y.1), tt)
-until_is (a ∷ w ∷ x ∷ rest) request h = cc h
+until_is args request h = cc h
 
 finish_is : (args : List (List ℕ)) (request : Request) → finish_in args ≡ Some request → Spells Weave (codes "finish" ∷ args) request
 unfolding finish_in
@@ -243,8 +222,6 @@ finish_is (a ∷ x ∷ rest) request h = cc h
 
 mix_is : (args : List (List ℕ)) (request : Request) → mix_in args ≡ Some request → Spells Weave (codes "mix" ∷ args) request
 unfolding mix_in
-mix_is [] request h = cc h
-mix_is (s ∷ []) request h = cc h
 mix_is (s ∷ n ∷ []) request h =
     let x = then_some (λ seed. option_and_then (mix_by seed) (capped_number n)) (option_and_then fitting (number_of s)) request h in
     let z = then_some fitting (number_of s) x.0 x.1 in
@@ -255,10 +232,10 @@ mix_is (s ∷ n ∷ []) request h =
           let same = some_is (Mix x.0 y.0) request p.1 in
           let low : 1 ≤ y.0 = grind (arith, nat_tests, p.0) in
           let high : y.0 ≤ 100000 = grind (arith, nat_tests, p.0) in
-          rw (sym same) ((s, n, refl, z.1 ∙ ap Some seed.0, subst (λ (m : ℕ). m < 2 ^ 64) seed.0 seed.1, number_is n y.0 y.1, low, high), tt)
+          rw (sym same) ((s, n, refl, z.1 ∙ ap Some seed.0, rw (← seed.0) seed.1, number_is n y.0 y.1, low, high), tt)
       | inr out ↦ cc out.1
     ]
-mix_is (s ∷ n ∷ x ∷ rest) request h = cc h
+mix_is args request h = cc h
 
 list_is : (language : Language) (args : List (List ℕ)) (request : Request) → IsAskedIn language ListPairs → list_in args ≡ Some request → Spells language (codes "list" ∷ args) request
 unfolding list_in
@@ -321,26 +298,18 @@ is_woven fs (Run command) h a = absurd a
 -- a command's verb isn't `list`
 is_run : (fs : List (List ℕ)) (command : Command) → SpellsCommand fs command → script_in fs ≡ option_map Run (command_in fs)
 unfolding script_in
-is_run fs (Get key) h = rw h.1 refl
 is_run fs (Insert key value) h = rw h.2 refl
 is_run fs (Upsert key value) h = rw h.2 refl
-is_run fs (Delete key) h = rw h.1 refl
 is_run fs (DeleteIf key expected) h = rw h.2 refl
 is_run fs (Swap key expected value) h = rw h.3 refl
 is_run fs (Add key number) h = rw h.2 refl
-is_run fs (Page key) h = rw h.1 refl
-is_run fs (Back key) h = rw h.1 refl
-is_run fs (Tidy key) h = rw h.1 refl
+is_run fs command h = rw h.1 refl
 
 is_script : (fs : List (List ℕ)) (request : Request) → SpellsRequest fs request → IsAskedIn Script request → script_in fs ≡ Some request
 unfolding script_in list_in
 is_script fs (Run command) h a = is_run fs command h ∙ ap (option_map Run) (is_command fs command h)
 is_script fs ListPairs h a = rw h refl
-is_script fs (Begin actor command) h a = absurd a
-is_script fs (Turn actor count) h a = absurd a
-is_script fs (Until actor link) h a = absurd a
-is_script fs (Finish actor) h a = absurd a
-is_script fs (Mix seed count) h a = absurd a
+is_script fs request h a = absurd a
 
 pub is_asked : (language : Language) (fs : List (List ℕ)) (request : Request) → Spells language fs request → request_in language fs ≡ Some request
 is_asked Script fs request h = is_script fs request h.0 h.1

@@ -57,22 +57,18 @@ spells_decoded i (high ∷ low ∷ digits) (byte ∷ bytes) h =
 pub decodes_spelled : (i : ℕ) (digits bytes : List ℕ) → SpellsBytes digits bytes → decode_pairs i digits ≡ Ok bytes
 unfolding decode_pairs
 decodes_spelled i [] [] h = refl
-decodes_spelled i [] (b ∷ bytes) h = absurd h
-decodes_spelled i (d ∷ []) bytes h = absurd h
-decodes_spelled i (high ∷ low ∷ digits) [] h = absurd h
 decodes_spelled i (high ∷ low ∷ digits) (byte ∷ bytes) h =
     let a = is_digit high h.0 h.2 in
     let b = is_digit low h.1 h.3 in
     let ih = decodes_spelled (i + 2) digits bytes h.5 in
     let sum : h.0 * 16 + h.1 ≡ byte = omega (arith, h.4) in
     rw (a, b, ih, sum) refl
+decodes_spelled i digits bytes h = absurd h
 
 even_spelled : (digits bytes : List ℕ) → SpellsBytes digits bytes → length digits % 2 ≡ 0
 even_spelled [] [] h = refl
-even_spelled [] (b ∷ bytes) h = absurd h
-even_spelled (d ∷ []) bytes h = absurd h
-even_spelled (high ∷ low ∷ digits) [] h = absurd h
 even_spelled (high ∷ low ∷ digits) (byte ∷ bytes) h = let ih = even_spelled digits bytes h.5 in omega arith
+even_spelled digits bytes h = absurd h
 
 -- `decode_of` by the grammar
 pub decode_is : (digits bytes : List ℕ) → decode_of digits ≡ Ok bytes → SpellsBytes digits bytes
