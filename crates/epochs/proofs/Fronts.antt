@@ -86,7 +86,7 @@ pub added_kept : (limit compared number : ℕ) (queue : Queue) → IsKeptList li
 added_kept limit compared number queue kept new = record {
   list = added_is_list (record { limit = limit; entries = queue.entries }) number kept.list new;
   room = kept.room;
-  front = (let long = length-append queue.entries (entry ∷ []) in let front = kept.front in omega (arith, long, front));
+  front = (let long = length-append queue.entries (entry ∷ []) in omega (arith, long));
   others =
       rw (drop-append-le compared queue.entries (entry ∷ []) kept.front) (All-append (λ (entry : Entry). is_passed entry.stage ≡ false) (drop compared queue.entries) (entry ∷ []) kept.others only);
   last = λ i j d before within. elim (cases_lt j (length queue.entries)) [

@@ -43,29 +43,26 @@ module _ (before now : List Entry) (end word kept place : ℕ) (d : Entry) (move
       sym (take-take place (place + 1) now le) ∙ ap (λ xs. take place xs) moved.front ∙ take-take place (place + 1) before le
 
   here : place < end
-  here = let order = moved.order in let within = moved.within in omega (arith, order, within)
+  here = omega arith
 
   pub one_gone : goes_with word (get_or now place d) ≡ true → IsMoved before now end word kept place
   one_gone goes =
       let more = part_more before end place d here long in
       let gone : goes_with word (get_or before place d) ≡ true = rw read_same at goes in
       let same : without word (part before end place) ≡ without word (part before end (place + 1)) = rw (more, gone) refl in
-      record { order = (let order = moved.order in omega (arith, order)); within = moved.within; front = front_same; back = rw same moved.back; left = rw same moved.left }
+      record { order = omega arith; within = moved.within; front = front_same; back = rw same moved.back; left = rw same moved.left }
 
   pub one_kept : length now ≡ length before → goes_with word (get_or now place d) ≡ false → IsMoved before (set now (kept - 1) (get_or now place d)) end word (kept - 1) place
   one_kept same_long goes =
-      let order = moved.order in
-      let within = moved.within in
-      let left = moved.left in
       let more = part_more before end place d here long in
       let stays : goes_with word (get_or before place d) ≡ false = rw read_same at goes in
       let one : without word (part before end place) ≡ get_or before place d ∷ without word (part before end (place + 1)) = rw (more, stays) refl in
-      let next : kept - 1 + 1 ≡ kept = omega (arith, order) in
-      let lt : kept - 1 < length now = omega (arith, order, within, long, same_long) in
+      let next : kept - 1 + 1 ≡ kept = omega arith in
+      let lt : kept - 1 < length now = omega arith in
       record {
-        order = omega (arith, order);
-        within = omega (arith, within);
-        front = take-set-le place now (kept - 1) (get_or now place d) (omega (arith, order)) ∙ front_same;
+        order = omega arith;
+        within = omega arith;
+        front = take-set-le place now (kept - 1) (get_or now place d) (omega arith) ∙ front_same;
         back = drop-set now (kept - 1) (get_or now place d) lt ∙ rw (next, moved.back, one, read_same) refl;
-        left = rw one (omega (arith, left, order));
+        left = rw one (omega arith);
       }

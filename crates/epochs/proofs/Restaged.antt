@@ -75,13 +75,11 @@ keeps_stamp epoch (Passed stamp) stamped = refl
 
 has_stamp : (epoch : ℕ) (stage : Stage) → is_unstamped (stamped_by epoch stage) ≡ false
 has_stamp epoch Unstamped = refl
-has_stamp epoch (Stamped stamp) = refl
-has_stamp epoch (Passed stamp) = refl
+has_stamp epoch stage = refl
 
 stamped_passed : (epoch : ℕ) (stage : Stage) → is_passed (stamped_by epoch stage) ≡ is_passed stage
 stamped_passed epoch Unstamped = refl
-stamped_passed epoch (Stamped stamp) = refl
-stamped_passed epoch (Passed stamp) = refl
+stamped_passed epoch stage = refl
 
 -- what has a stamp keeps it
 pub first_stamped : (epoch from : ℕ) (entries : List Entry) → from ≤ length entries → AreStamped (take from entries) → first_restaged from (stamped_by epoch) entries ≡ entries

@@ -5,8 +5,5 @@ use Rattle.epochs.proofs.list.LimboList.compare_first.Goals as goal
 pub invariant_of-self : goal.invariant_of-self
 invariant_of-self g c =
     let all : length c.as_slice.result.now ≡ length c.self.inside.entries.entries = ap length c.as_slice.ensures in
-    let front = c.self.invariant.front in
-    let count = c.min-count.ensures in
-    let now = c.max-self-inside.ensures in
     rw c.compare_first.ensures
-    (compared_kept _ _ c.min-count.result _ c.args.announces.now _ (omega (arith, all, count)) (omega (arith, now)) (omega (arith, now)) (omega (arith, all, front, count, now)) c.self.invariant)
+    (compared_kept _ _ c.min-count.result _ c.args.announces.now _ (omega (arith, all)) (omega arith) (omega arith) (omega (arith, all)) c.self.invariant)
