@@ -1,20 +1,18 @@
 -- What a reader's round finds on its way round a removed index page.
-use Rattle.std.proofs.Common.{◌≡◌, ◌≢◌, ◌<◌, ◌-◌, ◌⊎◌, inl, inr, ℕ, List, Bool, true, false, Option, None, Some, refl, arith}
-use Rattle.std.specs.Prelude.{IsTrue, MatchOption}
+use Rattle.rounds.proofs.Words.{◌≡◌, ◌<◌, inl, inr, ℕ, List, true, false, Option, None, Some, refl, arith, IsTrue, MatchOption, Limits, content_in, level_in, low_in, right_in, IsFitted}
+use Rattle.rounds.proofs.Words.{Version, Round, above_of, read_way, down_within}
+use Rattle.std.proofs.Common.{◌≢◌, ◌-◌, ◌⊎◌, Bool}
 use Rattle.std.proofs.lemmas.Option.{same_Some}
-use Rattle.tree_limits.specs.declared.limits.Limits.{Limits}
 use Rattle.base_page.specs.Places.{HasNoChild, IsGreatestChild}
-use Rattle.traces.specs.chain.Chains.{content_in, is_removed, level_in, low_in, right_in}
+use Rattle.traces.specs.chain.Chains.{is_removed}
 use Rattle.traces.specs.discipline.Discipline.{NamesChild}
-use Rattle.traces.specs.chain.Fitted.{IsFitted}
-use Rattle.structure_changes.specs.Versions.{Version}
 use Rattle.round_model.specs.ReadGoals.{ReadGoal}
-use Rattle.round_model.specs.ReadLegs.{Leg, Down, Round, Past, above_of}
-use Rattle.round_model.specs.ReadRounds.{CanGoRound, CanMeetLeg, CanTreatRead, IsAtLevel, IsAtMergedPage, LacksLeft, ReadRound, TreatsRead, reading_on_to, left_of, on, read_way}
+use Rattle.round_model.specs.ReadLegs.{Leg, Down, Past}
+use Rattle.round_model.specs.ReadRounds.{CanGoRound, CanMeetLeg, CanTreatRead, IsAtLevel, IsAtMergedPage, LacksLeft, ReadRound, TreatsRead, reading_on_to, left_of, on}
 use Rattle.round_model.specs.Walks.{IsReached}
 use Rattle.round_model.specs.Ways.{LeadsDown, LeadsOn, LeadsRight, StaysLeft}
 use Rattle.round_model.proofs.Passing.{before_on}
-use Rattle.round_model.proofs.WayLaws.{down_within, goes_down, on_within}
+use Rattle.round_model.proofs.WayLaws.{goes_down, on_within}
 use Rattle.rounds.specs.ReadRounds.{IsOnLevelOf, LeadsLeft}
 
 -- the child below a page that the page above has is where it leads to the left of the page

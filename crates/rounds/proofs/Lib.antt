@@ -8,3 +8,4 @@ pub mod Turning
 pub mod WayTurns
 pub mod WriteReading
 pub mod WriteSeeing
+pub mod Words

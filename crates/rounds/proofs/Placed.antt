@@ -1,18 +1,13 @@
 -- What an answer makes of a descent in its place.
-use Rattle.std.proofs.Common.{◌≡◌, ◌<◌, ◌++◌, inl, inr, ℕ, List, [], ◌∷◌, length, Option, Some, None, refl, sym, ap, subst}
-use Rattle.std.specs.Prelude.{IfSome, MatchOption, unwrap_or}
-use Rattle.tree_limits.specs.declared.limits.Limits.{Limits}
+use Rattle.rounds.proofs.Words.{◌≡◌, ◌<◌, inl, inr, ℕ, List, Option, Some, None, refl, sym, ap, MatchOption, Limits, Number, Content, Record, PlacedChain, Version, IsTold}
+use Rattle.std.proofs.Common.{◌++◌, [], ◌∷◌, length}
+use Rattle.std.specs.Prelude.{unwrap_or}
 use Rattle.bw_model.specs.declared.step.Step.TheVariants as step
-use Rattle.bw_model.specs.declared.step.Answer.TheVariants.{Number, Content}
-use Rattle.deltas.specs.declared.record.Record.{Record}
 use Rattle.deltas.specs.Records.{next_row}
 use Rattle.traces.specs.chain.Chains.{IsFront, chain_rows}
 use Rattle.traces.specs.chain.Fitted.{IsPageChain}
-use Rattle.row_chain.specs.Placed.{PlacedChain}
 use Rattle.structure_changes.specs.Reads.{chain_of}
-use Rattle.structure_changes.specs.Versions.{Version}
 use Rattle.round_model.specs.Descents.{Descent, Responds, Root, Page, descending, wanted_step}
-use Rattle.round_model.specs.Machines.{IsTold}
 use Rattle.round_model.specs.Visits as page
 use Rattle.round_model.specs.Visits.{Empty, Whole, VisitState, Slot, Row}
 use Rattle.round_model.proofs.Visiting.{row_below, whole_chain}
@@ -60,10 +55,10 @@ module _ (limits : Limits) (pid head row : ℕ) (part : List Record) (w : Record
   pub lies_next : (asked : ℕ) → wanted_step (visiting limits pid part (Row head row)) ≡ step.Row asked → Told → chain_rows head (part ++ w ∷ []) ≡ chain_rows head part ++ asked ∷ []
   lies_next asked is told =
       let same : row ≡ asked = cc in
-      subst (λ (n : ℕ). chain_rows head (part ++ w ∷ []) ≡ chain_rows head part ++ n ∷ []) same (lies_behind told.k.read.seen part head row w told.shows.stands.seen)
+      rw same at (lies_behind told.k.read.seen part head row w told.shows.stands.seen)
 
   pub under_within : (under : ℕ) → next_row w ≡ Some under → Told → (0 < under) × (under < limits.rows)
-  under_within under is told = subst (λ (o : Option ℕ). IfSome o (λ n. (0 < n) × (n < limits.rows))) is told.fits.next
+  under_within under is told = rw is at told.fits.next
 
   pub is_whole : next_row w ≡ None → Told → IsPageChain (part ++ w ∷ [])
   is_whole last told = (whole_chain told.k visit head row w last told.shows told.fits).is_chain

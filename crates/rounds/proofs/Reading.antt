@@ -1,21 +1,14 @@
 -- The pages at which a reader's round looks were read, and their records are there.
-use Rattle.std.proofs.Common.{◌≡◌, ℕ, List, Option, Some, subst}
+use Rattle.rounds.proofs.Words.{◌≡◌, ℕ, List, Option, Some, Limits, Answer, Record, IsReadPage, Version, IsToldThere, Round, above_of, machine}
 use Rattle.std.specs.Prelude.{IfSome}
 use Rattle.std.proofs.lemmas.Option.{IfSome_then, same_Some}
-use Rattle.tree_limits.specs.declared.limits.Limits.{Limits}
-use Rattle.bw_model.specs.declared.step.Answer.{Answer}
-use Rattle.deltas.specs.declared.record.Record.{Record}
-use Rattle.traces.specs.discipline.Fitting.{Fits}
 use Rattle.traces.specs.discipline.Knowledge.{Knowledge, learn}
 use Rattle.traces.specs.discipline.Recalled.{Recalled, recall}
-use Rattle.structure_changes.specs.Reads.{IsReadPage}
-use Rattle.structure_changes.specs.Versions.{Version}
 use Rattle.round_model.specs.Descents.{Finds, WayState}
-use Rattle.round_model.specs.Machines.{AreThere, IsToldThere}
+use Rattle.round_model.specs.Machines.{AreThere}
 use Rattle.round_model.specs.ReadGoals.{ReadGoal, Seek, Left, Beyond}
-use Rattle.round_model.specs.ReadLegs.{Leg, Down, Round, Past, above_of}
-use Rattle.round_model.specs.ReadRounds.{ReadRound, Shows, ShowsVisit, at, reading, wanted_step}
-use Rattle.round_model.specs.Rounds.{machine}
+use Rattle.round_model.specs.ReadLegs.{Leg, Down, Past}
+use Rattle.round_model.specs.ReadRounds.{ReadRound, at, reading}
 use Rattle.round_model.specs.Visits as page
 use Rattle.round_model.specs.Visits.{Whole}
 use Rattle.round_model.specs.Walks.{HasArrived}
@@ -50,20 +43,20 @@ module _ (is_there : ℕ → Record → Type 0) where
       → IsToldThere is_there (machine reading) old told → AreReadFor is_there (at old other) version
   are_read old other told version b t =
       let visit = b.visit in
-      let h : ShowsVisit old.limits old.key old.goal old.leg t.k t.r visit = subst (λ (s : WayState). Shows (at old s) t.k t.r) b.asked t.shows in
-      let f : Fits old.limits t.k (page.wanted_step visit) told = subst (λ (s : WayState). Fits old.limits t.k (wanted_step (at old s)) told) b.asked t.fits in
+      let h = rw b.asked at t.shows in
+      let f = rw b.asked at t.fits in
       let now : Knowledge = learn t.k (page.wanted_step visit) told in
-      let there : AreThere is_there now = subst (λ (s : WayState). AreThere is_there (learn t.k (wanted_step (at old s)) told)) b.asked t.there in
+      let there : AreThere is_there now = rw b.asked at t.there in
       let d = by_leg old.limits old.key t.k now (recall t.r (page.wanted_step visit) told) version there old.goal old.leg
       (whole old.limits old.key old.goal t.k t.r visit told f old.leg h version b.responds) in
       record { page = d.0; aside = d.1; leg = d.2 }
 
   -- the page above is there
   pub above_read : (leg : Leg) (above : Version) → above_of leg ≡ Some above → IsReadLeg is_there leg → IsReadPage is_there above
-  above_read (Down (Some page)) above e read = subst (IsReadPage is_there) (same_Some _ _ e) read
-  above_read (Past (Some page)) above e read = subst (IsReadPage is_there) (same_Some _ _ e) read
+  above_read (Down (Some page)) above e read = rw (same_Some _ _ e) at read
+  above_read (Past (Some page)) above e read = rw (same_Some _ _ e) at read
   above_read other above e read = cc
 
   -- so is the page that a round goes round
   pub round_read : (leg : Leg) (removed : Version) → leg ≡ Round removed → IsReadLeg is_there leg → IsReadPage is_there removed
-  round_read leg removed e read = subst (IsReadLeg is_there) e read
+  round_read leg removed e read = rw e at read

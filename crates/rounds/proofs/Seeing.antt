@@ -1,22 +1,15 @@
 -- What a reader's round in its place makes of an answer, by what its descent makes of it.
-use Rattle.std.proofs.Common.{◌≡◌, inl, inr, ℕ, List, Option, None, Some, refl, sym, ap, subst}
-use Rattle.std.specs.Option.{option_map}
-use Rattle.tree_limits.specs.declared.limits.Limits.{Limits}
-use Rattle.bw_model.specs.declared.step.Answer.{Answer}
-use Rattle.deltas.specs.declared.record.Record.{Record}
-use Rattle.structure_changes.specs.Versions.{Version}
+use Rattle.rounds.proofs.Words.{◌≡◌, inl, inr, ℕ, List, Option, None, Some, refl, ap, option_map, Limits, Answer, Record, Version, IsTold, machine, PlacedDescent, sight_of, PlacedRead, More}
 use Rattle.round_model.specs.Descents as from_root
-use Rattle.round_model.specs.Machines.{IsTold}
 use Rattle.round_model.specs.ReadEnds as end
 use Rattle.round_model.specs.ReadRounds as reader
-use Rattle.round_model.specs.Rounds.{Responds, machine}
+use Rattle.round_model.specs.Rounds.{Responds}
 use Rattle.round_model.specs.Visits as sight
 use Rattle.round_model.proofs.Reading.{can_see, treats_as, way_shows}
-use Rattle.rounds.specs.Descents.{PlacedDescent, sight_of}
 use Rattle.rounds.specs.Legs.{PlacedLeg}
-use Rattle.rounds.specs.ReadRounds.{PlacedRead, ended_read, read_goal}
+use Rattle.rounds.specs.ReadRounds.{ended_read, read_goal}
 use Rattle.rounds.specs.declared.descents.SightKind.{SightKind}
-use Rattle.rounds.specs.declared.descents.SightKind.TheVariants.{More, Empty, Whole}
+use Rattle.rounds.specs.declared.descents.SightKind.TheVariants.{Empty, Whole}
 use Rattle.rounds.specs.declared.read_round.ReadGoalKind.{ReadGoalKind}
 use Rattle.rounds.specs.declared.read_round.ReadEndKind.{ReadEndKind}
 
@@ -38,13 +31,11 @@ module _ (was : PlacedRead) (now : PlacedDescent) (told : Answer Record) where
 
   -- the page that is whole is one that the round has reached
   pub can_treat_now : Moved Whole → now.way.limits ≡ was.round.limits → IsTold (machine reader.reading) was.round told → reader.CanTreatRead (after was now).round now.page
-  can_treat_now b limits t = subst (λ (l : Limits). reader.CanTreatRead (with_limits l) now.page) (sym limits) (can_see was.round now.way.state told (sight.Whole now.page) b t)
+  can_treat_now b limits t = rw limits (can_see was.round now.way.state told (sight.Whole now.page) b t)
 
   -- the round reads on
   pub goes_on : Moved More → now.way.limits ≡ was.round.limits → Responds reader.reading was.round told (after was now).round None
-  goes_on b limits =
-      let same : (after was now).round ≡ with_limits was.round.limits = ap with_limits limits in
-      inl (record { on = b; same = same; none = refl })
+  goes_on b limits = inl (record { on = b; same = ap with_limits limits; none = refl })
 
   -- a page that was named isn't there
   pub is_missing : Moved Empty → Responds reader.reading was.round told (after was now).round (Some end.Again)
@@ -55,8 +46,7 @@ module _ (was : PlacedRead) (now : PlacedDescent) (told : Answer Record) where
       → reader.TreatsRead (after was now).round now.page new.round (option_map (ended_read new) result)
       → Responds reader.reading was.round told new.round (option_map (ended_read new) result)
   treats_now new result b limits treats =
-      let there : reader.TreatsRead (with_limits was.round.limits) now.page new.round (option_map (ended_read new) result) =
-      subst (λ (l : Limits). reader.TreatsRead (with_limits l) now.page new.round (option_map (ended_read new) result)) limits treats in
+      let there = rw limits at treats in
       inr (record { sight = sight.Whole now.page; finds = b; sees = treats_as was.round new.round was.round.state now.way.state now.page (option_map (ended_read new) result) there })
 
 -- the round whose fields these are

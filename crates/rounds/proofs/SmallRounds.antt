@@ -1,11 +1,7 @@
 -- What the definitions of rounds in place say of small cases.
-use Rattle.std.proofs.Common.{◌≡◌, ℕ, [], ◌∷◌, Some, None, true, refl}
-use Rattle.std.specs.Option.{option_map}
-use Rattle.tree_limits.specs.declared.limits.Limits.{Limits}
+use Rattle.rounds.proofs.Words.{◌≡◌, ℕ, Some, None, true, refl, option_map, Limits, Record, IsReadPage, Version, sight_of, More}
+use Rattle.std.proofs.Common.{[], ◌∷◌}
 use Rattle.bw_model.specs.declared.step.Step.TheVariants as step
-use Rattle.deltas.specs.declared.record.Record.{Record}
-use Rattle.structure_changes.specs.Reads.{IsReadPage}
-use Rattle.structure_changes.specs.Versions.{Version}
 use Rattle.round_model.specs.Descents.{going_to, wanted_at}
 use Rattle.round_model.specs.ReadRounds as reader
 use Rattle.round_model.specs.Descents as stands
@@ -13,11 +9,11 @@ use Rattle.round_model.specs.ReadGoals as goal
 use Rattle.round_model.specs.ReadLegs as legs
 use Rattle.round_model.specs.ReadEnds as end
 use Rattle.round_model.specs.Visits as sight
-use Rattle.rounds.specs.Descents.{sight_of, placed_state, asked_step}
+use Rattle.rounds.specs.Descents.{placed_state, asked_step}
 use Rattle.rounds.specs.ReadRounds.{AreReadFor, read_again_if, ended_read, read_goal}
 use Rattle.rounds.specs.declared.asked.Asked.TheVariants as asked
 use Rattle.rounds.specs.declared.descents.WayStateKind.TheVariants.{Root, Slot, Row}
-use Rattle.rounds.specs.declared.descents.SightKind.TheVariants.{More, Empty, Whole}
+use Rattle.rounds.specs.declared.descents.SightKind.TheVariants.{Empty, Whole}
 use Rattle.rounds.specs.declared.read_round.ReadGoalKind.TheVariants.{Seek, Left}
 use Rattle.rounds.specs.declared.read_round.ReadEndKind.TheVariants.{Removed, Beside}
 

@@ -1,16 +1,12 @@
 -- What the definitions of a writer's round in its place say of small cases.
-use Rattle.std.proofs.Common.{◌≡◌, ℕ, true, false, Some, None, refl}
-use Rattle.std.specs.Option.{option_map}
-use Rattle.deltas.specs.declared.record.Record.{Record}
+use Rattle.rounds.proofs.Words.{◌≡◌, ℕ, true, false, Some, None, refl, option_map, Record, IsReadPage, Version, PlacedWrite}
 use Rattle.structure_changes.specs.declared.after.After.{After}
 use Rattle.structure_changes.specs.declared.plan.Plan.{Plan}
-use Rattle.structure_changes.specs.Reads.{IsReadPage}
-use Rattle.structure_changes.specs.Versions.{Version}
 use Rattle.round_model.specs.Courses as kept
 use Rattle.round_model.specs.WriteRounds as writer
 use Rattle.round_model.specs.WriteEnds as end
 use Rattle.rounds.specs.Courses.{write_goal, kept_if}
-use Rattle.rounds.specs.WriteRounds.{AreReadToWrite, PlacedWrite, write_again_if, ended_write}
+use Rattle.rounds.specs.WriteRounds.{AreReadToWrite, write_again_if, ended_write}
 use Rattle.rounds.specs.declared.course.WriteGoalKind.TheVariants as kind
 use Rattle.rounds.specs.declared.write_end_kind.WriteEndKind.TheVariants.{Removed, Due, Leaf}
 

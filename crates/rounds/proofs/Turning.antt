@@ -1,11 +1,10 @@
 -- What a writer's round finds at a page: how long and how wide it is, and where the round goes.
-use Rattle.std.proofs.Common.{◌≡◌, ◌<◌, ◌≤◌, inl, ℕ, suc, Bool, true, false, List, length, None, Some, refl, arith}
+use Rattle.rounds.proofs.Words.{◌≡◌, ◌<◌, inl, ℕ, true, false, List, None, Some, refl, ap, ◌∙◌, arith, Limits, Record, level_in, IsFitted, PlacedChain, Version}
+use Rattle.std.proofs.Common.{◌≤◌, suc, Bool, length}
 use Rattle.std.proofs.Math.Nat.{lt_of_not-le}
-use Rattle.tree_limits.specs.declared.limits.Limits.{Limits}
 use Rattle.base_page.specs.declared.item.Item.{Item}
-use Rattle.deltas.specs.declared.record.Record.{Record}
-use Rattle.traces.specs.chain.Chains.{IsItemsOf, level_in}
-use Rattle.traces.specs.chain.Fitted.{IsFitted}
+use Rattle.traces.specs.chain.Chains.{IsItemsOf}
+use Rattle.structure_changes.specs.Reads.{chain_of}
 use Rattle.structure_changes.specs.Sizes.{HasFewDeltas, HasManyItems, HasMergeRoom, many_of}
 use Rattle.structure_changes.proofs.Few.{few_many}
 use Rattle.structure_changes.proofs.Places.{made}
@@ -15,6 +14,14 @@ use Rattle.round_model.specs.WriteRounds.{IsLong, SeeksLeaf, ends_at}
 -- what a test would have said isn't so
 pub denied : (b : Bool) (P : Type 0) → (P → b ≡ true) → b ≡ false → P → ⊥
 denied b P tells off h = let on = tells h in cc
+
+-- the records of a page's chain, and their level, are those of the version that it is
+pub records_of : {chain : PlacedChain} {page now : Version} → chain ≡ chain_of page → page ≡ now → chain.records ≡ now.chain
+records_of are is = ap (λ (chain : PlacedChain). chain.records) are ∙ ap (λ (v : Version). v.chain) is
+
+pub level_of : {chain : PlacedChain} {page now : Version} {level : ℕ} → level ≡ level_in chain.records → chain ≡ chain_of page → page ≡ now
+    → level ≡ level_in now.chain
+level_of same are is = same ∙ ap level_in (records_of are is)
 
 -- a page that isn't long has few deltas
 pub few_deltas : (limits : Limits) (due : ℕ) (chain : List Record) → ¬ IsLong limits due chain → HasFewDeltas chain

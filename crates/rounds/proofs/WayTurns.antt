@@ -1,9 +1,8 @@
 -- Where a page ends, by whether its end is on the way.
-use Rattle.std.proofs.Common.{◌≡◌, ℕ, List, Bool, Option, Some, None, sym, ap, ◌∙◌}
-use Rattle.std.specs.Prelude.{IsFalse, IsTrue, MatchOption}
-use Rattle.deltas.specs.declared.record.Record.{Record}
-use Rattle.traces.specs.chain.Chains.{high_in, right_in}
-use Rattle.traces.specs.chain.Fitted.{IsFitted}
+use Rattle.rounds.proofs.Words.{◌≡◌, ℕ, List, Option, Some, None, sym, ap, ◌∙◌, IsTrue, MatchOption, Record, right_in, IsFitted}
+use Rattle.std.proofs.Common.{Bool}
+use Rattle.std.specs.Prelude.{IsFalse}
+use Rattle.traces.specs.chain.Chains.{high_in}
 use Rattle.round_model.specs.Ways.{LeadsRight, StaysLeft}
 use Rattle.round_model.proofs.WayLaws.{goes_right}
 

@@ -1,29 +1,20 @@
 -- The pages at which a writer's round looks were read, and their records are there.
-use Rattle.std.proofs.Common.{◌≡◌, ℕ, List, refl, subst}
+use Rattle.rounds.proofs.Words.{◌≡◌, ℕ, List, refl, Answer, Content, Record, Version, IsTold, IsToldThere, machine, writing, PlacedDescent, PlacedWrite}
 use Rattle.std.proofs.lemmas.Bool.{eq-eqb}
 use Rattle.std.proofs.lemmas.Option.{IfSome_then}
-use Rattle.bw_model.specs.declared.step.Step.{Step as StepOf}
 use Rattle.bw_model.specs.declared.step.Step.TheVariants as step
-use Rattle.bw_model.specs.declared.step.Answer.{Answer}
-use Rattle.bw_model.specs.declared.step.Answer.TheVariants.{Content}
-use Rattle.deltas.specs.declared.record.Record.{Record}
-use Rattle.traces.specs.discipline.Fitting.{Fits}
 use Rattle.traces.specs.discipline.Knowledge.{Knowledge, learn}
 use Rattle.traces.specs.discipline.Recalled.{recall}
-use Rattle.structure_changes.specs.Versions.{Version}
 use Rattle.round_model.specs.Courses.{WriteGoal, Seek, Left, Merge, Unterm}
 use Rattle.round_model.specs.Descents.{Finds, WayState}
-use Rattle.round_model.specs.Machines.{AreThere, IsTold, IsToldThere, Machine}
-use Rattle.round_model.specs.Rounds.{machine}
+use Rattle.round_model.specs.Machines.{AreThere, Machine}
 use Rattle.round_model.specs.Visits as page
 use Rattle.round_model.specs.Visits.{Whole}
-use Rattle.round_model.specs.WriteResponses.{writing}
-use Rattle.round_model.specs.WriteRounds.{Shows, VisitsToWrite, WriteRound, at, wanted_step}
+use Rattle.round_model.specs.WriteRounds.{WriteRound, at}
 use Rattle.round_model.proofs.Keeping.{Passed, reached_next}
 use Rattle.round_model.proofs.SeenPages.{seen_is_read}
 use Rattle.round_model.proofs.Seeking.{hand}
-use Rattle.rounds.specs.Descents.{PlacedDescent}
-use Rattle.rounds.specs.WriteRounds.{AreReadToWrite, IsGoalRead, PlacedWrite}
+use Rattle.rounds.specs.WriteRounds.{AreReadToWrite, IsGoalRead}
 use Rattle.rounds.specs.declared.descents.SightKind.TheVariants as seen
 use Rattle.rounds.proofs.WriteSeeing.{Moved, after}
 
@@ -35,7 +26,7 @@ module _ (is_there : ℕ → Record → Type 0) where
     -- the record that was read now
     pub read_now : (row : ℕ) (content : Record) → machine.wanted at ≡ step.Row row → IsToldThere is_there machine at (Content content) → is_there row content
     read_now row content asked t =
-        let there : AreThere is_there (learn t.k (step.Row row) (Content content)) = subst (λ (s : StepOf Record). AreThere is_there (learn t.k s (Content content))) asked t.there in
+        let there : AreThere is_there (learn t.k (step.Row row) (Content content)) = rw asked at t.there in
         there row content (rw (eq-eqb row row refl) refl)
 
   -- the page that is whole, and those that the round keeps
@@ -49,10 +40,10 @@ module _ (is_there : ℕ → Record → Type 0) where
     pub are_read : Finds (writing.way old) told (Whole version) → IsToldThere is_there (machine writing) old told → AreReadToWrite is_there (at old other) version
     are_read b t =
         let visit = b.visit in
-        let h : VisitsToWrite old.limits old.key old.floor old.splits old.goal old.parent old.left t.k t.r visit = subst (λ (s : WayState). Shows (at old s) t.k t.r) b.asked t.shows in
-        let f : Fits old.limits t.k (page.wanted_step visit) told = subst (λ (s : WayState). Fits old.limits t.k (wanted_step (at old s)) told) b.asked t.fits in
+        let h = rw b.asked at t.shows in
+        let f = rw b.asked at t.fits in
         let now : Knowledge = learn t.k (page.wanted_step visit) told in
-        let there : AreThere is_there now = subst (λ (s : WayState). AreThere is_there (learn t.k (wanted_step (at old s)) told)) b.asked t.there in
+        let there : AreThere is_there now = rw b.asked at t.there in
         let d = reached_next old.limits old.key old.floor old.splits old.goal old.parent old.left t.k t.r visit told h f version b.responds in
         record {
           page = seen_is_read is_there now version (hand old.limits t.k now (recall t.r (page.wanted_step visit) told) version d.level d.low d.earlier d.arrives).seen there;

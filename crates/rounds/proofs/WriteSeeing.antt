@@ -1,24 +1,19 @@
 -- What a writer's round in its place makes of an answer, by what its descent makes of it.
-use Rattle.std.proofs.Common.{◌≡◌, inl, inr, ℕ, List, Bool, Option, None, Some, refl, sym, ap, subst}
-use Rattle.std.specs.Option.{option_map}
-use Rattle.tree_limits.specs.declared.limits.Limits.{Limits}
-use Rattle.bw_model.specs.declared.step.Answer.{Answer}
+use Rattle.rounds.proofs.Words.{◌≡◌, inl, inr, ℕ, List, Option, None, Some, refl, ap, option_map, Limits, Answer, Record, IsTold, machine, PlacedDescent, sight_of, PlacedWrite, More}
+use Rattle.std.proofs.Common.{Bool}
 use Rattle.structure_changes.specs.declared.after.After.{After}
 use Rattle.structure_changes.specs.declared.plan.Plan.{Plan}
-use Rattle.deltas.specs.declared.record.Record.{Record}
 use Rattle.round_model.specs.Descents as from_root
-use Rattle.round_model.specs.Machines.{IsTold}
-use Rattle.round_model.specs.Rounds.{Responds, machine}
+use Rattle.round_model.specs.Rounds.{Responds}
 use Rattle.round_model.specs.WriteResponses as response
 use Rattle.round_model.specs.WriteRounds as writer
 use Rattle.round_model.specs.Visits as sight
 use Rattle.round_model.specs.WriteEnds as end
 use Rattle.round_model.proofs.Writing.{can_see, treats_as, way_shows}
 use Rattle.rounds.specs.Courses.{PlacedCourse}
-use Rattle.rounds.specs.Descents.{PlacedDescent, sight_of}
-use Rattle.rounds.specs.WriteRounds.{PlacedWrite, ended_write}
+use Rattle.rounds.specs.WriteRounds.{ended_write}
 use Rattle.rounds.specs.declared.descents.SightKind.{SightKind}
-use Rattle.rounds.specs.declared.descents.SightKind.TheVariants.{More, Empty, Whole}
+use Rattle.rounds.specs.declared.descents.SightKind.TheVariants.{Empty, Whole}
 use Rattle.rounds.specs.declared.write_end_kind.WriteEndKind.{WriteEndKind}
 
 -- an answer that fits the round fits its descent
@@ -39,13 +34,11 @@ module _ (was : PlacedWrite) (now : PlacedDescent) (told : Answer Record) where
 
   -- the page that is whole is one that the round has reached
   pub can_treat_now : Moved Whole → now.way.limits ≡ was.round.limits → IsTold (machine response.writing) was.round told → response.CanTreatWrite (after was now).round now.page
-  can_treat_now b limits t = subst (λ (l : Limits). response.CanTreatWrite (with_limits l) now.page) (sym limits) (can_see was.round now.way.state told (sight.Whole now.page) b t)
+  can_treat_now b limits t = rw limits (can_see was.round now.way.state told (sight.Whole now.page) b t)
 
   -- the round reads on
   pub goes_on : Moved More → now.way.limits ≡ was.round.limits → Responds response.writing was.round told (after was now).round None
-  goes_on b limits =
-      let same : (after was now).round ≡ with_limits was.round.limits = ap with_limits limits in
-      inl (record { on = b; same = same; none = refl })
+  goes_on b limits = inl (record { on = b; same = ap with_limits limits; none = refl })
 
   -- a page that was named isn't there
   pub is_missing : Moved Empty → Responds response.writing was.round told (after was now).round (Some end.Again)
@@ -56,8 +49,7 @@ module _ (was : PlacedWrite) (now : PlacedDescent) (told : Answer Record) where
       → response.TreatsWrite (after was now).round now.page new.round (option_map (ended_write new) result)
       → Responds response.writing was.round told new.round (option_map (ended_write new) result)
   treats_now new result b limits treats =
-      let there : response.TreatsWrite (with_limits was.round.limits) now.page new.round (option_map (ended_write new) result) =
-      subst (λ (l : Limits). response.TreatsWrite (with_limits l) now.page new.round (option_map (ended_write new) result)) limits treats in
+      let there = rw limits at treats in
       inr (record { sight = sight.Whole now.page; finds = b; sees = treats_as was.round new.round was.round.state now.way.state now.page (option_map (ended_write new) result) there })
 
 -- the round whose fields these are

@@ -1,7 +1,5 @@
-use Rattle.std.proofs.Common.{true, false, None}
-use Rattle.std.specs.Prelude.{IsTrue}
+use Rattle.rounds.proofs.Words.{true, false, None, IsTrue, content_in, low_in}
 use Rattle.base_page.specs.Places.{IsGreatestChild}
-use Rattle.traces.specs.chain.Chains.{content_in, low_in}
 use Rattle.traces.proofs.FittedLaws.{has_child}
 use Rattle.round_model.specs.Ways.{passes}
 use Rattle.round_model.proofs.WayLaws.{goes_down}

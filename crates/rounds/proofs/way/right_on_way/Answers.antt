@@ -1,4 +1,4 @@
-use Rattle.std.proofs.Common.{refl}
+use Rattle.rounds.proofs.Words.{refl}
 use Rattle.traces.specs.chain.Chains.{high_in}
 use Rattle.round_model.specs.Ways.{passes}
 use Rattle.rounds.proofs.WayTurns.{leads_right, stays_left}

@@ -1,30 +1,24 @@
-use Rattle.std.proofs.Common.{sym, ◌∙◌}
-use Rattle.bw_model.specs.declared.step.Answer.TheVariants.{Content}
-use Rattle.round_model.specs.Descents.{Root, descending}
-use Rattle.round_model.specs.Machines.{IsTold}
-use Rattle.round_model.specs.Visits.{Row}
-use Rattle.rounds.proofs.Placed.{completes, continues, few, is_whole, lies_next, visiting}
+use Rattle.rounds.proofs.Words.{sym, ◌∙◌}
+use Rattle.round_model.specs.Descents.{Root}
+use Rattle.rounds.proofs.Placed.{completes, continues, few, is_whole, lies_next}
 use Rattle.rounds.proofs.descents.Descent.take_record.Goals as goal
 
 pub push-requires-clause-few : goal.push-requires-clause-few
 push-requires-clause-few g c =
     let part = c.self.inside.part in
-    let told : IsTold descending (visiting c.self.inside.limits c.in-Row.pid part.records (Row part.head c.in-Row.row)) (Content c.args.found.content) = rw
-    (← c.self.view_is, c.in-Row.is) at c.requires.told in
+    let told = rw (← c.self.view_is, c.in-Row.is) at c.requires.told in
     few c.self.inside.limits c.in-Row.pid part.head c.in-Row.row part.records c.args.found.content told
 
 pub push-requires-clause-next : goal.push-requires-clause-next
 push-requires-clause-next g c =
     let part = c.self.inside.part in
-    let told : IsTold descending (visiting c.self.inside.limits c.in-Row.pid part.records (Row part.head c.in-Row.row)) (Content c.args.found.content) = rw
-    (← c.self.view_is, c.in-Row.is) at c.requires.told in
+    let told = rw (← c.self.view_is, c.in-Row.is) at c.requires.told in
     lies_next c.self.inside.limits c.in-Row.pid part.head c.in-Row.row part.records c.args.found.content c.args.found.row (rw (← c.self.view_is, c.in-Row.is) at c.requires.asked) told
 
 pub receive-requires-clause-chain : goal.receive-requires-clause-chain
 receive-requires-clause-chain g c =
     let part = c.self.inside.part in
-    let told : IsTold descending (visiting c.self.inside.limits c.in-Row.pid part.records (Row part.head c.in-Row.row)) (Content c.args.found.content) = rw
-    (← c.self.view_is, c.in-Row.is) at c.requires.told in
+    let told = rw (← c.self.view_is, c.in-Row.is) at c.requires.told in
     rw c.push.ensures (is_whole c.self.inside.limits c.in-Row.pid part.head c.in-Row.row part.records c.args.found.content (sym c.next-next.ensures.next ∙ c.in-None.is) told)
 
 pub returns-in-Some-clause-responds : goal.returns-in-Some-clause-responds

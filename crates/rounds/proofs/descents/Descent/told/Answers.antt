@@ -1,4 +1,4 @@
-use Rattle.std.proofs.Common.{◌<◌, arith}
+use Rattle.rounds.proofs.Words.{◌<◌, arith}
 use Rattle.rounds.specs.Descents.{placed_state}
 use Rattle.rounds.specs.declared.descents.WayStateKind.TheVariants.{Slot}
 use Rattle.rounds.proofs.Placed.{is_empty, root_within, starts}

@@ -1,4 +1,4 @@
-use Rattle.std.proofs.Common.{rules, inl, inr, refl}
+use Rattle.rounds.proofs.Words.{rules, inl, inr, refl}
 use Rattle.rounds.specs.ReadRounds.{IsOnLevelOf}
 use Rattle.rounds.proofs.LegTurns.{is_off}
 use Rattle.rounds.proofs.read_round.ReadRound.come_nearer.Goals as goal

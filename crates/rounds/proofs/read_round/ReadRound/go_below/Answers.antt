@@ -1,5 +1,4 @@
-use Rattle.round_model.specs.ReadRounds.{read_way}
-use Rattle.round_model.proofs.WayLaws.{down_within}
+use Rattle.rounds.proofs.Words.{read_way, down_within}
 use Rattle.rounds.proofs.read_round.ReadRound.go_below.Goals as goal
 
 pub go_to-requires : goal.go_to-requires

@@ -1,5 +1,4 @@
-use Rattle.std.proofs.Common.{◌≡◌, refl}
-use Rattle.round_model.specs.ReadLegs.{Round}
+use Rattle.rounds.proofs.Words.{◌≡◌, refl, Round}
 use Rattle.rounds.proofs.LegTurns.{down_within_past, goes_down_past, goes_right_past, reached_page}
 use Rattle.rounds.proofs.read_round.ReadRound.go_past.Goals as goal
 

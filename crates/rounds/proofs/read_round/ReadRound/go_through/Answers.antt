@@ -1,4 +1,4 @@
-use Rattle.std.proofs.Common.{refl}
+use Rattle.rounds.proofs.Words.{refl}
 use Rattle.rounds.proofs.LegTurns.{goes_through, through_within}
 use Rattle.rounds.proofs.read_round.ReadRound.go_through.Goals as goal
 

@@ -1,6 +1,4 @@
-use Rattle.std.proofs.Common.{rules, ◌≡◌, Some}
-use Rattle.traces.specs.chain.Chains.{low_in}
-use Rattle.round_model.specs.ReadLegs.{above_of}
+use Rattle.rounds.proofs.Words.{rules, ◌≡◌, Some, low_in, above_of}
 use Rattle.rounds.proofs.LegTurns.{leads_left}
 use Rattle.rounds.proofs.read_round.ReadRound.left_of_page.Goals as goal
 

@@ -1,6 +1,4 @@
-use Rattle.std.proofs.Common.{rules, ◌<◌, inl, inr, refl}
-use Rattle.traces.specs.chain.Chains.{level_in}
-use Rattle.round_model.specs.ReadRounds.{read_way}
+use Rattle.rounds.proofs.Words.{rules, ◌<◌, inl, inr, refl, level_in, read_way}
 use Rattle.rounds.proofs.LegTurns.{above_leads, left_within}
 use Rattle.rounds.proofs.read_round.ReadRound.meet_removed.Goals as goal
 

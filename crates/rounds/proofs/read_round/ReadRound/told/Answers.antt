@@ -1,7 +1,5 @@
-use Rattle.std.proofs.Common.{subst}
-use Rattle.bw_model.specs.declared.step.Answer.TheVariants.{Number}
-use Rattle.rounds.specs.ReadRounds.{PlacedRead}
-use Rattle.rounds.proofs.Seeing.{Moved, goes_on, is_missing, placed, way_told}
+use Rattle.rounds.proofs.Words.{Number, PlacedRead}
+use Rattle.rounds.proofs.Seeing.{goes_on, is_missing, placed, way_told}
 use Rattle.rounds.proofs.read_round.ReadRound.told.Goals as goal
 use Rattle.rounds.proofs.read_round.ReadRound.told.Goals.{in-More, in-Empty}
 
@@ -17,6 +15,6 @@ returns-clause-responds g c =
     let told = Number c.args.number in
     rw (← c.self.view_is)
     elim c.match-told.branch [
-      | in-More w ↦ rw w.result-is (goes_on was now told (subst (Moved was now told) w.in-More.is c.told.ensures.responds) c.told.ensures.limits)
-      | in-Empty w ↦ rw w.result-is (is_missing was now told (subst (Moved was now told) w.in-Empty.is c.told.ensures.responds))
+      | in-More w ↦ rw w.result-is (goes_on was now told (rw w.in-More.is at c.told.ensures.responds) c.told.ensures.limits)
+      | in-Empty w ↦ rw w.result-is (is_missing was now told (rw w.in-Empty.is at c.told.ensures.responds))
     ]

@@ -1,4 +1,4 @@
-use Rattle.std.proofs.Common.{inl, refl}
+use Rattle.rounds.proofs.Words.{inl, refl}
 use Rattle.rounds.proofs.write_round.WriteRound.decide.Goals as goal
 
 pub settle-requires-clause-here : goal.settle-requires-clause-here

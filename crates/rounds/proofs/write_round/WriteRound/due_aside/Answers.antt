@@ -1,9 +1,8 @@
-use Rattle.std.proofs.Common.{◌≡◌, ℕ, Some, None, refl, sym, ap, ◌∙◌}
+use Rattle.rounds.proofs.Words.{◌≡◌, ℕ, Some, None, refl, sym, ap, ◌∙◌, Version}
 use Rattle.std.specs.Prelude.{Bool}
 use Rattle.deltas.specs.declared.record.Record.TheVariants as kind
 use Rattle.round_model.specs.WriteEnds as due
 use Rattle.structure_changes.specs.Plans.{over}
-use Rattle.structure_changes.specs.Versions.{Version}
 use Rattle.structure_changes.specs.declared.plan.Plan.TheVariants as plan
 use Rattle.rounds.specs.Courses.{kept_if}
 use Rattle.rounds.proofs.write_round.WriteRound.due_aside.Goals as goal

@@ -1,4 +1,4 @@
-use Rattle.std.proofs.Common.{◌≡◌, refl, sym}
+use Rattle.rounds.proofs.Words.{◌≡◌, refl, sym}
 use Rattle.round_model.specs.Courses.{Left, Seek}
 use Rattle.rounds.proofs.Turning.{left_by, seek_by}
 use Rattle.rounds.proofs.write_round.WriteRound.end.Goals as goal

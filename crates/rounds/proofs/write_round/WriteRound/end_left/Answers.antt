@@ -1,6 +1,6 @@
-use Rattle.std.proofs.Common.{◌≡◌, ◌≢◌, Some, true, inr, refl, rules}
+use Rattle.rounds.proofs.Words.{◌≡◌, Some, true, inr, refl, rules, content_in, right_in}
+use Rattle.std.proofs.Common.{◌≢◌}
 use Rattle.base_page.specs.declared.item.Content.TheVariants.{Child}
-use Rattle.traces.specs.chain.Chains.{content_in, right_in}
 use Rattle.rounds.proofs.write_round.WriteRound.end_left.Goals as goal
 
 pub returns-clause-treats : goal.returns-clause-treats

@@ -1,16 +1,12 @@
-use Rattle.std.proofs.Common.{inl, inr, refl, ap, subst, ◌∙◌}
+use Rattle.rounds.proofs.Words.{inl, inr, refl, ap, ◌∙◌, Version}
 use Rattle.deltas.specs.declared.record.Record.TheVariants as kind
 use Rattle.round_model.specs.WriteEnds as due
-use Rattle.structure_changes.specs.Merges.{CanMerge}
 use Rattle.structure_changes.specs.Plans.{over}
-use Rattle.structure_changes.specs.Versions.{Version}
 use Rattle.rounds.proofs.write_round.WriteRound.end_merge.Goals as goal
 
 pub returns-in-None-clause-treats : goal.returns-in-None-clause-treats
 returns-in-None-clause-treats g c =
-    let none : ¬ CanMerge c.args.self.now.left c.args.self.now.page =
-    subst (λ (left : Version). ¬ CanMerge left c.args.self.now.page) c.left-left.ensures (subst (λ (page : Version). ¬ CanMerge c.left-left.result.now page) c.page.ensures c.in-None.ensures.plan) in
-    inr (inl (record { left = c.args.self.now.left; goal = c.requires.merges; none = none }))
+    inr (inl (record { left = c.args.self.now.left; goal = c.requires.merges; none = rw (c.page.ensures, c.left-left.ensures) at c.in-None.ensures.plan }))
 
 pub returns-in-Some-clause-treats : goal.returns-in-Some-clause-treats
 returns-in-Some-clause-treats g c =

@@ -1,16 +1,11 @@
-use Rattle.std.proofs.Common.{inr, refl, subst}
+use Rattle.rounds.proofs.Words.{inr, refl}
 use Rattle.round_model.specs.WriteEnds as due
-use Rattle.structure_changes.specs.Unterms.{CanUnterm}
-use Rattle.structure_changes.specs.Versions.{Version}
 use Rattle.rounds.proofs.write_round.WriteRound.end_unterm.Goals as goal
 
 pub returns-in-None-clause-treats : goal.returns-in-None-clause-treats
 returns-in-None-clause-treats g c =
     let self = c.args.self.now in
-    let none : ¬ CanUnterm self.parent self.left self.page =
-    subst (λ (parent : Version). ¬ CanUnterm parent self.left self.page) c.parent-parent.ensures
-    (subst (λ (left : Version). ¬ CanUnterm c.parent-parent.result.now left self.page) c.left.ensures
-    (subst (λ (page : Version). ¬ CanUnterm c.parent-parent.result.now c.left.result.now page) c.page-removed.ensures c.in-None.ensures.plan)) in
+    let none = rw (c.page-removed.ensures, c.left.ensures, c.parent-parent.ensures) at c.in-None.ensures.plan in
     inr (inr (record { parent = self.parent; left = self.left; goal = c.requires.unterms; none = none }))
 
 pub returns-in-Some-clause-treats : goal.returns-in-Some-clause-treats

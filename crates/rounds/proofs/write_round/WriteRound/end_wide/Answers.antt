@@ -1,4 +1,4 @@
-use Rattle.std.proofs.Common.{refl, ap, ◌∙◌}
+use Rattle.rounds.proofs.Words.{refl, ap, ◌∙◌}
 use Rattle.round_model.specs.WriteEnds as due
 use Rattle.structure_changes.specs.declared.after.After.TheVariants.{Errand}
 use Rattle.rounds.proofs.write_round.WriteRound.end_wide.Goals as goal

@@ -1,7 +1,5 @@
-use Rattle.std.proofs.Common.{◌<◌, arith}
-use Rattle.traces.specs.chain.Chains.{level_in}
+use Rattle.rounds.proofs.Words.{◌<◌, arith, level_in, down_within}
 use Rattle.round_model.specs.WriteRounds.{write_way}
-use Rattle.round_model.proofs.WayLaws.{down_within}
 use Rattle.rounds.proofs.write_round.WriteRound.go_below.Goals as goal
 
 pub go_to-requires : goal.go_to-requires

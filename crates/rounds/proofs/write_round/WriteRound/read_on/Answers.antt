@@ -1,8 +1,4 @@
-use Rattle.std.proofs.Common.{refl}
-use Rattle.bw_model.specs.declared.step.Answer.TheVariants.{Content}
-use Rattle.round_model.specs.Rounds.{machine}
-use Rattle.round_model.specs.WriteResponses.{writing}
-use Rattle.rounds.specs.WriteRounds.{PlacedWrite}
+use Rattle.rounds.proofs.Words.{refl, Content, machine, writing, PlacedWrite}
 use Rattle.rounds.proofs.WriteReading.{is_told, read_now}
 use Rattle.rounds.proofs.WriteSeeing.{placed, way_told}
 use Rattle.rounds.proofs.write_round.WriteRound.read_on.Goals as goal

@@ -1,5 +1,3 @@
-use Rattle.round_model.specs.WriteRounds.{IsLong}
-use Rattle.structure_changes.specs.Sizes.{HasManyItems}
 use Rattle.rounds.proofs.Turning.{denied, few_deltas}
 use Rattle.rounds.proofs.write_round.WriteRound.settle.Goals as goal
 
@@ -10,9 +8,7 @@ pub returns-then-is_long-clause-treats : goal.returns-then-is_long-clause-treats
 returns-then-is_long-clause-treats g c = c.end_long.ensures.treats
 
 pub end_wide-requires-clause-short : goal.end_wide-requires-clause-short
-end_wide-requires-clause-short g c =
-    let old = c.args.self.now in
-    denied c.is_long.result (IsLong old.round.limits old.round.due old.page.chain) c.is_long.ensures.1 c.if-is_long.false
+end_wide-requires-clause-short g c = denied c.is_long.result _ c.is_long.ensures.1 c.if-is_long.false
 
 pub end_wide-requires-clause-can : goal.end_wide-requires-clause-can
 end_wide-requires-clause-can g c =
@@ -20,7 +16,7 @@ end_wide-requires-clause-can g c =
     record {
       alive = c.requires.here.alive;
       short = few_deltas old.round.limits old.round.due old.page.chain
-          (denied c.is_long.result (IsLong old.round.limits old.round.due old.page.chain) c.is_long.ensures.1 c.if-is_long.false);
+          (denied c.is_long.result _ c.is_long.ensures.1 c.if-is_long.false);
       wide = c.is_wide.ensures.wide.0
           c.if-is_wide.true;
     }
@@ -30,18 +26,16 @@ returns-then-is_wide-clause-treats g c = c.end_wide.ensures.treats
 
 pub go_on-requires-clause-fine : goal.go_on-requires-clause-fine
 go_on-requires-clause-fine g c =
-    let old = c.args.self.now in
     record {
-      short = denied c.is_long.result (IsLong old.round.limits old.round.due old.page.chain) c.is_long.ensures.1 c.if-is_long.false;
+      short = denied c.is_long.result _ c.is_long.ensures.1 c.if-is_long.false;
       narrow = λ splits. let on = rw (← c.self.view_is) at splits in let not = c.if-not-self.true in cc;
     }
 
 pub go_on-requires-2-clause-fine : goal.go_on-requires-2-clause-fine
 go_on-requires-2-clause-fine g c =
-    let old = c.args.self.now in
     record {
-      short = denied c.is_long.result (IsLong old.round.limits old.round.due old.page.chain) c.is_long.ensures.1 c.if-is_long.false;
-      narrow = λ splits can. denied c.is_wide.result (HasManyItems old.page.chain) c.is_wide.ensures.wide.1 c.if-is_wide.false can.wide;
+      short = denied c.is_long.result _ c.is_long.ensures.1 c.if-is_long.false;
+      narrow = λ splits can. denied c.is_wide.result _ c.is_wide.ensures.wide.1 c.if-is_wide.false can.wide;
     }
 
 pub returns-then-not-self-clause-treats : goal.returns-then-not-self-clause-treats

@@ -1,4 +1,4 @@
-use Rattle.std.proofs.Common.{refl}
+use Rattle.rounds.proofs.Words.{refl}
 use Rattle.round_model.specs.WriteEnds as due
 use Rattle.rounds.proofs.write_round.WriteRound.tend.Goals as goal
 

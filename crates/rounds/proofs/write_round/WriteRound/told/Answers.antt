@@ -1,7 +1,5 @@
-use Rattle.std.proofs.Common.{subst}
-use Rattle.bw_model.specs.declared.step.Answer.TheVariants.{Number}
-use Rattle.rounds.specs.WriteRounds.{PlacedWrite}
-use Rattle.rounds.proofs.WriteSeeing.{Moved, goes_on, is_missing, placed}
+use Rattle.rounds.proofs.Words.{Number, PlacedWrite}
+use Rattle.rounds.proofs.WriteSeeing.{goes_on, is_missing, placed}
 use Rattle.rounds.proofs.write_round.WriteRound.told.Goals as goal
 use Rattle.rounds.proofs.write_round.WriteRound.told.Goals.{in-More, in-Empty}
 
@@ -12,6 +10,6 @@ returns-clause-responds g c =
     let told = Number c.args.number in
     rw (← c.self.view_is)
     elim c.match-told.branch [
-      | in-More w ↦ rw w.result-is (goes_on was now told (subst (Moved was now told) w.in-More.is c.told.ensures.responds) c.told.ensures.limits)
-      | in-Empty w ↦ rw w.result-is (is_missing was now told (subst (Moved was now told) w.in-Empty.is c.told.ensures.responds))
+      | in-More w ↦ rw w.result-is (goes_on was now told (rw w.in-More.is at c.told.ensures.responds) c.told.ensures.limits)
+      | in-Empty w ↦ rw w.result-is (is_missing was now told (rw w.in-Empty.is at c.told.ensures.responds))
     ]
