@@ -1,7 +1,7 @@
 -- One step of an operation, from what `next` promises.
-use Rattle.std.proofs.Common.{◌≡◌, ◌≢◌, ◌<◌, ◌≤◌, ◌*◌, ℕ, length, Bool, Option, Some, None, is_some, true, false, sym, ap, ◌∙◌, subst, refl, arith}
-use Rattle.op_machine.proofs.Words.{IsSome, same_Some, Limits, Answer, StepOf, Record, Fits, Knowledge, learn, Recalled, blank, cause_worth, recall, AreThere, GoesLeft, StepsInRound, Hand}
-use Rattle.op_machine.proofs.Words.{IsSpentLast, Spends, steps_left, Spares, Kind, AreKept, Sweep}
+use Rattle.std.proofs.Common.{◌≡◌, ◌≢◌, ◌<◌, ◌≤◌, ℕ, length, Bool, Option, Some, None, is_some, true, false, sym, ap, ◌∙◌, subst, refl, arith}
+use Rattle.op_machine.proofs.Words.{IsSome, same_Some, Limits, Answer, StepOf, Record, Fits, Knowledge, learn, Recalled, blank, recall, AreThere, GoesLeft, StepsInRound, Hand}
+use Rattle.op_machine.proofs.Words.{Spends, steps_left, Spares, Kind, Sweep}
 use Rattle.bw_model.specs.declared.command.Reply.{Reply}
 use Rattle.bw_model.specs.declared.step.Answer.TheVariants as answer
 use Rattle.bw_model.specs.declared.step.Step.TheVariants as step
@@ -40,7 +40,7 @@ module _ (k : Knowledge) (had : Hand) (old : Op) (unswept : old.sweep ≡ None) 
   none = rw (unswept, begun) refl
 
   fits_start : FitsLast old.task.limits k (wanted_of old had) answer.Start
-  fits_start = subst (λ w. FitsLast old.task.limits k w answer.Start) (sym none) refl
+  fits_start = rw none refl
 
   pub told_start : IsToldOp old had answer.Start
   told_start = record { k = k; r = blank; shows = shows; fits = fits_start }
@@ -55,14 +55,14 @@ module _ (k : Knowledge) (had : Hand) (old : Op) (unswept : old.sweep ≡ None) 
   begun_left limits actor new has own_limits own_actor asked o same = record {
     own_limits = same.limits ∙ own_limits;
     own_actor = same.actor ∙ own_actor;
-    goes = subst (λ w. Goes (learn_last k w answer.Start) (recall_last blank w answer.Start) new has asked) none (o k blank shows fits_start);
+    goes = rw none at (o k blank shows fits_start);
   }
 
   pub begun_few : (most : ℕ) (new : Op) (has : Hand) (asked : StepOf Record) → Spends old had answer.Start new has (Step asked)
       → ((r : Recalled) (hand : Hand) → steps_left r old hand < most) → steps_left blank new has < most
   begun_few most new has asked spends few =
       less (steps_left blank new has) (steps_left blank old had) most
-      (subst (λ w. IsSpentLast old.task.limits blank w answer.Start (steps_left blank old had) (steps_left (recall_last blank w answer.Start) new has)) none (spends k blank shows fits_start))
+      (rw none at (spends k blank shows fits_start))
       (few blank had)
 
 -- an operation that wants another step than the leave isn't at its leave
@@ -102,8 +102,7 @@ module _ (limits : Limits) (actor : ℕ) (k : Knowledge) (r : Recalled) (had has
       goes = goes;
     };
     few =
-        subst (λ l. steps_left (recall r old.wanted a) new has ≤ cause_worth l * 10) (same.limits ∙ running.own_limits)
-        (due_few (learn k old.wanted a) (recall r old.wanted a) new has goes.shows short);
+        rw (← (same.limits ∙ running.own_limits)) (due_few (learn k old.wanted a) (recall r old.wanted a) new has goes.shows short);
     spends =
         rw (← running.own_limits)
         (spent_last old.op.task.limits r (wanted_of old.op had) old.wanted a (steps_left r old.op had) (λ q. steps_left q new has) running.goes.wanted (spends k r running.goes.shows fits_last));
@@ -113,13 +112,13 @@ module _ (limits : Limits) (actor : ℕ) (k : Knowledge) (r : Recalled) (had has
   }
     where
       goes : Goes (learn k old.wanted a) (recall r old.wanted a) new has asked
-      goes = subst (λ w. Goes (learn_last k w a) (recall_last r w a) new has asked) running.goes.wanted (o k r running.goes.shows fits_last)
+      goes = rw running.goes.wanted at (o k r running.goes.shows fits_last)
 
   -- what an operation that leaves tells of what ran out
   tells_lack : (reply : Reply) (lacks : Option Kind) → old.op.state ≡ Leave reply lacks → TellsLack limits k reply lacks
   tells_lack reply lacks is =
       let stands : ShowsState old.op.task had.spares k r (Leave reply lacks) = subst (ShowsState old.op.task had.spares k r) is running.goes.shows.stands in
-      subst (λ l. TellsLack l k reply lacks) running.own_limits stands.2
+      rw (← running.own_limits) stands.2
 
   pub is_done : (before : Option Kind) (reply : Reply) (lacks : Option Kind) → old.op.state ≡ Leave reply lacks → Obeys old.op had a new has (Done reply)
       → ActsOn limits actor k r (at_work had old before) old.wanted a (Some reply) (record { hand = has; running = None; lacks = lacks })
@@ -134,7 +133,7 @@ module _ (limits : Limits) (actor : ℕ) (k : Knowledge) (r : Recalled) (had has
     halved = running.goes.may.halved;
     shows = record {
       spares = rw (← running.own_limits) (rw last ends.rests);
-      limbo = rw (← running.own_limits, ← running.own_actor) (subst (λ w. AreKept old.op.task.limits old.op.task.actor has.limbo (learn_last k w a).limbo) running.goes.wanted over.limbo);
+      limbo = rw (← running.own_limits, ← running.own_actor) (rw running.goes.wanted at over.limbo);
     };
     spends = rw (← running.own_limits) (spends_last r had has old a ends.is_last);
     few = omega arith;
@@ -205,15 +204,15 @@ module _ (limits : Limits) (actor : ℕ) (k : Knowledge) (r : Recalled) (on : Bo
   found = running_is on op had going.running going.is
 
   pub told_here : IsToldOp op had a
-  told_here = subst (λ o. IsToldOp o had a) found.1 (told_with limits actor k r had had going.running going.running.op a going.shows going.fits)
+  told_here = rw (← found.1) (told_with limits actor k r had had going.running going.running.op a going.shows going.fits)
 
   pub told_there_here : (is_there : ℕ → Record → Type 0) → AreThere is_there (learn k going.running.wanted a) → IsToldOpThere is_there op had a
-  told_there_here is_there there = subst (λ o. IsToldOpThere is_there o had a) found.1 (record {
+  told_there_here is_there there = rw (← found.1) (record {
     k = k;
     r = r;
     shows = going.shows.goes.shows;
     fits = fits_last limits actor k r had had going.running going.running.op a going.shows going.fits;
-    there = subst (λ w. AreThere is_there (learn_last k w a)) (sym going.shows.goes.wanted) there;
+    there = rw going.shows.goes.wanted there;
   })
 
   -- it wants what the actor wants
@@ -222,8 +221,7 @@ module _ (limits : Limits) (actor : ℕ) (k : Knowledge) (r : Recalled) (on : Bo
 
   pub stays_here : wanted_by (running_at on op had) ≢ Some step.Leave → is_leaving op.state ≡ false
   stays_here stays =
-      subst (λ (o : Op). is_leaving o.state ≡ false) found.1
-      (stays_at limits actor k r had had going.running going.running.op a going.shows going.fits (λ e. stays (ap wanted_by going.is ∙ ap Some e)))
+      rw (← found.1) (stays_at limits actor k r had had going.running going.running.op a going.shows going.fits (λ e. stays (ap wanted_by going.is ∙ ap Some e)))
 
   pub leaves_here : wanted_by (running_at on op had) ≡ Some step.Leave → is_leaving op.state ≡ true
   leaves_here leaves = leaves_at had.spares op.sweep op.state (found.2 ∙ sym (ap wanted_by going.is) ∙ leaves)
@@ -236,21 +234,17 @@ module _ (limits : Limits) (actor : ℕ) (k : Knowledge) (r : Recalled) (on : Bo
         → ActsOn limits actor k r (record { hand = had; running = running_at on op had; lacks = before }) going.running.wanted a None
         (record { hand = has; running = running_at on new has; lacks = before })
     goes_here asked stays wants short =
-        let from : Takes going.running.op had a new has = subst (λ o. Takes o had a new has) (sym found.1) takes in
+        let from : Takes going.running.op had a new has = rw found.1 takes in
         let went : ActsOn limits actor k r (at_work had going.running before) going.running.wanted a None (at_work has (record { op = new; wanted = asked }) before) =
         goes_on limits actor k r had has going.running new a going.shows going.fits before asked (λ e. stays (ap wanted_by going.is ∙ ap Some e))
         (from.obeys asked wants) (from.spends asked) from.same short from.steps from.left in
         let is : running_at on new has ≡ Some (record { op = new; wanted = asked }) = rw found.0 (is_asking new has asked (wants shown_then.0 shown_then.1 shown_then.2).wanted) in
-        subst (λ (o : Option UnderWay). ActsOn limits actor k r (record { hand = had; running = o; lacks = before }) going.running.wanted a None
-        (record { hand = has; running = running_at on new has; lacks = before })) (sym going.is)
-        (subst (λ (o : Option UnderWay). ActsOn limits actor k r (at_work had going.running before) going.running.wanted a None (record { hand = has; running = o; lacks = before })) (sym is) went)
+        rw going.is (rw is went)
 
   -- it leaves
   pub done_here : (reply : Reply) (lacks : Option Kind) → op.state ≡ Leave reply lacks
       → ((hand : Hand) (told : Answer Record) → Obeys op hand told op hand (Done reply))
       → ActsOn limits actor k r (record { hand = had; running = running_at on op had; lacks = before }) going.running.wanted a (Some reply) (record { hand = had; running = None; lacks = lacks })
   done_here reply lacks is obeys =
-      let from : Obeys going.running.op had a op had (Done reply) = subst (λ o. Obeys o had a op had (Done reply)) (sym found.1) (obeys had a) in
-      subst (λ (o : Option UnderWay). ActsOn limits actor k r (record { hand = had; running = o; lacks = before }) going.running.wanted a (Some reply)
-      (record { hand = had; running = None; lacks = lacks })) (sym going.is)
-      (is_done limits actor k r had had going.running op a going.shows going.fits before reply lacks (ap (λ (o : Op). o.state) found.1 ∙ is) from)
+      let from : Obeys going.running.op had a op had (Done reply) = rw found.1 (obeys had a) in
+      rw going.is (is_done limits actor k r had had going.running op a going.shows going.fits before reply lacks (ap (λ (o : Op). o.state) found.1 ∙ is) from)

@@ -1,5 +1,5 @@
 -- One step of an operation: how many steps it has left.
-use Rattle.std.proofs.Common.{◌≡◌, ◌<◌, ◌+◌, ◌*◌, ℕ, length, Option, Some, None, inl, subst, arith}
+use Rattle.std.proofs.Common.{◌≡◌, ◌<◌, ◌+◌, ◌*◌, ℕ, length, Option, Some, None, inl, arith}
 use Rattle.op_machine.proofs.Words.{Limits, Answer, StepOf, Record, IsStepSpent, Recalled, recall, Reuse, Rows, Pids, Spares, Hand, IsSpentLast, left_at, one_round, asked_by, wanted_of}
 use Rattle.op_machine.proofs.Words.{sweep_left, UnderWay}
 use Rattle.bw_model.specs.declared.step.Step.TheVariants as step
@@ -13,7 +13,7 @@ use Rattle.op_machine.specs.machine.UnderWay.{IsSpentBy}
 -- what an answer leaves, where the step that was wanted is known
 pub spent_last : (limits : Limits) (r : Recalled) (last : Option (StepOf Record)) (asked : StepOf Record) (a : Answer Record) (left : ℕ) (rest : Recalled → ℕ)
     → last ≡ Some asked → IsSpentLast limits r last a left (rest (recall_last r last a)) → IsStepSpent limits r asked a left (rest (recall r asked a))
-spent_last limits r last asked a left rest e spent = subst (λ w. IsSpentLast limits r w a left (rest (recall_last r w a))) e spent
+spent_last limits r last asked a left rest e spent = rw e at spent
 
 -- a state that has asked for Leave has a step left
 leaves : (limits : Limits) (r : Recalled) (spares : Spares) (state : State) → wanted_at spares state ≡ Some step.Leave → 0 < left_at limits r spares state

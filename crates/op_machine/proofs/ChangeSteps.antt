@@ -4,7 +4,7 @@ use Rattle.change_machine.specs.Changes.{EndsByDeciding}
 use Rattle.change_machine.specs.declared.change.End.{End}
 use Rattle.change_machine.specs.declared.change.End.TheVariants.{Won, Lost, Full}
 use Rattle.op_machine.specs.declared.places.StateKind.{StateKind}
-use Rattle.op_machine.specs.declared.places.StateKind.TheVariants.{Begun, Epoch, Enter, Read, Write, Change, Leave}
+use Rattle.op_machine.specs.declared.places.StateKind.TheVariants.{Change}
 use Rattle.op_machine.specs.machine.Outcomes.{is_changing}
 use Rattle.op_machine.specs.machine.RoundSteps.{AfterChanging}
 use Rattle.op_machine.specs.machine.Shows.{ShowsState}
@@ -15,12 +15,7 @@ is_change places e = by_stand places.stand refl
   where
     by_stand : (stand : StateKind) → places.stand ≡ stand → places.stand ≡ Change
     by_stand Change is = is
-    by_stand Begun is = absurd (let f : is_changing (state_of places) ≡ false = rw is refl in cc)
-    by_stand Epoch is = absurd (let f : is_changing (state_of places) ≡ false = rw is refl in cc)
-    by_stand (Enter epoch) is = absurd (let f : is_changing (state_of places) ≡ false = rw is refl in cc)
-    by_stand Read is = absurd (let f : is_changing (state_of places) ≡ false = rw is refl in cc)
-    by_stand Write is = absurd (let f : is_changing (state_of places) ≡ false = rw is refl in cc)
-    by_stand Leave is = absurd (let f : is_changing (state_of places) ≡ false = rw is refl in cc)
+    by_stand stand is = absurd (let f : is_changing (state_of places) ≡ false = rw is refl in cc)
 
 -- a change is a writer's
 pub writes_change : (places : OpPlaces) (task : Task) → places.stand ≡ Change → (spares : Spares) (k : Knowledge) (r : Recalled)

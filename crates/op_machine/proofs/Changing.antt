@@ -1,5 +1,5 @@
 -- What a change's next step leaves an operation in.
-use Rattle.std.proofs.Common.{◌≡◌, ◌<◌, ◌≤◌, ◌+◌, inl, inr, ℕ, List, Option, Some, None, true, refl, sym, ap, subst, ◌∙◌, arith}
+use Rattle.std.proofs.Common.{◌≡◌, ◌<◌, ◌≤◌, ◌+◌, inl, inr, ℕ, List, Option, Some, None, true, refl, sym, ap, ◌∙◌, arith}
 use Rattle.op_machine.proofs.Words.{IfSome, same_Some, Command, Limits, Answer, TakePid, Record, MayReply, Fits, Knowledge, learn, IsStepSpent, Recalled, cause_worth, recall, HaveRoom}
 use Rattle.op_machine.proofs.Words.{Spares, End, Kind, Won, Lost, Full, Plan, left_for, one_round, IsInChange, Then, Unlinked}
 use Rattle.bw_model.specs.declared.step.Answer.TheVariants.{Whether}
@@ -21,7 +21,7 @@ use Rattle.structure_changes.specs.declared.after.After.TheVariants.{Round, Limb
 
 -- a PID that is taken is of no page that was read
 taken_unread : (limits : Limits) (k : Knowledge) (asked : Step Record) (told : Answer Record) → Fits limits k asked told → (p : ℕ) → bound.pid_taken asked told ≡ Some p → k.read.heads p ≡ None
-taken_unread limits k (TakePid q) (Whether true) fits p e = subst (λ n. k.read.heads n ≡ None) (same_Some q p e) fits.unread
+taken_unread limits k (TakePid q) (Whether true) fits p e = rw (← (same_Some q p e)) fits.unread
 taken_unread limits k asked told fits p e = cc
 
 -- nor is it that of the page that is to be split
@@ -31,7 +31,7 @@ apart_from k other others unread read = tt
 
 spare_apart : (k : Knowledge) (plan : Plan) (o : Option ℕ) → IfSome o (λ p. k.read.heads p ≡ None) → IsReadPlan k plan → bound.IsApart plan o
 spare_apart k plan None unread read = apart_from k plan None (λ p e. cc) read
-spare_apart k plan (Some q) unread read = apart_from k plan (Some q) (λ p e. subst (λ n. k.read.heads n ≡ None) (same_Some q p e) unread) read
+spare_apart k plan (Some q) unread read = apart_from k plan (Some q) (λ p e. rw (← (same_Some q p e)) unread) read
 
 pub begins_apart : (k : Knowledge) (plan : Plan) (spares : Spares) → IsUnreadPid spares k → IsReadPlan k plan → bound.IsApart plan spares.pid
 begins_apart k plan spares unread read = spare_apart k plan spares.pid unread read
@@ -40,7 +40,7 @@ unread_from : (heads : ℕ → Option ℕ) (old taken o : Option ℕ) → IfSome
     → bound.IsPidFrom old taken o → IfSome o (λ p. heads p ≡ None)
 unread_from heads old taken None was now from = tt
 unread_from heads old taken (Some p) was now from = elim from [
-  | inl same ↦ subst (λ (o : Option ℕ). IfSome o (λ q. heads q ≡ None)) same was
+  | inl same ↦ rw same at was
   | inr new ↦ now p new
 ]
 
@@ -139,8 +139,8 @@ module _ (task : Task) (had has : Spares) (k : Knowledge) (r : Recalled) (old ne
       → IsStepSpent task.limits r (change.wanted_step old had) told (bound.steps_left (one_round task.limits) old had + 1) (bound.steps_left (one_round task.limits) new has + 1)
   change_left spends = elim spends.1 [
     | inl less ↦ inl (omega (arith, less))
-    | inr paid ↦ let more = paid.1 in let w = enough task.limits in let same : bound.few_steps old.limits ≡ bound.few_steps task.limits = ap bound.few_steps
-        h.limits in inr (paid.0, omega (arith, more, w, same))
+    | inr paid ↦ let w = enough task.limits in let same : bound.few_steps old.limits ≡ bound.few_steps task.limits = ap bound.few_steps
+        h.limits in inr (paid.0, omega (arith, w, same))
   ]
 
   -- where it has ended
@@ -162,7 +162,7 @@ module _ (task : Task) (had has : Spares) (k : Knowledge) (r : Recalled) (old ne
 
   answers : (room : HaveRoom old.limits has) (over : change.ChangeIsOver k now old told has Won) (answered : _) → then ≡ Reply answered → MayReply task.limits task.actor now answered
   answers room over answered is =
-      let b : IsUpdateOf k task.command old.plan answered = subst (λ t. Brings k task.command old.plan t) is h.brings in
+      let b : IsUpdateOf k task.command old.plan answered = rw is at h.brings in
       record {
         command = task.command;
         going = over.like.command ∙ h.asked.going;
@@ -182,12 +182,12 @@ module _ (task : Task) (had has : Spares) (k : Knowledge) (r : Recalled) (old ne
     where
       by : (t : Then) → then ≡ t → FacesChanged task has now Won t
       by (Reply answered) is =
-          let b : IsUpdateOf k task.command old.plan answered = subst (λ t. Brings k task.command old.plan t) is h.brings in
+          let b : IsUpdateOf k task.command old.plan answered = rw is at h.brings in
           (done Won room over, answers room over answered is, not_full task.command _ answered b.replies)
-      by (After Round) is = (seeks Won room over (ap (change.linked_after old.plan Won) h.asked.unlinked ∙ (subst (λ t. Brings k task.command old.plan t) is h.brings).2), h.writer)
-      by (After (Limbo unlinked)) is = (seeks Won room over (taken_links k unlinked old.plan k.asked.linked (subst (λ t. Brings k task.command old.plan t) is h.brings) ∙ h.asked.unlinked), h.writer)
+      by (After Round) is = (seeks Won room over (ap (change.linked_after old.plan Won) h.asked.unlinked ∙ (rw is at h.brings).2), h.writer)
+      by (After (Limbo unlinked)) is = (seeks Won room over (taken_links k unlinked old.plan k.asked.linked (rw is at h.brings) ∙ h.asked.unlinked), h.writer)
       by (After (Errand key)) is =
-          let b = subst (λ t. Brings k task.command old.plan t) is h.brings in
+          let b = rw is at h.brings in
           (seeks Won room over (ap (λ plan. change.linked_after plan Won k.asked.linked) b.2 ∙ h.asked.unlinked), h.writer)
   change_ended Lost room over = (seeks Lost room over (lost_links old.plan k.asked.linked ∙ h.asked.unlinked), h.writer)
   change_ended (Full kind) room over = (
@@ -199,21 +199,20 @@ module _ (task : Task) (had has : Spares) (k : Knowledge) (r : Recalled) (old ne
   won_left : (t : Then) (left : ℕ) → left_for task.limits (outcome.Changed Won t) < left + cause_worth task.limits
   won_left (Reply answered) left = let w = enough task.limits in omega (arith, w)
   won_left (After Round) left = let w = enough task.limits in omega (arith, w)
-  won_left (After (Limbo unlinked)) left = let w = enough task.limits in omega (arith, w)
-  won_left (After (Errand key)) left = let w = enough task.limits in omega (arith, w)
+  won_left t left = let w = enough task.limits in omega (arith, w)
 
   -- after a page is cleared a new round begins
   cleared_left : (t : Then) → then ≡ t → clears old.plan ≡ true → left_for task.limits (outcome.Changed Won t) ≤ one_round task.limits
-  cleared_left (Reply answered) is goes = let b : IsUpdateOf k task.command old.plan answered = subst (λ t. Brings k task.command old.plan t) is h.brings in let e = sym goes ∙ ap clears b.is in cc
+  cleared_left (Reply answered) is goes = let b : IsUpdateOf k task.command old.plan answered = rw is at h.brings in let e = sym goes ∙ ap clears b.is in cc
   cleared_left (After Round) is goes = omega arith
   cleared_left (After (Limbo unlinked)) is goes = omega arith
-  cleared_left (After (Errand key)) is goes = let b = subst (λ t. Brings k task.command old.plan t) is h.brings in let e = sym goes ∙ ap clears b.2 in cc
+  cleared_left (After (Errand key)) is goes = let b = rw is at h.brings in let e = sym goes ∙ ap clears b.2 in cc
 
   pub ended_left : (end : End) → bound.SpendsTo (one_round task.limits) r old had told new has (Some end)
       → IsStepSpent task.limits r (change.wanted_step old had) told (bound.steps_left (one_round task.limits) old had + 1) (left_for task.limits (outcome.Changed end then))
   ended_left Won spends = elim spends [
     | inl paid ↦ inr (paid, won_left then (bound.steps_left (one_round task.limits) old had + 1))
-    | inr more ↦ inl (let after = cleared_left then refl more.0 in let left = more.1 in omega (arith, after, left))
+    | inr more ↦ inl (let after = cleared_left then refl more.0 in omega (arith, after))
   ]
   ended_left Lost spends = elim spends [
     | inl paid ↦ inr (paid, (let w = enough task.limits in omega (arith, w)))

@@ -1,7 +1,7 @@
 -- What commands write.
 use Rattle.op_machine.proofs.Words.{◌≡◌, ◌<◌, ◌≤◌, ℕ, Bool, true, false, List, length, Option, Some, None, is_some, refl, ap, ◌∙◌, arith, IsTrue, if◌then◌else◌, bytes_eq, is_in_range}
 use Rattle.op_machine.proofs.Words.{Record, same_Some, Command, Add, Back, Get, Insert, Upsert, Delete, DeleteIf, Swap, PageFrom, Tidy, command_key, update_of}
-use Rattle.op_machine.proofs.Words.{is_writer, Value, Child, next_row, covers}
+use Rattle.op_machine.proofs.Words.{is_writer, next_row, covers}
 use Rattle.op_machine.proofs.Words.{is_removed, level_in, Knowledge, KeepsSparePage, linked_by, IsUsefulOver, update_over}
 use Rattle.bw_model.specs.Log.{Update, set, unset}
 use Rattle.bw_model.specs.Numbers.{number_bytes, is_number, added, sum_bytes}
@@ -30,76 +30,48 @@ none_chosen false other update h = refl
 
 -- the record that a command places makes its update
 pub change_is : (actor : ℕ) (c : Command) (old : Option (List ℕ)) (u : Update) (x : ℕ) → update_of actor c old ≡ Some u → update_over c old x ≡ update_record u x
-change_is actor (Get key) old u x h = cc
 change_is actor (Insert key value) None u x h = ap (λ (w : Update). update_record w x) (same_Some _ _ h)
-change_is actor (Insert key value) (Some before) u x h = cc
 change_is actor (Upsert key value) old u x h = ap (λ (w : Update). update_record w x) (same_Some _ _ h)
-change_is actor (Delete key) None u x h = cc
 change_is actor (Delete key) (Some before) u x h = ap (λ (w : Update). update_record w x) (same_Some _ _ h)
-change_is actor (DeleteIf key expected) None u x h = cc
 change_is actor (DeleteIf key expected) (Some before) u x h = ap (λ (w : Update). update_record w x) (chosen_is (bytes_eq before expected) (unset actor key) u h)
-change_is actor (Swap key expected value) None u x h = cc
 change_is actor (Swap key expected value) (Some before) u x h = ap (λ (w : Update). update_record w x) (chosen_is (bytes_eq before expected) (set actor key value) u h)
 change_is actor (Add key number) None u x h = ap (λ (w : Update). update_record w x) (same_Some _ _ h)
 change_is actor (Add key number) (Some before) u x h = ap (λ (w : Update). update_record w x) (chosen_is (is_number before) (set actor key (added before number)) u h)
-change_is actor (PageFrom key) old u x h = cc
-change_is actor (Back key) old u x h = cc
-change_is actor (Tidy key) old u x h = cc
+change_is actor c old u x h = cc
 
 -- which update is due does not depend on whose it is
 pub update_due : (actor other : ℕ) (c : Command) (old : Option (List ℕ)) → is_some (update_of other c old) ≡ true → (u : Update) × (update_of actor c old ≡ Some u)
-update_due actor other (Get key) old h = cc
 update_due actor other (Insert key value) None h = (set actor key value, refl)
-update_due actor other (Insert key value) (Some before) h = cc
 update_due actor other (Upsert key value) old h = (set actor key value, refl)
-update_due actor other (Delete key) None h = cc
 update_due actor other (Delete key) (Some before) h = (unset actor key, refl)
-update_due actor other (DeleteIf key expected) None h = cc
 update_due actor other (DeleteIf key expected) (Some before) h = (unset actor key, chosen_due (bytes_eq before expected) (unset other key) (unset actor key) h)
-update_due actor other (Swap key expected value) None h = cc
 update_due actor other (Swap key expected value) (Some before) h = (set actor key value, chosen_due (bytes_eq before expected) (set other key value) (set actor key value) h)
 update_due actor other (Add key number) None h = (set actor key (number_bytes number), refl)
 update_due actor other (Add key number) (Some before) h =
     (set actor key (added before number), chosen_due (is_number before) (set other key (added before number)) (set actor key (added before number)) h)
-update_due actor other (PageFrom key) old h = cc
-update_due actor other (Back key) old h = cc
-update_due actor other (Tidy key) old h = cc
+update_due actor other c old h = cc
 
 pub none_due : (actor other : ℕ) (c : Command) (old : Option (List ℕ)) → is_some (update_of other c old) ≡ false → update_of actor c old ≡ None
-none_due actor other (Get key) old h = refl
 none_due actor other (Insert key value) None h = cc
-none_due actor other (Insert key value) (Some before) h = refl
 none_due actor other (Upsert key value) old h = cc
-none_due actor other (Delete key) None h = refl
 none_due actor other (Delete key) (Some before) h = cc
-none_due actor other (DeleteIf key expected) None h = refl
 none_due actor other (DeleteIf key expected) (Some before) h = none_chosen (bytes_eq before expected) (unset other key) (unset actor key) h
-none_due actor other (Swap key expected value) None h = refl
 none_due actor other (Swap key expected value) (Some before) h = none_chosen (bytes_eq before expected) (set other key value) (set actor key value) h
 none_due actor other (Add key number) None h = cc
 none_due actor other (Add key number) (Some before) h = none_chosen (is_number before) (set other key (added before number)) (set actor key (added before number)) h
-none_due actor other (PageFrom key) old h = refl
-none_due actor other (Back key) old h = refl
-none_due actor other (Tidy key) old h = refl
+none_due actor other c old h = refl
 
 -- a command that is no writer changes nothing
 pub reads : (actor : ℕ) (c : Command) (old : Option (List ℕ)) → is_writer c ≡ false → is_some (update_of actor c old) ≡ false
 reads actor (Get key) old h = refl
-reads actor (Insert key value) old h = cc
-reads actor (Upsert key value) old h = cc
-reads actor (Delete key) old h = cc
-reads actor (DeleteIf key expected) old h = cc
-reads actor (Swap key expected value) old h = cc
-reads actor (Add key number) old h = cc
 reads actor (PageFrom key) old h = refl
 reads actor (Back key) old h = refl
-reads actor (Tidy key) old h = cc
+reads actor c old h = cc
 
 -- the value of a content, by either name
 pub value_same : (o : Option Content) → value_in o ≡ value_of o
 value_same None = refl
-value_same (Some (Value value)) = refl
-value_same (Some (Child page held)) = refl
+value_same o = refl
 
 -- what a command that changes the map, where its key has the value or none, places over a row
 
@@ -155,13 +127,10 @@ module _ (chain : List Record) (page : Page) (makes : Makes chain page) (alive :
 
   pub over_fits : (c : Command) (old : Option (List ℕ)) (x : ℕ) → Changes c old → IsRow x → IsTrue (covers chain (command_key c))
       → (content_at page.items (command_key c) ≡ None → length page.items < 16) → FitsOn chain (update_over c old x)
-  over_fits (Get key) old x h row within room = cc
-  over_fits (PageFrom key) old x h row within room = cc
-  over_fits (Back key) old x h row within room = cc
-  over_fits (Tidy key) old x h row within room = cc
   over_fits (Insert key value) old x h row within room = put_fits x key value row within room
   over_fits (Upsert key value) old x h row within room = put_fits x key value row within room
   over_fits (Swap key expected value) old x h row within room = put_fits x key value row within room
   over_fits (Add key number) old x h row within room = put_fits x key (sum_bytes old number) row within room
   over_fits (Delete key) old x h row within room = delete_fits x key row within
   over_fits (DeleteIf key expected) old x h row within room = delete_fits x key row within
+  over_fits c old x h row within room = cc

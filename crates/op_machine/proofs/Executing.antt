@@ -1,13 +1,13 @@
 -- A command at the leaf of its key.
-use Rattle.op_machine.proofs.Words.{◌≡◌, inl, inr, ℕ, List, [], ◌∷◌, Bool, Some, None, is_some, true, false, refl, ap, subst, IsTrue, command_key, reply_of, update_of, covers, chain_value, Knowledge, Recalled, Spares, Version}
+use Rattle.op_machine.proofs.Words.{◌≡◌, inl, inr, ℕ, List, [], ◌∷◌, Bool, Some, None, is_some, true, false, refl, ap, IsTrue, command_key, reply_of, update_of, covers, chain_value, Knowledge, Recalled, Spares, Version}
 use Rattle.op_machine.proofs.Words.{ShowsState, Task, Limits, Record, IsFitted}
-use Rattle.op_machine.proofs.Words.{Command, Add, Back, Get, Insert, Upsert, Delete, DeleteIf, Swap, PageFrom, Tidy}
+use Rattle.op_machine.proofs.Words.{Command, Tidy}
 use Rattle.std.specs.Prelude.{not}
 use Rattle.std.proofs.Math.Nat.{lt_of_not-le}
 use Rattle.structure_changes.specs.Sizes.{HasFewItems, HasManyItems}
 use Rattle.structure_changes.proofs.Places.{made}
 use Rattle.bw_model.specs.declared.command.Reply.{Reply}
-use Rattle.op_machine.specs.machine.Errands.{splits_of, way_key}
+use Rattle.op_machine.specs.machine.Errands.{splits_of}
 use Rattle.op_machine.specs.machine.Outcomes.{IsAtLeaf}
 use Rattle.op_machine.specs.machine.States as at
 use Rattle.op_machine.proofs.Commands.{none_due}
@@ -15,17 +15,9 @@ use Rattle.op_machine.proofs.Replying.{not_full}
 
 -- in a small tree each round splits pages
 small_splits : (limits : Limits) (errands : List (List ℕ)) (command : Command) → limits.is_large ≡ false → splits_of limits errands command ≡ true
-small_splits limits [] (Get key) small = ap not small
-small_splits limits [] (Insert key value) small = ap not small
-small_splits limits [] (Upsert key value) small = ap not small
-small_splits limits [] (Delete key) small = ap not small
-small_splits limits [] (DeleteIf key expected) small = ap not small
-small_splits limits [] (Swap key expected value) small = ap not small
-small_splits limits [] (Add key number) small = ap not small
-small_splits limits [] (PageFrom key) small = ap not small
-small_splits limits [] (Back key) small = ap not small
 small_splits limits [] (Tidy key) small = refl
 small_splits limits (key ∷ errands) command small = refl
+small_splits limits errands command small = ap not small
 
 few_unless : (chain : List Record) → IsFitted chain → ¬ HasManyItems chain → HasFewItems chain
 few_unless chain fitted few = let m = made chain fitted in (m.0.items, m.1.items, lt_of_not-le (λ many. few (m.0.items, m.1.items, many)))
@@ -33,7 +25,7 @@ few_unless chain fitted few = let m = made chain fitted in (m.0.items, m.1.items
 module _ (task : Task) (spares : Spares) (k : Knowledge) (r : Recalled) (leaf : Version) (h : IsAtLeaf task spares k r leaf) (last : task.errands ≡ []) where
   -- the leaf has the key
   pub within : IsTrue (covers leaf.chain (command_key task.command))
-  within = subst (λ errands. IsTrue (covers leaf.chain (way_key errands task.command))) last h.covered
+  within = rw last at h.covered
 
   -- it has few items where an update adds one, which in a large tree was looked for there
   pub room_there : {P : Type 0} → (task.limits.is_large ≡ true → P → ¬ HasManyItems leaf.chain) → P → HasFewItems leaf.chain

@@ -1,6 +1,6 @@
 -- How an operation goes on, from what its state makes of an answer and what its task makes of that.
-use Rattle.op_machine.proofs.Words.{◌≡◌, ◌≤◌, inl, inr, ℕ, List, Option, Some, None, arith, refl, subst, Limits, Answer, Record, Knowledge, Recalled, AreThere, Spares, IsSpentLast}
-use Rattle.op_machine.proofs.Words.{LeavesFor, left_at, with_errands, Hand, Op, StepsInRound, FitsLast, learn_last, recall_last}
+use Rattle.op_machine.proofs.Words.{◌≡◌, ◌≤◌, inl, inr, ℕ, List, Option, Some, None, arith, refl, Limits, Answer, Record, Knowledge, Recalled, AreThere, Spares, IsSpentLast}
+use Rattle.op_machine.proofs.Words.{with_errands, Hand, Op, StepsInRound, FitsLast, learn_last, recall_last}
 use Rattle.bw_model.specs.declared.step.Step.{Step}
 use Rattle.op_machine.specs.machine.Outcomes.{Comes, Entered, Faces, IsToldAt, Outcome}
 use Rattle.op_machine.specs.machine.Works.{AsksOn, FollowsOutcome, IsToldChange, IsToldOn, IsToldOnThere, IsToldWith, TurnsInto, Works, asked_of}
@@ -24,7 +24,7 @@ spent_with : (limits : Limits) (r : Recalled) (last : Option (Step Record)) (tol
 spent_with limits r None told left rest errands now more spent few = omega (arith, spent, few)
 spent_with limits r (Some asked) told left rest errands now more spent few = elim spent [
   | inl less ↦ inl (omega (arith, less, few))
-  | inr paid ↦ let enough = paid.1 in inr (paid.0, omega (arith, enough, few))
+  | inr paid ↦ inr (paid.0, omega (arith, few))
 ]
 
 -- the answer to the entry
@@ -57,7 +57,7 @@ module _ (old : Op) (had has : Spares) (told : Answer Record) (is : IsToldOn old
     works = λ k r works fits. (here k r works fits).0;
     spends =
         λ k r works fits. spent_with old.task.limits r last told _ _ errands errands _
-        (subst (λ o. LeavesFor old.task.limits r last told (left_at old.task.limits r had old.state) state has o) on (makes.leaves old.task k r works fits))
+        (rw on at (makes.leaves old.task k r works fits))
         (omega arith);
     asks = (here is.k is.r is.works is.fits).1;
     same = record { limits = refl; actor = refl; command = refl };
@@ -66,19 +66,19 @@ module _ (old : Op) (had has : Spares) (told : Answer Record) (is : IsToldOn old
   }
     where
       here : (k : Knowledge) (r : Recalled) → Works old had k r → FitsLast old.task.limits k last told → Comes old.task k r last told state has None
-      here k r works fits = subst (λ o. Comes old.task k r last told state has o) on (makes.comes old.task k r works fits)
+      here k r works fits = rw on at (makes.comes old.task k r works fits)
 
   -- or has come to something
   module _ (to : Outcome) (come : outcome ≡ Some to) where
     faces : (k : Knowledge) (r : Recalled) → Works old had k r → FitsLast old.task.limits k last told → Faces old.task has (learn_last k last told) (recall_last r last told) to
-    faces k r works fits = subst (λ o. Comes old.task k r last told state has o) come (makes.comes old.task k r works fits)
+    faces k r works fits = rw come at (makes.comes old.task k r works fits)
 
     pub follows : (new : Op) → FollowsOutcome went has to new → StepsInRound old.task old.state told new.state → AsksOn old had told new has
     follows new after steps = record {
       works = λ k r works fits. after.stands _ _ (faces k r works fits);
       spends =
           λ k r works fits. spent_with old.task.limits r last told _ _ errands new.task.errands _
-          (subst (λ o. LeavesFor old.task.limits r last told (left_at old.task.limits r had old.state) state has o) come (makes.leaves old.task k r works fits))
+          (rw come at (makes.leaves old.task k r works fits))
           (after.few _ _ (faces k r works fits));
       asks = after.asks;
       same = after.same;

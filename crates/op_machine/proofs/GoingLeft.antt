@@ -15,7 +15,7 @@ use Rattle.round_model.specs.WriteResponses.{EndsBy, TreatsWrite, writing}
 use Rattle.round_model.specs.WriteRounds.{SeeksLeaf, WriteRound}
 use Rattle.op_machine.specs.machine.GoesLeft.{GoesLeft, TurnsLeft, write_left_of}
 use Rattle.op_machine.specs.machine.RoundSteps.{AfterReading, AfterWriting, StepsInRound, StepsReading, StepsWriting}
-use Rattle.op_machine.specs.machine.States.{State, Begun, Epoch, Enter, Read, Write, Change, Leave}
+use Rattle.op_machine.specs.machine.States.{State, Read, Write}
 
 -- pages with the same number, row and chain are one
 
@@ -31,8 +31,8 @@ row_prop row = hlevel le_prop
 same_page : (a b : Version) → b.pid ≡ a.pid → b.head ≡ a.head → b.chain ≡ a.chain → a ≡ b
 same_page a b pids heads chains =
     subst (λ n. (p : IsPid n) (r : IsRow a.head) → version_of n a.head a.chain p r ≡ b) pids (λ p.
-    subst (λ m. (r : IsRow m) → version_of b.pid m a.chain p r ≡ b) heads (λ r.
-    subst (λ (c : List Record). version_of b.pid b.head c p r ≡ b) chains (
+    rw (← heads) (λ r.
+    rw (← chains) (
     ap (λ (x : IsPid b.pid). version_of b.pid b.head b.chain x r) (pid_prop b.pid p b.is_pid) ∙ ap (λ (y : IsRow b.head). version_of b.pid b.head b.chain b.is_pid y) (row_prop b.head r b.is_row)
     ))) a.is_pid a.is_row
 
@@ -96,7 +96,7 @@ module _ (task : Task) (old next : ReadRound) (removed : Version) (gone : is_rem
     | inr (inr (inl beyond)) ↦ stays beyond.left.alive
     | inr (inr (inr (inl past))) ↦ stays past.left.alive
     | inr (inr (inr (inr (inl round)))) ↦ record {
-      leaf = λ plain is. (let index = round.index in absurd (omega (arith, index, is)));
+      leaf = λ plain is. (absurd (omega (arith, is)));
       index = λ plain index. inl (next, round, goes);
       second = λ first is. (let clash : None ≡ Some round.above = sym (ap above_of is) ∙ round.is_above in cc);
     }
@@ -107,7 +107,7 @@ module _ (task : Task) (old next : ReadRound) (removed : Version) (gone : is_rem
   ]
   read_turns (Some read_end.Again) t goes = elim t [
     | inl lost ↦ record {
-      leaf = λ plain is. (let index = lost.index in absurd (omega (arith, index, is)));
+      leaf = λ plain is. (absurd (omega (arith, is)));
       index = λ plain index. inr (lost, goes);
       second = λ first is. goes;
     }
@@ -119,7 +119,7 @@ module _ (task : Task) (old next : ReadRound) (removed : Version) (gone : is_rem
   ]
   read_turns (Some (read_end.Removed other)) t goes = record {
     leaf = λ plain is. goes ∙ rw (t.is, same.limits, same.key) refl;
-    index = λ plain index. (let is = t.leaf in absurd (omega (arith, index, is)));
+    index = λ plain index. (absurd (omega (arith, index)));
     second = λ first is. absurd (not_round first is t.plain);
   }
   read_turns (Some (read_end.Leaf leaf)) t goes = elim t [ inl end ↦ stays end.alive | inr merged ↦ stays merged.left.alive ]
@@ -163,8 +163,7 @@ read_left : (task : Task) (old : ReadRound) (told : Answer Record) (new : State)
 read_left task old told new steps removed meets = elim steps.responds [
   | inl way ↦ absurd (stops (reading.way old) told removed meets.whole (reading.way steps.next) way.on)
   | inr from ↦
-      let sees : Sees reading old (Whole removed) steps.next steps.end = subst (λ (s : Sight). Sees reading old s steps.next steps.end)
-      (found (reading.way old) told removed meets.whole from.sight from.finds) from.sees in
+      let sees : Sees reading old (Whole removed) steps.next steps.end = rw (found (reading.way old) told removed meets.whole from.sight from.finds) at from.sees in
       read_turns task old steps.next removed meets.gone steps.same new steps.end sees steps.goes
 ]
 
@@ -172,16 +171,11 @@ write_left : (task : Task) (old : WriteRound) (told : Answer Record) (new : Stat
 write_left task old told new steps removed meets = elim steps.responds [
   | inl way ↦ absurd (stops (writing.way old) told removed meets.whole (writing.way steps.next) way.on)
   | inr from ↦
-      let sees : Sees writing old (Whole removed) steps.next steps.end = subst (λ (s : Sight). Sees writing old s steps.next steps.end)
-      (found (writing.way old) told removed meets.whole from.sight from.finds) from.sees in
+      let sees : Sees writing old (Whole removed) steps.next steps.end = rw (found (writing.way old) told removed meets.whole from.sight from.finds) at from.sees in
       write_turns task old steps.next removed meets.seeks meets.gone new steps.end sees steps.goes
 ]
 
 pub goes_left : (task : Task) (old : State) (told : Answer Record) (new : State) → StepsInRound task old told new → GoesLeft task old told new
-goes_left task Begun told new steps = tt
-goes_left task Epoch told new steps = tt
-goes_left task (Enter epoch) told new steps = tt
 goes_left task (Read round) told new steps = read_left task round told new steps
 goes_left task (Write round) told new steps = write_left task round told new steps
-goes_left task (Change now then) told new steps = tt
-goes_left task (Leave reply lacks) told new steps = tt
+goes_left task old told new steps = tt

@@ -1,7 +1,6 @@
 -- What an answer makes of a change in its place.
 use Rattle.op_machine.proofs.Words.{◌≡◌, ℕ, Option, Some, None, refl, Answer, Record, Fits, Knowledge, learn, Recalled, TakesFresh, limbo_after, HaveRoom, Spares, End, one_round, ended_with}
-use Rattle.op_machine.proofs.Words.{IsInChange, Limits, Task, TurnsInto, Then}
-use Rattle.std.proofs.Common.{sym, subst}
+use Rattle.op_machine.proofs.Words.{IsInChange, Task, TurnsInto, Then}
 use Rattle.std.specs.Prelude.{IfNone}
 use Rattle.change_machine.specs.Bounded as bound
 use Rattle.change_machine.specs.Changes as change
@@ -19,7 +18,7 @@ module _ (old new : change.Change) (then : Then) (had has : Spares) (told : Answ
 
   -- the change has the limits of its task
   fits_own : (task : Task) (k : Knowledge) → old.limits ≡ task.limits → Fits task.limits k (change.wanted_step old had) told → Fits old.limits k (change.wanted_step old had) told
-  fits_own task k same fits = subst (λ (l : Limits). Fits l k (change.wanted_step old had) told) (sym same) fits
+  fits_own task k same fits = rw (← same) at fits
 
   -- it goes on, or has ended
   pub changes_into : (end : Option End) → Follows end → IfNone end (change.IsSoundChange new has) → change.IsMade new has → HaveRoom old.limits has

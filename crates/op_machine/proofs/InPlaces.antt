@@ -1,5 +1,5 @@
 -- What an answer makes of an operation's places.
-use Rattle.op_machine.proofs.Words.{◌≡◌, ◌≤◌, inl, inr, ℕ, zero, suc, Option, Some, false, true, refl, ap, ◌∙◌, arith, IsSome, same_Some, command_key, is_writer, Limits, Answer, Record}
+use Rattle.op_machine.proofs.Words.{◌≡◌, ◌≤◌, inl, inr, ℕ, zero, Option, Some, false, true, refl, ap, ◌∙◌, arith, IsSome, same_Some, command_key, is_writer, Limits, Answer, Record}
 use Rattle.op_machine.proofs.Words.{Fits, Knowledge, Recalled, ReadEnd, WriteEnd, Spares, Kind, left_at, left_for, left_round, one_round, AfterReading, AfterWriting, StepsInRound, Task}
 use Rattle.op_machine.proofs.Words.{FollowsOutcome, TurnsInto, Then, Sweep}
 use Rattle.bw_model.specs.Answers.{TellsNumber, answer_of}
@@ -20,7 +20,7 @@ use Rattle.op_machine.specs.machine.Shows.{FitsLast, ShowsState, learn_last, wan
 use Rattle.op_machine.specs.declared.places.StateKind.{StateKind}
 use Rattle.op_machine.specs.declared.places.StateKind.TheVariants.{Read, Write, Change, Leave}
 use Rattle.bw_model.specs.declared.step.Told.{Told}
-use Rattle.bw_model.specs.declared.step.Told.TheVariants.{Start, Number, Whether, Done}
+use Rattle.bw_model.specs.declared.step.Told.TheVariants.{Number}
 use Rattle.op_machine.specs.machine.States.{State}
 use Rattle.op_machine.specs.machine.States as at
 use Rattle.op_machine.proofs.Reading.{IsReading, reader_reads, writer_reads}
@@ -48,12 +48,8 @@ module _ (reader : read.ReadRound) (writer : write.WriteRound) (change : ChangeO
 module _ (limits : Limits) (k : Knowledge) where
   of_slot : (pid : ℕ) (told : Told) → Fits limits k (step.Slot pid) (answer_of told) → TellsNumber told
   of_slot pid (Number n) fits = tt
-  of_slot zero Start fits = absurd fits
-  of_slot zero (Whether whether) fits = absurd fits
-  of_slot zero Done fits = absurd fits
-  of_slot (suc pid) Start fits = absurd fits
-  of_slot (suc pid) (Whether whether) fits = absurd fits
-  of_slot (suc pid) Done fits = absurd fits
+  of_slot zero told fits = absurd fits
+  of_slot pid told fits = absurd fits
 
   of_row : (row : ℕ) (told : Told) → Fits limits k (step.Row row) (answer_of told) → TellsNumber told
   of_row row (Number n) fits = tt

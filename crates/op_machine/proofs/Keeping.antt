@@ -1,7 +1,7 @@
 -- What is in limbo stays as it is known, but for what a sweep does and a change.
 use Rattle.op_machine.proofs.Words.{◌≡◌, inl, inr, ℕ, zero, suc, false, refl, sym, subst, Limits, Answer, Record, Fits, Knowledge, Limbos, learn, Recalled, Spares, is_changing, Task}
 use Rattle.op_machine.proofs.Words.{AreKept}
-use Rattle.bw_model.specs.declared.step.Answer.TheVariants.{Start, Number, Content, Whether, Done}
+use Rattle.bw_model.specs.declared.step.Answer.TheVariants.{Start, Number}
 use Rattle.bw_model.specs.declared.step.Step.{Step}
 use Rattle.bw_model.specs.declared.step.Step.TheVariants as step
 use Rattle.epochs.specs.Limbo.{Limbo}
@@ -13,11 +13,7 @@ use Rattle.op_machine.proofs.Reading.{IsReading, reader_reads, writer_reads}
 slot_limbo : (k : Knowledge) (page : ℕ) (told : Answer Record) → (learn k (step.Slot page) told).limbo ≡ k.limbo
 slot_limbo k zero (Number n) = refl
 slot_limbo k (suc page) (Number zero) = refl
-slot_limbo k (suc page) (Number (suc row)) = refl
-slot_limbo k page Start = refl
-slot_limbo k page (Content content) = refl
-slot_limbo k page (Whether whether) = refl
-slot_limbo k page Done = refl
+slot_limbo k page told = refl
 
 row_limbo : (k : Knowledge) (row : ℕ) (told : Answer Record) → (learn k (step.Row row) told).limbo ≡ k.limbo
 row_limbo k row Start = refl

@@ -30,9 +30,8 @@ in_round (descent.Page visit) e = in_visit visit.pid visit.state e
 
 in_taking : (taken : Taking) → wanted_number taken ≢ step.Leave
 in_taking (taking.Bits kind.Pid from word whole) e = cc
-in_taking (taking.Bits kind.Row from word whole) e = cc
 in_taking (taking.Take kind.Pid from number whole) e = cc
-in_taking (taking.Take kind.Row from number whole) e = cc
+in_taking taken e = cc
 
 in_change : (limits : Limits) (plan : Plan) (spares : Spares) (state : ChangeState) → change.wanted_at limits plan spares state ≢ step.Leave
 in_change limits plan spares (change_state.Taking taken) e = in_taking taken e

@@ -1,6 +1,6 @@
 -- What an operation and its hand are after a step, from what its work or its sweep is.
-use Rattle.std.proofs.Common.{◌≡◌, ◌<◌, ◌+◌, inl, ℕ, Option, Some, None, true, refl, sym, ap, subst, ◌∙◌, arith}
-use Rattle.op_machine.proofs.Words.{Limits, Answer, StepOf, Record, Knowledge, Recalled, AreThere, Spares, IsSpentLast, left_at, one_round, with_errands, Hand, HoldsLimbo, IsToldOp}
+use Rattle.std.proofs.Common.{◌≡◌, ◌<◌, ◌+◌, inl, ℕ, Option, Some, None, true, refl, sym, ap, ◌∙◌, arith}
+use Rattle.op_machine.proofs.Words.{Limits, Answer, StepOf, Record, Knowledge, Recalled, Spares, IsSpentLast, left_at, one_round, with_errands, Hand, HoldsLimbo, IsToldOp}
 use Rattle.op_machine.proofs.Words.{IsToldOpThere, Op, Shows, asked_by, wanted_of, has_begun, steps_left, sweep_left, IsToldOnThere, IsToldWith, asked_of, AreKept, Sweep}
 use Rattle.bw_model.specs.declared.step.Answer.TheVariants.{Start}
 use Rattle.epochs.specs.Limbo.{Limbo}
@@ -31,7 +31,7 @@ module _ (old : Op) (had : Hand) (told : Answer Record) (begun : has_begun old.s
     asks = ap (λ (o : Option Sweep). asked_by o (asked_of old had.spares)) unswept
 
     pub fits_on : FitsLast old.task.limits k (wanted_of old had) told → FitsLast old.task.limits k (asked_of old had.spares) told
-    fits_on fits = subst (λ w. FitsLast old.task.limits k w told) asks fits
+    fits_on fits = rw (← asks) fits
 
     pub kept_begun : AreKept old.task.limits old.task.actor had.limbo k.limbo
     kept_begun = rw unswept at shows.limbo
@@ -51,7 +51,7 @@ module _ (old : Op) (had : Hand) (told : Answer Record) (begun : has_begun old.s
     r = is.r;
     works = is.shows.stands;
     fits = fits_on is.k is.r is.shows is.fits;
-    there = subst (λ w. AreThere is_there (learn_last is.k w told)) (asks is.k is.r is.shows) is.there;
+    there = rw (← (asks is.k is.r is.shows)) is.there;
   }
 
 -- before the first step of the work the sweep alone asks
@@ -66,7 +66,7 @@ module _ (old mid : Op) (spares : Spares) (limbo now : Limbo) (told : Answer Rec
   sweep_asks = ap (λ (state : State). asked_by old.sweep (wanted_at spares state)) first
 
   pub fits_swept : (k : Knowledge) → FitsLast old.task.limits k (wanted_of old had) told → FitsLast old.task.limits k (swept_by old) told
-  fits_swept k fits = subst (λ w. FitsLast old.task.limits k w told) sweep_asks fits
+  fits_swept k fits = rw (← sweep_asks) fits
 
   pub fewer : (r : Recalled) (last : Option (StepOf Record)) (left rest : ℕ) → rest < left → IsSpentLast old.task.limits r last told left rest
   fewer r None left rest less = less

@@ -31,8 +31,7 @@ some_many limits level = by_test limits.is_large (level == 0)
   where
     by_test : (large leaf : Bool) → 0 < (if large then (if leaf then 2 else 1) else 8)
     by_test true true = omega arith
-    by_test true false = omega arith
-    by_test false leaf = omega arith
+    by_test large leaf = omega arith
 
 -- a base that fits by itself can be spelled
 pub spells_base : (page : Page) → IsFitted (kind.Base page ∷ []) → IsSpellablePage page
@@ -42,7 +41,7 @@ spells_base page h = let is = h.1 in let same : page ≡ h.0 = cc in rw same h.2
 pub long_chain : (round : WriteRound) (k : Knowledge) (r : Recalled) (page : Version) (base : Page) → 0 < round.due → IsLongEnd round k r page base → 1 < length page.chain
 long_chain round k r page base some ends = elim ends.long [
   | inl many ↦ let more = some_many round.limits (level_in page.chain) in omega (arith, many, more)
-  | inr leaf ↦ let longer = leaf.1 in omega (arith, longer, some)
+  | inr leaf ↦ omega (arith, some)
 ]
 
 module _ (task : Task) (spares : Spares) (k : Knowledge) (r : Recalled) where

@@ -1,5 +1,5 @@
 -- What a step that reads a slot or a row leaves as it was.
-use Rattle.std.proofs.Common.{◌≡◌, ◌<◌, ◌==◌, ◌⊎◌, inl, inr, ℕ, zero, suc, Bool, true, false, cond, Option, Some, None, refl, subst, ◌∙◌}
+use Rattle.std.proofs.Common.{◌≡◌, ◌==◌, ◌⊎◌, inl, inr, ℕ, zero, suc, Bool, true, false, cond, Option, Some, None, refl, ◌∙◌}
 use Rattle.op_machine.proofs.Words.{IfSome, eqb-true, Limits, Answer, Record, replaced_at, Fits, Recalled, Seeks, Task}
 use Rattle.bw_model.specs.declared.step.Step.{Step}
 use Rattle.bw_model.specs.declared.step.Step.TheVariants.{Slot, Row}
@@ -9,7 +9,7 @@ use Rattle.round_model.specs.Descents.{wanted_at, WayState, Root, Page}
 use Rattle.round_model.specs.ReadRounds as read
 use Rattle.round_model.specs.WriteRounds as write
 use Rattle.round_model.specs.Visits as page
-use Rattle.change_machine.specs.Spares.{IsUnlinked, Spares}
+use Rattle.change_machine.specs.Spares.{Spares}
 use Rattle.change_machine.proofs.Learning.{empty_page}
 
 -- the step reads a slot, or a row
@@ -49,11 +49,11 @@ if_some (Some q) f h = f q refl h
 module _ (task : Task) (spares : Spares) (k : Knowledge) (s : Seeks task spares k) where
   some_page : (o : Option ℕ) → spares.pid ≡ o → (q : ℕ) → o ≡ Some q → k.own.pages q ≡ Empty
   some_page o is q e =
-      let page = subst (λ (x : Option ℕ). IfSome x (λ pid. (0 < pid) × IsUnlinked (k.own.pages pid))) (is ∙ e) s.spare.rest.are.page in
+      let page = rw (is ∙ e) at s.spare.rest.are.page in
       empty_page (k.own.pages q) page.1 (λ row. s.spare.rest.unset q row)
 
   unread_still : (p n : ℕ) → (k.own.pages p ≡ Empty → ⊥) → IfSome spares.pid (λ q. replaced_at p (Some n) k.read.heads q ≡ None)
-  unread_still p n foreign = if_some spares.pid (λ q e h. other_unread p n q k.read.heads (λ i. foreign (subst (λ x. k.own.pages x ≡ Empty) i (some_page spares.pid refl q e))) h) s.unread
+  unread_still p n foreign = if_some spares.pid (λ q e h. other_unread p n q k.read.heads (λ i. foreign (rw (← i) (some_page spares.pid refl q e))) h) s.unread
 
   slot_still : (limits : Limits) (p : ℕ) (told : Answer Record) → Fits limits k (Slot p) told → Seeks task spares (learn k (Slot p) told)
   slot_still limits zero (Number n) fits = record

@@ -1,5 +1,5 @@
 -- What a round's next step leaves an operation in.
-use Rattle.op_machine.proofs.Words.{◌≡◌, inl, inr, refl, sym, ap, subst, Option, Some, None, ◌∙◌, arith, Limits, Answer, Record, Fits, Knowledge, learn, IsStepSpent, Recalled, recall}
+use Rattle.op_machine.proofs.Words.{◌≡◌, inl, inr, refl, sym, ap, Option, Some, None, ◌∙◌, arith, Limits, Answer, Record, Fits, Knowledge, learn, IsStepSpent, Recalled, recall}
 use Rattle.op_machine.proofs.Words.{ReadGoal, ReadEnd, WriteEnd, Spares, LeavesFor, left_at, left_for, left_round, one_round, Task}
 use Rattle.round_model.specs.ReadRounds as read
 use Rattle.round_model.specs.Rounds.{Follows, Responds, Sees}
@@ -55,7 +55,7 @@ module _ (task : Task) (spares : Spares) (k : Knowledge) (r : Recalled) (round n
       → IsStepSpent task.limits r (read.wanted_step round) told (left_at task.limits r spares (at.Read round)) (left_at task.limits (recall r (read.wanted_step round) told) spares (at.Read new))
   read_went spends = elim spends [
     | inl less ↦ inl (omega (arith, less))
-    | inr paid ↦ let more = paid.1 in let w = enough task.limits in let same = same_pids in inr (paid.0, omega (arith, more, w, same))
+    | inr paid ↦ let w = enough task.limits in let same = same_pids in inr (paid.0, omega (arith, w, same))
   ]
 
   pub read_left : (end : ReadEnd) → read.Spends (left_round task.limits) (one_round task.limits) r round told new (Some end)
@@ -84,7 +84,7 @@ still_goes_left old new told responds is = elim responds [
 ]
   where
     back : (to : write.WriteRound) → new ≡ to → to.goal ≡ Seek
-    back to same = subst (λ (round : write.WriteRound). round.goal ≡ Seek) same is
+    back to same = rw (← same) is
 
     by_sight : (sight : Sight) → Sees response.writing old sight new None → old.goal ≡ Seek
     by_sight Empty sees = cc
@@ -149,7 +149,7 @@ module _ (task : Task) (spares : Spares) (k : Knowledge) (r : Recalled) (round n
   write_missed : (goal : write_to.WriteGoal) → write.MissesWrite (left_round task.limits) (one_round task.limits) r round told goal
       → IsStepSpent task.limits r (write.wanted_step round) told (left_at task.limits r spares (at.Write round)) (one_round task.limits)
   write_missed Seek paid = inr (paid, (let w = enough task.limits in omega (arith, w)))
-  write_missed (write_to.Left pid) misses = elim misses [ inl paid ↦ inr (paid, (let w = enough task.limits in omega (arith, w))) | inr was ↦ let kept = was.1 in inl (omega (arith, kept)) ]
+  write_missed (write_to.Left pid) misses = elim misses [ inl paid ↦ inr (paid, (let w = enough task.limits in omega (arith, w))) | inr was ↦ inl (omega arith) ]
   write_missed (write_to.Merge left) paid = inr (paid, (let w = enough task.limits in omega (arith, w)))
   write_missed (write_to.Unterm parent left) kept = inl (omega (arith, kept))
 
@@ -157,7 +157,7 @@ module _ (task : Task) (spares : Spares) (k : Knowledge) (r : Recalled) (round n
       → IsStepSpent task.limits r (write.wanted_step round) told (left_at task.limits r spares (at.Write round)) (left_at task.limits (recall r (write.wanted_step round) told) spares (at.Write new))
   write_went spends = elim spends [
     | inl less ↦ inl (omega (arith, less))
-    | inr paid ↦ let more = paid.1 in let w = enough task.limits in let same = written_pids in inr (paid.0, omega (arith, more, w, same))
+    | inr paid ↦ let w = enough task.limits in let same = written_pids in inr (paid.0, omega (arith, w, same))
   ]
 
   pub write_left : (end : WriteEnd) → write.Spends (left_round task.limits) (one_round task.limits) r round told new (Some end)

@@ -17,9 +17,8 @@ module _ (limits : Limits) (k : Knowledge) (row : Record) where
   -- no change asks for one,
   in_taking : (taken : Taking) → Fits limits k (wanted_number taken) (Content row) → ⊥
   in_taking (taking.Bits kind.Pid from word whole) fits = fits
-  in_taking (taking.Bits kind.Row from word whole) fits = fits
   in_taking (taking.Take kind.Pid from number whole) fits = fits
-  in_taking (taking.Take kind.Row from number whole) fits = fits
+  in_taking taken fits = fits
 
   in_change : (own : Limits) (plan : Plan) (spares : Spares) (state : ChangeState) → Fits limits k (change.wanted_at own plan spares state) (Content row) → ⊥
   in_change own plan spares (change_state.Taking taken) fits = in_taking taken fits

@@ -1,5 +1,5 @@
 -- Which steps a change's actor may take.
-use Rattle.op_machine.proofs.Words.{◌≡◌, ◌<◌, ℕ, zero, suc, List, length, refl, sym, ap, subst, ◌∙◌, Limits, Exchange, Record, IsChainFrom, SplitPlan, IsUseful, wanted_number, Plan, Bits}
+use Rattle.op_machine.proofs.Words.{◌≡◌, ◌<◌, ℕ, zero, suc, List, length, refl, sym, ap, ◌∙◌, Limits, Exchange, Record, IsChainFrom, SplitPlan, IsUseful, wanted_number, Plan, Bits}
 use Rattle.op_machine.proofs.Words.{Take, IsUsefulOver, IsUsefulPlan, AreHalves, IsHalved, Task}
 use Rattle.base_page.specs.Pages.{Page}
 use Rattle.deltas.specs.declared.record.Record.TheVariants as kind
@@ -14,7 +14,7 @@ use Rattle.change_machine.specs.Spares.{Spares, last_row, pid_of}
 use Rattle.change_machine.specs.declared.change.State.{State}
 use Rattle.change_machine.specs.declared.change.State.TheVariants.{Taking, Base, Ready, Place, Link, Undo, Clear}
 use Rattle.structure_changes.specs.declared.plan.Plan.TheVariants.{Install, Split, Root, Unlink}
-use Rattle.change_machine.specs.declared.taking.Kind.TheVariants.{Pid, Row}
+use Rattle.change_machine.specs.declared.taking.Kind.TheVariants.{Pid}
 use Rattle.change_machine.specs.declared.taking.Taking as taken
 use Rattle.rounds.specs.Descents.{asked_step}
 use Rattle.rounds.specs.declared.asked.Asked.{Asked}
@@ -27,9 +27,8 @@ freely limits own actor k plan spares (Taking taking) = of_taking taking
   where
     of_taking : (t : taken.Taking) → MayFree limits actor k (wanted_number t)
     of_taking (Bits Pid from word whole) = tt
-    of_taking (Bits Row from word whole) = tt
     of_taking (Take Pid from number whole) = tt
-    of_taking (Take Row from number whole) = tt
+    of_taking t = tt
 freely limits own actor k plan spares other = tt
 
 -- an exchange that puts a base over a row only where its chain has deltas
@@ -58,9 +57,8 @@ usefully limits k plan spares (Taking taking) useful shows = of_taking taking
   where
     of_taking : (t : taken.Taking) → IsUseful k (wanted_number t)
     of_taking (Bits Pid from word whole) = tt
-    of_taking (Bits Row from word whole) = tt
     of_taking (Take Pid from number whole) = tt
-    of_taking (Take Row from number whole) = tt
+    of_taking t = tt
 usefully limits k plan spares Base useful shows = tt
 usefully limits k plan spares Ready useful shows = readies k (pid_of spares) (change.base_row limits plan spares)
 usefully limits k plan spares Place useful shows = tt
@@ -85,7 +83,7 @@ halves k (suc slot) (suc old) right (suc new) base_row plan over useful placed s
     let row_is : base_row ≡ row = cc in
     let w : Written (kind.Base plan.upper) ≡ Written (kind.Base base) = sym based ∙ ap k.own.rows row_is ∙ written in
     let same : plan.upper ≡ base = cc in
-    subst (λ (b : Page). AreHalves basis.chain b.items) same (useful basis.chain (rw over basis.read))
+    rw (← same) (useful basis.chain (rw over basis.read))
 halves k other others right rest base_row plan over useful placed stands based = tt
 
 never_over : (k : Knowledge) (head row : ℕ) (content : Record) → IsUsefulOver k head content → k.own.rows row ≡ Written content → (split : SplitOf) → k.own.rows row ≡ Written (kind.Split split) → ⊥
@@ -107,9 +105,8 @@ halved limits k plan spares (Taking taking) useful shows = of_taking taking
   where
     of_taking : (t : taken.Taking) → IsHalved k (wanted_number t)
     of_taking (Bits Pid from word whole) = tt
-    of_taking (Bits Row from word whole) = tt
     of_taking (Take Pid from number whole) = tt
-    of_taking (Take Row from number whole) = tt
+    of_taking t = tt
 halved limits k plan spares Ready useful shows = halved_ready k (pid_of spares) (change.base_row limits plan spares)
 halved limits k (Install pid head content) spares Link useful shows = no_split k pid head (last_row spares) (never_over k head (last_row spares) content useful shows.1)
 halved limits k (Split pid plan) spares Link useful shows = halves k pid plan.next (pid_of spares) (change.record_row limits (Split pid plan) spares)

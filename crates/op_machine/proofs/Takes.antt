@@ -1,6 +1,6 @@
 -- What an operation in its place is after an answer, from what its work or its sweep is.
-use Rattle.op_machine.proofs.Words.{◌≡◌, ◌<◌, Option, Some, None, is_some, true, false, refl, sym, ap, subst, ◌∙◌, arith, IsSome, Answer, StepOf, Record, Spares, IsSpentLast, Hand, IsToldOp}
-use Rattle.op_machine.proofs.Words.{Obeys, Op, Shows, asked_by, wanted_of, has_begun, Sweep}
+use Rattle.op_machine.proofs.Words.{◌≡◌, ◌<◌, Option, Some, None, is_some, true, false, refl, ap, ◌∙◌, arith, IsSome, Answer, StepOf, Record, Spares, Hand, IsToldOp}
+use Rattle.op_machine.proofs.Words.{Obeys, Op, asked_by, wanted_of, has_begun, Sweep}
 use Rattle.bw_model.specs.declared.step.Answer.TheVariants.{Start}
 use Rattle.epochs.specs.Limbo.{Limbo}
 use Rattle.op_machine.specs.machine.InPlace.{ShowsOn, Takes, Wants}
@@ -38,7 +38,7 @@ module _ (old : Op) (had : Hand) (told : Answer Record) (begun : has_begun old.s
   shows k r h f =
       let fits = fits_on old had told begun k r h f in
       let none = unswept old had told begun k r h in
-      subst (λ w. Shows new has (learn_last k w told) (recall_last r w told)) (sym (asks old had told begun k r h)) (record {
+      rw (asks old had told begun k r h) (record {
         stands = after.works k r h.stands fits;
         limbo = rw (after.sweep, none, after.same.limits, after.same.actor) (keeps k r h.stands fits (kept_begun old had told begun k r h));
       })
@@ -48,8 +48,7 @@ module _ (old : Op) (had : Hand) (told : Answer Record) (begun : has_begun old.s
       let fits = fits_on old had told begun k r h f in
       let none = unswept old had told begun k r h in
       let then = begun_if has.spares new.state after.asks in
-      subst (λ w. IsSpentLast old.task.limits r w told (steps_left r old had) (steps_left (recall_last r w told) new has)) (sym (asks old had told begun k r h))
-      (rw
+      rw (asks old had told begun k r h) (rw
       (left_is old had told begun old had r none begun, left_is old had told begun new has (recall_last r (asked_of old had.spares) told) (after.sweep ∙ none) then, after.same.limits)
       (after.spends k r h.stands fits))
 
@@ -74,8 +73,7 @@ module _ (old mid : Op) (spares : Spares) (limbo now : Limbo) (told : Answer Rec
 
   shows_mid : ShowsOn old had told mid between
   shows_mid k r h f =
-      subst (λ w. Shows mid between (learn_last k w told) (recall_last r w told)) (sym (sweep_asks old mid spares limbo now told first same))
-      (moves k r spares h (fits_swept old mid spares limbo now told first same k f))
+      rw (sweep_asks old mid spares limbo now told first same) (moves k r spares h (fits_swept old mid spares limbo now told first same k f))
 
   -- the sweep goes on
   module _ (on : is_some mid.sweep ≡ true) (few : HasFewer old mid) where
@@ -119,8 +117,7 @@ module _ (old mid : Op) (spares : Spares) (limbo now : Limbo) (told : Answer Rec
           let kept = kept_after old mid spares limbo now told first same over k r h f in
           let works = after.works _ _ rest.1.stands start in
           let held = keeps _ _ rest.1.stands start kept in
-          subst (λ w. Shows new has (learn_last k w told) (recall_last r w told)) (sym (sweep_asks old mid spares limbo now told first same))
-          (record { stands = rw nothing at works; limbo = rw (after.sweep, rest.0, after.same.limits, after.same.actor) (rw nothing at held) })
+          rw (sweep_asks old mid spares limbo now told first same) (record { stands = rw nothing at works; limbo = rw (after.sweep, rest.0, after.same.limits, after.same.actor) (rw nothing at held) })
 
       spends_after : (asked : StepOf Record) → Spends old had told new has (Step asked)
       spends_after asked k r h f =

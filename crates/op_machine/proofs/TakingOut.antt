@@ -15,14 +15,8 @@ takes_nothing (Install pid head content) k h = over content h
   where
     over : (content : Record) → TakesNothing (Install pid head content) → limbo_over content head k ≡ k.limbo
     over (kind.Base page) h = absurd h
-    over (kind.Put put) h = refl
-    over (kind.Delete delete) h = refl
-    over (kind.Split split) h = refl
-    over (kind.Term term) h = refl
-    over (kind.Hold hold) h = refl
-    over (kind.Remove remove) h = refl
-    over (kind.Merge merge) h = refl
     over (kind.Unterm unterm) h = absurd h
+    over content h = refl
 takes_nothing (Split pid split) k h = refl
 takes_nothing (Root left root) k h = refl
 takes_nothing (Unlink pid head unterm removal) k h = absurd h
@@ -40,14 +34,7 @@ module _ (limits : Limits) (k : Knowledge) (unlinked : Unlinked) where
       over : (content : Record) → IsTakenBy k (Install pid head content) unlinked → TakesFresh limits k (Install pid head content) (Some Won)
           → GoesToLimbo limits k unlinked (limbo_over content head k)
       over (kind.Base page) taken fresh = record { head = head; rows_of = taken.0; absent = fresh; page = rw taken.1 refl }
-      over (kind.Put put) taken fresh = absurd taken
-      over (kind.Delete delete) taken fresh = absurd taken
-      over (kind.Split split) taken fresh = absurd taken
-      over (kind.Term term) taken fresh = absurd taken
-      over (kind.Hold hold) taken fresh = absurd taken
-      over (kind.Remove remove) taken fresh = absurd taken
-      over (kind.Merge merge) taken fresh = absurd taken
-      over (kind.Unterm unterm) taken fresh = absurd taken
+      over content taken fresh = absurd taken
   takes (Split pid split) taken fresh = absurd taken
   takes (Root left root) taken fresh = absurd taken
   takes (Unlink pid head unterm removal) taken fresh = record {

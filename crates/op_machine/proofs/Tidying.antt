@@ -1,6 +1,6 @@
 -- A tidying at the leaf of its key, where nothing is due.
 use Rattle.op_machine.proofs.Words.{◌≡◌, ◌≤◌, ◌<◌, inl, inr, ℕ, List, [], ◌∷◌, length, Bool, Option, Some, None, true, false, refl, ap, subst, arith, IsTrue, if◌then◌else◌, bytes_eq}
-use Rattle.op_machine.proofs.Words.{Command, Add, Back, Get, Insert, Upsert, Delete, DeleteIf, Swap, PageFrom, Tidy, is_writer, reply_of, IsSpellablePage}
+use Rattle.op_machine.proofs.Words.{Command, Add, Insert, Upsert, Delete, DeleteIf, Swap, Tidy, is_writer, reply_of, IsSpellablePage}
 use Rattle.op_machine.proofs.Words.{Record, covers, level_in, MayReply, IsFitted, Knowledge}
 use Rattle.op_machine.proofs.Words.{Recalled, Spares, Version, from_made, of_made, IsAtLeafBelow, Task, IsIdleFor}
 use Rattle.bw_model.specs.Numbers.{is_number}
@@ -21,22 +21,14 @@ replied false x y none = cc
 
 -- a writer whose reply goes by no value is a tidying
 tidies : (c : Command) (old : Option (List ℕ)) → is_writer c ≡ true → reply_of c old ≡ None → (key : List ℕ) × (c ≡ Tidy key)
-tidies (Get key) old writes none = cc
-tidies (Insert key value) None writes none = cc
-tidies (Insert key value) (Some before) writes none = cc
-tidies (Upsert key value) None writes none = cc
-tidies (Upsert key value) (Some before) writes none = cc
-tidies (Delete key) None writes none = cc
-tidies (Delete key) (Some before) writes none = cc
-tidies (DeleteIf key expected) None writes none = cc
 tidies (DeleteIf key expected) (Some before) writes none = replied (bytes_eq before expected) (Deleted before) (Differs before) none
-tidies (Swap key expected value) None writes none = cc
 tidies (Swap key expected value) (Some before) writes none = replied (bytes_eq before expected) Swapped (Differs before) none
-tidies (Add key number) None writes none = cc
 tidies (Add key number) (Some before) writes none = replied (is_number before) (Replaced before) (Differs before) none
-tidies (PageFrom key) old writes none = cc
-tidies (Back key) old writes none = cc
 tidies (Tidy key) old writes none = (key, refl)
+tidies (Insert key value) None writes none = cc
+tidies (Upsert key value) None writes none = cc
+tidies (Delete key) None writes none = cc
+tidies c old writes none = cc
 
 -- a chain without deltas is a base alone
 alone : (chain : List Record) → IsFitted chain → length chain ≤ 1 → (base : Page) × (chain ≡ Base base ∷ []) × IsSpellablePage base
@@ -51,9 +43,8 @@ may_call task spares k r parent leaf old below idle last none =
     let at = below.at in
     let tidy = tidies task.command old at.writer none in
     let due : due_of task.limits task.errands task.command ≡ 1 = rw (last, tidy.1) refl in
-    let early = at.early in
-    let base = alone leaf.chain at.page.in_hand.sound.is_chain.fitted (omega (arith, early, due)) in
-    let level : level_in (Base base.0 ∷ []) ≡ 0 = subst (λ (chain : List Record). level_in chain ≡ 0) base.1 at.level in
+    let base = alone leaf.chain at.page.in_hand.sound.is_chain.fitted (omega (arith, due)) in
+    let level : level_in (Base base.0 ∷ []) ≡ 0 = rw base.1 at at.level in
     let splits : splits_of task.limits task.errands task.command ≡ true = rw (last, tidy.1) refl in
     let few : HasFewItems (Base base.0 ∷ []) = subst HasFewItems base.1 (at.few splits) in
     let makes = Makes-base base.0 base.2.ruled.is_page.ordered.ascending base.2.alive in

@@ -1,6 +1,6 @@
 -- What the definitions make of an insert and a lookup that meet a removed leaf, or its empty slot.
-use Rattle.op_machine.proofs.Words.{◌≡◌, inl, inr, ℕ, Option, Some, None, refl, ap, subst, arith, Answer, Record, WriteGoal, ReadGoal, Descent, Finds, Moves, Sees, writing}
-use Rattle.op_machine.proofs.Words.{WriteRound, AfterWriting, StepsInRound, new_leaf, small}
+use Rattle.op_machine.proofs.Words.{◌≡◌, inl, inr, ℕ, Option, Some, None, refl, ap, arith, Answer, Record, WriteGoal, ReadGoal, Descent, Finds, Moves, Sees, writing}
+use Rattle.op_machine.proofs.Words.{WriteRound, StepsInRound, new_leaf, small}
 use Rattle.bw_model.specs.declared.step.Answer.TheVariants.{Content, Number}
 use Rattle.round_model.specs.Courses as goal
 use Rattle.round_model.specs.ReadGoals as read_goal
@@ -60,7 +60,7 @@ goes_no_further : (next : Descent) → Moves (writing.way at_slot) (Number 0) ne
 goes_no_further next moves = elim moves [
   | inl starts ↦ (let clash = starts.asked in cc)
   | inr visits ↦ elim visits.responds [
-    | inl head ↦ (let some = head.some in let zero : 0 ≡ head.row = ap number_of head.is in omega (arith, some, zero))
+    | inl head ↦ (let zero : 0 ≡ head.row = ap number_of head.is in omega (arith, zero))
     | inr on ↦ (let clash : Number 0 ≡ Content on.content = on.is in cc)
   ]
 ]
@@ -68,5 +68,5 @@ goes_no_further next moves = elim moves [
 pub empty_anew : (new : State) → StepsInRound inserting (Write at_slot) (Number 0) new → new ≡ Write (first_write inserting)
 empty_anew new steps = elim steps.responds [
   | inl way ↦ absurd (goes_no_further (writing.way steps.next) way.on)
-  | inr from ↦ subst (λ (o : Option WriteEnd). AfterWriting inserting steps.next o new) (seen_empty steps.next steps.end from.sight from.finds from.sees) steps.goes
+  | inr from ↦ rw (seen_empty steps.next steps.end from.sight from.finds from.sees) at steps.goes
 ]

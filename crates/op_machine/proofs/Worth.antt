@@ -21,20 +21,20 @@ use Rattle.sweep.specs.Bounded.{most_steps, reuses_left}
 use Rattle.sweep.specs.Bounded as sweep
 use Rattle.sweep.specs.declared.sweep.State.TheVariants as sweeping
 use Rattle.op_machine.specs.machine.Bounded as op
-use Rattle.op_machine.specs.machine.States.{State, Begun, Epoch, Enter, Read, Write, Change, Leave}
+use Rattle.op_machine.specs.machine.States.{State, Begun, Read, Write, Change}
 
 pub enough : (limits : Limits) → 42 * limits.pids + 2 * few_changes limits + limits.actors + 20 ≤ cause_worth limits
 unfolding cause_worth most_reads
 enough limits = by_test limits.is_large refl
   where
     by_test : (large : Bool) → limits.is_large ≡ large → 42 * limits.pids + 2 * few_changes limits + limits.actors + 20 ≤ (if large then 2 ^ 18 + (48 * limits.pids + limits.rows) else 2 ^ 18)
-    by_test true e = let some = limits.allowed.some_pids in let few = limits.allowed.few_actors in omega (arith, some, few)
-    by_test false e = let small = limits.small e in let p = small.few_pids in let r = small.few_rows in let few = small.few_actors in omega (arith, p, r, few)
+    by_test true e = let few = limits.allowed.few_actors in omega (arith, few)
+    by_test false e = let small = limits.small e in omega arith
 
 -- a whole operation without errands takes fewer steps than a cause is worth
 pub begin_few : (limits : Limits) → with_errands limits [] (most_steps limits + 1 + (one_round limits + 3)) < cause_worth limits
 unfolding most_reads
-begin_few limits = let e = enough limits in let some = limits.allowed.some_pids in omega (arith, e, some)
+begin_few limits = let e = enough limits in omega (arith, e)
 
 -- a sweep
 reuses_few : (limits : Limits) (reuse : Reuse) → reuses_left limits reuse ≤ most_steps limits
@@ -48,12 +48,7 @@ sweep_few limits other = omega arith
 sweeps_few : (limits : Limits) (now : Option Sweep) (state : State) → sweep_left limits now state ≤ most_steps limits + 1
 sweeps_few limits (Some now) state = let few = sweep_few limits now.state in omega (arith, few)
 sweeps_few limits None Begun = omega arith
-sweeps_few limits None Epoch = omega arith
-sweeps_few limits None (Enter epoch) = omega arith
-sweeps_few limits None (Read round) = omega arith
-sweeps_few limits None (Write round) = omega arith
-sweeps_few limits None (Change now next) = omega arith
-sweeps_few limits None (Leave reply lacks) = omega arith
+sweeps_few limits now state = omega arith
 
 -- a change
 number_few : (limits : Limits) (taking : Taking) → number_left limits taking ≤ most_reads limits

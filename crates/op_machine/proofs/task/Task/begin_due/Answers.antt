@@ -1,5 +1,5 @@
-use Rattle.op_machine.proofs.Words.{◌≡◌, ◌<◌, Some, length, refl, sym, ap, subst, ◌∙◌, Unterm, IsChainFrom-unique, DueChange, IsPlanned, IsDueBy, Plan, Brings, IsReadPlan, IsUsefulPlan}
-use Rattle.op_machine.proofs.Words.{MayBegin, AreHalves}
+use Rattle.op_machine.proofs.Words.{◌≡◌, Some, refl, sym, ap, ◌∙◌, Unterm, IsChainFrom-unique, DueChange, IsPlanned, IsDueBy, Plan, Brings, IsReadPlan, IsUsefulPlan}
+use Rattle.op_machine.proofs.Words.{MayBegin}
 use Rattle.traces.specs.discipline.Recalled.{WasHead}
 use Rattle.round_model.specs.WriteEnds as due
 use Rattle.change_machine.specs.Changes.{KeepsSpare, MayLinkAs}
@@ -35,13 +35,12 @@ returns-clause-stands g c k r h = c.begin_due.ensures.begun.stands k r (by_chang
         let seen = d.page.in_hand.seen in
         rw (p.0, p.1.is) (begins _ _ (c.plans_may_be_linked.ensures.base c.args.self.now.actor k page base seen d.page.alive d.plan.may d.plan.fits) tt
         (record { chain = page.chain; read = seen.read; short = d.page.in_hand.sound.is_chain.short; are = p.1.rows }, p.1.of)
-        (λ chain read. subst (λ x. 1 < length x) (IsChainFrom-unique k.read.seen page.head page.chain chain seen.read read) (long_chain h.round k r page base h.round_of.some d)) tt d.page.recalled)
+        (λ chain read. rw (← (IsChainFrom-unique k.read.seen page.head page.chain chain seen.read read)) (long_chain h.round k r page base h.round_of.some d)) tt d.page.recalled)
     by_change (due.Split page split) p d =
         let plan = d.plan_due in
         let seen = d.page.in_hand.seen in
         rw (p.0, p.1) (begins _ _ (c.plans_may_be_linked.ensures.split c.args.self.now.actor k page split seen plan) tt (page.pid, split, refl, refl)
-        (λ chain read. subst (λ x. AreHalves x split.upper.items) (IsChainFrom-unique k.read.seen page.head page.chain chain seen.read (rw plan.over at read))
-        (halves page split plan d.page.in_hand.sound.is_chain.fitted))
+        (λ chain read. rw (← (IsChainFrom-unique k.read.seen page.head page.chain chain seen.read (rw plan.over at read))) (halves page split plan d.page.in_hand.sound.is_chain.fitted))
         (rw plan.over seen.head) (rw plan.over d.page.recalled))
     by_change (due.Term parent term) p d =
         rw (p.0, p.1) (begins _ _

@@ -1,4 +1,4 @@
-use Rattle.op_machine.proofs.Words.{◌≡◌, ◌≤◌, inl, inr, refl, ap, subst, arith, rules, Limits, Knowledge, Errand, Kind, left_at, one_round, state_of, Task}
+use Rattle.op_machine.proofs.Words.{◌≡◌, inl, inr, refl, ap, arith, rules, Limits, Knowledge, Errand, Kind, state_of, Task}
 use Rattle.traces.specs.discipline.Discipline.{LacksRoom}
 use Rattle.change_machine.specs.Taking.{AllFull}
 use Rattle.op_parts.specs.declared.then.Then.TheVariants.{After}
@@ -56,7 +56,7 @@ returns-in-Won-After-Errand-clause-have g c = c.begin_round.ensures.have
 pub returns-in-Won-After-Errand-clause-few : goal.returns-in-Won-After-Errand-clause-few
 returns-in-Won-After-Errand-clause-few g c spares r =
     let own : c.add_errand.new.self.limits ≡ c.args.self.now.limits = ap (λ (task : Task). task.limits) c.add_errand.ensures in
-    let few = subst (λ (limits : Limits). left_at limits r spares (state_of c.begin_round.new.places) ≤ one_round limits) own (c.begin_round.ensures.few spares r) in
+    let few = rw own at (c.begin_round.ensures.few spares r) in
     let is : c.args.places.now.then ≡ After (Errand c.in-Won-After-Errand.separator) = search rules in
     rw (c.add_errand.ensures, c.in-Won-After-Errand.is-0, is) (errand_more c.args.self.now.limits c.args.self.now.errands c.copied-separator.result _ few)
 

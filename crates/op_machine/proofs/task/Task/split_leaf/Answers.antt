@@ -1,4 +1,4 @@
-use Rattle.op_machine.proofs.Words.{◌≡◌, ◌∙◌, inl, inr, ap, subst, refl, PlacedWrite, seen_is_read, IsChainFrom-unique, AreHalves}
+use Rattle.op_machine.proofs.Words.{◌≡◌, ◌∙◌, inl, inr, ap, refl, PlacedWrite, seen_is_read, IsChainFrom-unique}
 use Rattle.structure_changes.specs.Splits.{IsSplitPlan}
 use Rattle.op_machine.proofs.Dues.{split_there}
 use Rattle.op_machine.proofs.Halves.{halves}
@@ -32,8 +32,7 @@ returns-clause-stands g c k r h =
       may = record { inside = h.seeks.inside; links = c.plans_may_be_linked.ensures.split c.args.self.now.actor k leaf split seen plan };
       keeps = tt;
       brings = (leaf.pid, split, refl, refl);
-      useful = λ chain read. subst (λ x. AreHalves x split.upper.items) (IsChainFrom-unique k.read.seen leaf.head leaf.chain chain seen.read (rw plan.over at read))
-          (halves leaf split plan h.page.in_hand.sound.is_chain.fitted);
+      useful = λ chain read. rw (← (IsChainFrom-unique k.read.seen leaf.head leaf.chain chain seen.read (rw plan.over at read))) (halves leaf split plan h.page.in_hand.sound.is_chain.fitted);
       split = rw plan.over seen.head;
       recalled = rw plan.over h.page.recalled;
     }))
