@@ -28,7 +28,7 @@ use bw_model::Command;
 use op_parts::ShortReply;
 use round_model::read_leaves_stood;
 use rounds::ReadEndKind;
-use row_search::{KeyWords, Rows};
+use row_search::Rows;
 use std::alloc::Allocator;
 
 impl Task {
@@ -86,6 +86,7 @@ impl Task {
         rows: &R,
         pass: &mut R::Pass,
     )
+        requires key { places.old.reader.round.key ≡ command_key self.now.command }
         requires read { IsReadChain (R.has rows.now pass.old) (chain_of (leaf_read is_beside places.old.reader)) }
         ensures looks { pass.new ≡ pass.old }
         ensures leaves { places.new ≡ record places.old { stand = StateKind.Leave; reply = places.new.reply; lacks = None } }
@@ -102,12 +103,14 @@ impl Task {
             }
             _ => {}
         }
-        let key = self.command().key();
         let leaf = places.leaf_read(is_beside).chain();
-        let found = leaf.find(rows, pass, &KeyWords::of(key));
+        let found = leaf.find(rows, pass, places.reader().key());
         match ShortReply::of(self.command(), found.as_ref()) {
             Some(reply) => places.leave(reply),
-            None => places.leave_with_page(is_beside, Direction::Forward, key, rows, pass),
+            None => {
+                let key = self.command().key();
+                places.leave_with_page(is_beside, Direction::Forward, key, rows, pass);
+            }
         }
     }
 }

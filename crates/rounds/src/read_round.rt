@@ -142,6 +142,13 @@ impl<R: Rows, A: Allocator> ReadRound<R, A> {
         self.descent.restart();
     }
 
+    /// The key to whose leaf the round goes.
+    pub fn key(&self) -> &KeyWords
+        ensures { result.now ≡ self.now.round.key }
+    {
+        &self.key
+    }
+
     /// The page in hand: the one that was read whole last.
     pub fn page(&self) -> &PageInHand<R, A>
         ensures { result.now ≡ self.now.page }

@@ -6,13 +6,13 @@ pub leave_over-requires : goal.leave_over-requires
 leave_over-requires g c =
     let (spares, k, r, faced, there) = c.requires.faced in
     let h = rw c.in-Leaf.is at faced in
-    record { read = seen_is_read (g.R.Rows.has c.args.rows.now c.args.pass.now) k c.args.places.now.reader.page h.ends.page.in_hand.seen there }
+    record { key = c.requires.key; read = seen_is_read (g.R.Rows.has c.args.rows.now c.args.pass.now) k c.args.places.now.reader.page h.ends.page.in_hand.seen there }
 
 pub leave_over-requires-in-Beside : goal.leave_over-requires-in-Beside
 leave_over-requires-in-Beside g c =
     let (spares, k, r, faced, there) = c.requires.faced in
     let h = rw c.in-Beside.is at faced in
-    record { read = seen_is_read (g.R.Rows.has c.args.rows.now c.args.pass.now) k c.args.places.now.reader.aside h.ends.page.in_hand.seen there }
+    record { key = c.requires.key; read = seen_is_read (g.R.Rows.has c.args.rows.now c.args.pass.now) k c.args.places.now.reader.aside h.ends.page.in_hand.seen there }
 
 pub returns-in-Leaf-clause-stands : goal.returns-in-Leaf-clause-stands
 returns-in-Leaf-clause-stands g c spares k r faced =
