@@ -60,7 +60,7 @@ value_is (Some (Child page held)) value e = cc
 -- a leaf's pairs are in the order of their keys, and are the values that its chain decides
 module _ (chain : List Record) (leaf : level_in chain ≡ 0) (pairs : List (List ℕ × List ℕ)) (has : HasPage chain pairs) where
   values : AreValues has.page.items
-  values = subst (λ level. AllByRecursion (λ (item : Item). IsOfLevel level item.content) has.page.items) (has.makes.level ∙ leaf) (recursion_from_All _ has.page.items has.ruled.is_page.kinds)
+  values = rw (← (has.makes.level ∙ leaf)) (recursion_from_All _ has.page.items has.ruled.is_page.kinds)
 
   pub ascending : IsStrictlySortedBy key_cmp (map (λ pair. pair.0) pairs)
   ascending = rw (has.are, same_keys has.page.items values) has.makes.items.ascending

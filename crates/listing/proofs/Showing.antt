@@ -25,7 +25,7 @@ module _ (limits : Limits) (entries : List Entry) where
 
   pub page_is_shown : LeavesHaveMap → IsOneSide → (leaves : HasLeafPages limits memory) (from : Key) (pairs : List (Key × Key)) (next : Option Key)
       → IsPageFrom leaves.pages from pairs next → IsListedPage limits entries from pairs next
-  page_is_shown have one leaves from pairs next p linear = subst (λ end. IsCursorPage memory (log_of entries linear.points) from pairs end) p.ends (record {
+  page_is_shown have one leaves from pairs next p linear = rw (← p.ends) (record {
     leaf = p.page;
     stands = record { leaves = leaves.pages; are = leaves.leaves; among = p.among; covers = p.covers };
     ends = refl;
@@ -37,10 +37,10 @@ module _ (limits : Limits) (entries : List Entry) where
             (h.0, ((have limits entries linear).same key value).0 (leaves.pages, p.page, leaves.leaves, p.among, within key h.0, valued (content_in p.page.chain key) value h.1))),
         (λ h.
             let (pages, page, are, among, covered, says) = ((have limits entries linear).same key value).1 h.1 in
-            let in_leaves : Contains leaves.pages page = subst (λ ps. Contains ps page) (one memory 1 pages leaves.pages are leaves.leaves) among in
+            let in_leaves : Contains leaves.pages page = rw (← one memory 1 pages leaves.pages are leaves.leaves) among in
             let same : page ≡ p.page = one_has [] leaves.pages leaves.whole spans key page p.page in_leaves p.among (covers_from page.chain key covered)
             (covers_from p.page.chain key (within key h.0)) in
-            (p.are.exact key value).1 (h.0, subst (λ (q : LivePage). chain_value q.chain key ≡ Some value) same (ap value_of says))),
+            (p.are.exact key value).1 (h.0, rw (← same) (ap value_of says))),
       );
     };
   })
