@@ -1,6 +1,6 @@
 -- Going to the right until a leaf has the key.
 use Rattle.listing.proofs.Words.{◌≡◌, ◌<◌, ◌≤◌, ◌+◌, ℕ, List, [], ◌∷◌, ◌++◌, length, Some, MatchOption, refl, sym, subst, ap, ◌∙◌, arith, append_assoc}
-use Rattle.listing.proofs.Words.{AllByRecursion, Contains, length-append, Page, Record, Memory, Limits, low_in, Makes, IsSideChainFrom, IsWholeFrom, LivePage}
+use Rattle.listing.proofs.Words.{AllByRecursion, length-append, Page, Record, Memory, Limits, low_in, Makes, IsSideChainFrom, IsWholeFrom, LivePage}
 use Rattle.listing.proofs.Words.{IsUnder, IsUpTo, Key, HasLeafPages, IsLeafPage, covers_to, StandsAt}
 use Rattle.std.proofs.lemmas.List.Elements.{Contains-append_right}
 use Rattle.base_page.proofs.ItemLaws.{back_all}

@@ -1,5 +1,5 @@
 -- The pairs of a leaf: in the order of their keys, in the leaf's range, and what its chain decides.
-use Rattle.listing.proofs.Words.{◌≡◌, ℕ, List, [], ◌∷◌, true, false, Option, Some, None, refl, sym, subst, ap, ◌∙◌, arith, AllByRecursion, Contains, key_cmp}
+use Rattle.listing.proofs.Words.{◌≡◌, ℕ, List, [], ◌∷◌, true, false, Option, Some, None, refl, sym, ap, ◌∙◌, arith, AllByRecursion, Contains, key_cmp}
 use Rattle.listing.proofs.Words.{Value, all-weaker, Record, content_in, high_in, low_in, Covers, IsUnder, pairs_of}
 use Rattle.std.proofs.Common.{map, Bool}
 use Rattle.std.specs.Prelude.{if◌then◌else◌, ◌↔◌}
@@ -29,7 +29,7 @@ same_keys (item ∷ items) are = go item.content are.0 (same_keys items are.1)
   where
     go : (content : Content) → IsOfLevel 0 content → map (λ pair. pair.0) (pairs_of items) ≡ map (λ item. item.key) items
         → map (λ pair. pair.0) (with_pair item.key content (pairs_of items)) ≡ item.key ∷ map (λ item. item.key) items
-    go (Value value) is rest = ap (λ keys. item.key ∷ keys) rest
+    go (Value value) is rest = rw rest
     go (Child page held) is rest = absurd (omega (arith, is))
 
 -- at each key they have what the items have there

@@ -1,5 +1,5 @@
 -- A record more makes the page that it applies to.
-use Rattle.listing.proofs.Words.{◌≡◌, ◌<◌, ℕ, zero, suc, List, [], ◌∷◌, length, get_or, drop, subst, arith, Page, Record, Makes}
+use Rattle.listing.proofs.Words.{◌≡◌, ◌<◌, ℕ, zero, suc, List, [], ◌∷◌, length, get_or, drop, arith, Page, Record, Makes}
 use Rattle.deltas.specs.Applies.{Applies}
 use Rattle.traces.proofs.FittedLaws.{Makes-next}
 

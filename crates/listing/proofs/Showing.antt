@@ -1,14 +1,12 @@
 -- What a leaf has from a key on, the log has.
-use Rattle.listing.proofs.Words.{◌≡◌, List, [], Option, Some, refl, subst, ap, IsTrue, AllByRecursion, Contains, all-weaker, Value, is_in_range, Memory}
-use Rattle.listing.proofs.Words.{Limits, content_in, high_in, low_in, LivePage, Key, HasLeafPages, IsLeafPage, covers_to, upto_trans}
+use Rattle.listing.proofs.Words.{◌≡◌, List, [], Option, Some, refl, ap, IsTrue, AllByRecursion, Contains, all-weaker, Value, is_in_range, Memory}
+use Rattle.listing.proofs.Words.{Limits, content_in, high_in, low_in, Key, HasLeafPages, IsLeafPage, covers_to, upto_trans}
 use Rattle.base_page.specs.declared.item.Content.{Content}
 use Rattle.bw_model.specs.Bytes.{is_below, is_under}
 use Rattle.traces.specs.declared.trace.Entry.{Entry}
 use Rattle.traces.specs.chain.Chains.{covers}
-use Rattle.traces.specs.discipline.Discipline.{chain_value, value_of}
+use Rattle.traces.specs.discipline.Discipline.{value_of}
 use Rattle.traces.specs.trace.Trace.{memory_of}
-use Rattle.linearization.specs.Answered.{IsCursorPage}
-use Rattle.linearization.specs.Points.{log_of}
 use Rattle.tree_law.specs.TraceLaws.{LeavesHaveMap}
 use Rattle.tree_law.proofs.shape.KeyOrder.{both, covers_from}
 use Rattle.listing.specs.Listed.{IsListedPage, IsPageFrom}
@@ -16,7 +14,7 @@ use Rattle.listing.proofs.Listings.{IsOneSide}
 use Rattle.listing.proofs.Ranges.{Spans, fitted_spans, one_has}
 
 valued : (content : Option Content) (value : Key) → value_of content ≡ Some value → content ≡ Some (Value value)
-valued (Some (Value v)) value e = ap (λ (w : Key). Some (Value w)) (let f : v ≡ value = cc in f)
+valued (Some (Value v)) value e = rw (let f : v ≡ value = cc in f)
 valued content value e = absurd (cc)
 
 module _ (limits : Limits) (entries : List Entry) where

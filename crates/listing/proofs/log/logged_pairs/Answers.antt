@@ -1,4 +1,4 @@
-use Rattle.listing.proofs.Words.{◌≡◌, ◌∷◌, ◌++◌, ◌+◌, ◌∙◌, [], take, true, false, option_copied, sym, subst, is_in_range}
+use Rattle.listing.proofs.Words.{◌≡◌, ◌∷◌, ◌++◌, ◌+◌, ◌∙◌, [], take, true, false, option_copied, sym, is_in_range}
 use Rattle.std.proofs.lemmas.List.{take_all}
 use Rattle.std.proofs.lemmas.Result.{IfOk-weaker}
 use Rattle.bw_model.specs.Log.{updated_key}
