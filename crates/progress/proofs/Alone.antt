@@ -36,9 +36,7 @@ module _ (limits : Limits) (entries : List Entry) (a m n : ℕ) (alone : RunsAlo
       let among = among_hinder limits entries a m (suc n - m) n (omega arith) list in
       let changes : AreAmong limits entries m n ChangesTree list.places = record {
         increasing = among.increasing;
-        each =
-            All-weaker (λ k. (m ≤ k) × (k ≤ n) × Happens limits entries k (Hinders a)) (λ k. (m ≤ k) × (k ≤ n) × Happens limits entries k ChangesTree)
-            (λ k h. (h.0, h.1, own_change k h.0 h.1 h.2)) list.places among.each;
+        each = λ i d lt. let h = among.each i d lt in (h.0, h.1, own_change _ h.0 h.1 h.2);
       } in
       let most = few.since m n list.places le changes in
       let counts = list.counts in

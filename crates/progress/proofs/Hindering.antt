@@ -3,6 +3,7 @@ use Rattle.std.proofs.Common.{◌≡◌, ◌≢◌, ◌<◌, ◌≤◌, ◌+◌,
 use Rattle.progress.proofs.Words.{refl, sym, ap, subst, ◌∙◌, inl, inr, arith, eqb_tells, All-weaker, All, IsStrictlyIncreasing, ◌==◌, ◌||◌, not, slice_get, Limits, Number, Whether, Link}
 use Rattle.progress.proofs.Words.{Memory, not_true, Entry, Step, cause_worth, IsRun, Happens, TakesStep, memory_at, IsCause, IsDirect, link_of, IsOperation, IsOwnStep, Operation}
 use Rattle.progress.proofs.Words.{TakesOwnStep, IsInPhase, KeepsPhases, owned, AreAmong, ChangesTree, PlacesNoRemoval, steps_from, takes_number}
+use Rattle.std.proofs.lemmas.Bool.{or_left, or_right, or_cases}
 use Rattle.bw_model.specs.declared.step.Link.TheVariants as link
 use Rattle.bw_model.specs.declared.step.Step.TheVariants.{Exchange, Slot, TakePid, TakeRow}
 use Rattle.linearization.specs.Progress.{Hinders, TakesBeside}
@@ -61,19 +62,7 @@ beside_takes a (Some (Step b (TakePid pid) (Whether true) r)) = one_at_most (not
 beside_takes a (Some (Step b (TakeRow row) (Whether true) r)) = one_at_most (not (b == a))
 beside_takes a o = omega arith
 
-either : (b c : Bool) → b || c ≡ true → (b ≡ true) ⊎ (c ≡ true)
-either true c e = inl refl
-either false c e = inr e
-
-or_left : (b c : Bool) → b ≡ true → b || c ≡ true
-or_left true c e = refl
-or_left false c e = absurd (cc)
-
-or_right : (b c : Bool) → c ≡ true → b || c ≡ true
-or_right true c e = refl
-or_right false c e = e
-
-both_at_most : (b c : Bool) → cond (b || c) 1 0 ≤ cond b 1 0 + cond c 1 0
+pub both_at_most : (b c : Bool) → cond (b || c) 1 0 ≤ cond b 1 0 + cond c 1 0
 both_at_most true true = omega arith
 both_at_most true false = omega arith
 both_at_most false c = omega arith
@@ -93,7 +82,7 @@ module _ (limits : Limits) (entries : List Entry) where
   happens k e = let h = changed (memory_at limits entries k) (slice_get entries k) e in record { entry = h.0; at = h.1; holds = h.2 }
 
   pub hinders_at : (a k : ℕ) → hinder a k ≡ true → Happens limits entries k (Hinders a)
-  hinders_at a k e = elim (either (is_change k) (beside a k) e) [
+  hinders_at a k e = elim (or_cases (is_change k) (beside a k) e) [
     | inl so ↦ let h = changed (memory_at limits entries k) (slice_get entries k) so in record { entry = h.0; at = h.1; holds = inl h.2 }
     | inr so ↦ let h = taken_beside (memory_at limits entries k) a (slice_get entries k) so in record { entry = h.0; at = h.1; holds = inr h.2 }
   ]
@@ -171,7 +160,5 @@ module _ (limits : Limits) (entries : List Entry) where
   pub among_hinder : (a m k n : ℕ) → m + k ≤ suc n → (list : Listed (hinder a) m k) → AreAmong limits entries m n (Hinders a) list.places
   among_hinder a m k n le list = record {
     increasing = list.increasing;
-    each =
-        All-weaker (λ p. (m ≤ p) × (p < m + k) × (hinder a p ≡ true)) (λ p. (m ≤ p) × (p ≤ n) × Happens limits entries p (Hinders a))
-        (λ p h. (h.0, (let lt : p < m + k = h.1 in omega arith), hinders_at a p h.2)) list.places list.each;
+    each = λ i d in_list. let h = list.each i d in_list in (h.0, (let lt = h.1 in omega (arith, le, lt)), hinders_at a _ h.2);
   }

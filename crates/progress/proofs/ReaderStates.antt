@@ -30,8 +30,7 @@ since_last limits entries actor m n left whole h = (
   h.changes,
   record {
     increasing = h.increasing;
-    each = All-weaker (λ place. (m ≤ place) × (place < length entries) × Happens limits entries place ChangesTree) (λ place. (m ≤ place) × (place ≤ n) × Happens limits entries place ChangesTree)
-        (λ place g. let below : place < length entries = g.1 in (g.0, omega arith, g.2)) h.changes h.each;
+    each = λ k d lt. let g = h.each k d lt in (g.0, (let below = g.1 in omega (arith, whole, below)), g.2);
   },
   (
       let same : slice_range entries m (suc n) ≡ drop m entries = ap (λ end. take (end - m) (drop m entries)) whole ∙ take_rest entries m in
@@ -94,10 +93,7 @@ module _ (limits : Limits) (entries : List Entry) where
           h.0,
           record {
             increasing = h.1.increasing;
-            each =
-                All-weaker (λ place. (suc op.start ≤ place) × (place ≤ n) × Happens limits entries place ChangesTree)
-                (λ place. (op.start ≤ place) × (place ≤ n) × Happens limits entries place ChangesTree)
-                (λ place g. let low : suc op.start ≤ place = g.0 in (omega (arith, low), g.1, g.2)) h.0 h.1.each;
+            each = λ k d lt. let g = h.1.each k d lt in ((let low = g.0 in omega (arith, low)), g.1, g.2);
           },
           subst (λ (steps : ℕ). steps ≤ one_memory limits * (length h.0 + 1) + 3) (sym (from_begin op n begun after)) h.2,
         );
@@ -117,8 +113,7 @@ module _ (limits : Limits) (entries : List Entry) (last : Entry) (kept : IsReade
         h.0,
         record {
           increasing = h.1.increasing;
-          each = All-weaker (λ place. (m ≤ place) × (place ≤ n) × Happens limits entries place ChangesTree) (λ place. (m ≤ place) × (place ≤ n) × Happens limits longer place ChangesTree)
-              (λ place g. (g.0, g.1, Happens-kept (last ∷ []) g.2)) h.0 h.1.each;
+          each = λ k d lt. let g = h.1.each k d lt in (g.0, g.1, Happens-kept (last ∷ []) g.2);
         },
         subst (λ (steps : ℕ). steps ≤ one_memory limits * (length h.0 + 1) + 3)
             (sym (ap (count_by (is_step_of op.actor)) (range_kept entries last m (suc n) (omega (arith, le)) (omega (arith, below))))) h.2,

@@ -20,13 +20,11 @@ use Rattle.progress.proofs.rounds.Among.{is_read, read_no_change}
 
 -- the command that an operation shows
 pub going : (task : Task) (hand : Hand) (k : Knowledge) (r : Recalled) (s : State) → ShowsState task hand.spares k r s → k.asked.command ≡ Some task.command
-going task hand k r Begun h = h.asked.going
-going task hand k r Epoch h = h.asked.going
 going task hand k r (Enter epoch) h = h.0.asked.going
 going task hand k r (Read round) h = h.seeks.asked.going
 going task hand k r (Write round) h = h.seeks.asked.going
-going task hand k r (Change now next) h = h.asked.going
 going task hand k r (Leave reply lacks) h = h.0.going
+going task hand k r state h = h.asked.going
 
 -- it is the one that the actor's last operation was asked
 pub asked_last : (limits : Limits) (entries : List Entry) → IsState limits entries → (start actor : ℕ) (command shown : Command)

@@ -44,6 +44,9 @@ tally_none t m (suc n) each =
     let here : cond {A = ℕ} (t (m + n)) 1 0 ≡ 0 = ap (λ (b : Bool). cond {A = ℕ} b 1 0) (each n (omega arith)) in
     omega (arith, rest, here)
 
+pub itself : (a : ℕ) → (a == a) ≡ true
+itself a = elim (eqb_tells a a) [ inl same ↦ same.0 | inr apart ↦ absurd (apart.1 refl) ]
+
 pub one_at_most : (b : Bool) → cond b 1 0 ≤ 1
 one_at_most true = omega arith
 one_at_most false = omega arith
@@ -77,8 +80,7 @@ module _ (t : ℕ → Bool) (m : ℕ) where
     where
       longer : All (λ k. (m ≤ k) × (k < m + suc n) × (t k ≡ true)) before.places
       longer =
-          All-weaker (λ k. (m ≤ k) × (k < m + n) × (t k ≡ true)) (λ k. (m ≤ k) × (k < m + suc n) × (t k ≡ true))
-          (λ k h. (h.0, (let lt : k < m + n = h.1 in omega arith), h.2)) before.places before.each
+          λ i d in_list. let h = before.each i d in_list in (h.0, (let lt = h.1 in omega (arith, lt)), h.2)
 
       by_test : (b : Bool) → t (m + n) ≡ b → Listed (suc n)
       by_test false e = record {
@@ -89,7 +91,7 @@ module _ (t : ℕ → Bool) (m : ℕ) where
       }
       by_test true e = record {
         places = before.places ++ (m + n) ∷ [];
-        increasing = increasing_push before.places (m + n) before.increasing (All-weaker (λ k. (m ≤ k) × (k < m + n) × (t k ≡ true)) (λ k. k < m + n) (λ k h. h.1) before.places before.each);
+        increasing = increasing_push before.places (m + n) before.increasing (λ i d lt. (before.each i d lt).1);
         each = All-push (λ k. (m ≤ k) × (k < m + suc n) × (t k ≡ true)) before.places (m + n) longer (omega arith, omega arith, e);
         counts =
             let here : cond {A = ℕ} (t (m + n)) 1 0 ≡ 1 = ap (λ (b : Bool). cond {A = ℕ} b 1 0) e in

@@ -220,8 +220,7 @@ module _ (limits : Limits) (entries : List Entry) (run : IsRun limits entries) (
       let list = listed (is_change limits entries) 0 n in
       let among : AreAmong limits entries 0 n ChangesTree list.places = record {
         increasing = list.increasing;
-        each = All-weaker (λ k. (0 ≤ k) × (k < 0 + n) × (is_change limits entries k ≡ true)) (λ k. (0 ≤ k) × (k ≤ n) × Happens limits entries k ChangesTree)
-            (λ k h. (h.0, (let lt : k < 0 + n = h.1 in omega arith), happens limits entries k h.2)) list.places list.each;
+        each = λ i d in_list. let h = list.each i d in_list in (h.0, (let lt = h.1 in omega (arith, lt)), happens limits entries _ h.2);
       } in
       let most = few.few n list.places among in
       rw list.counts at most

@@ -2,6 +2,8 @@
 use Rattle.std.proofs.Common.{◌≡◌, ◌<◌, ◌≤◌, ◌+◌, ◌*◌, ◌⊎◌, ◌++◌, ℕ, List, [], ◌∷◌, Bool, true, false, cond, Some, None, refl, sym, ap, subst, ◌∙◌, inl, inr, arith}
 use Rattle.progress.proofs.Words.{add-mul, eqb_tells, if◌then◌else◌, ◌==◌, Limits, Answer, Number, Whether, Exchange, StepOf, Memory, Record, Entry, Begin, Step, knows, Recalled, IsNext}
 use Rattle.progress.proofs.Words.{IsAnswer, IsChainOf, IsTrue, memory_of, WayState, Root, Page, Visit, VisitState, is_below, low_in, IsState, IsInTree, Key, either, changes_tree}
+use Rattle.progress.proofs.Tallies.{one_at_most}
+use Rattle.std.proofs.Math.Bool.{and-false}
 use Rattle.std.specs.Prelude.{◌&&◌}
 use Rattle.linearization.specs.Direct.{IsDirect}
 use Rattle.round_model.specs.Courses.{WriteGoal, Seek, Left, Merge, Unterm}
@@ -28,11 +30,7 @@ use Rattle.progress.proofs.meetings.Stepping.{FitsAt, FitsRound, IsStale, Stands
 
 -- a change of the tree meets nothing
 change_meets : (memory : Memory) (actor : ℕ) (entry : Entry) → changes_tree memory entry ≡ true → meets_at actor entry ≡ false
-change_meets memory actor (Step other (Exchange slot old new) (Whether true) reply) e = by_bool (other == actor)
-  where
-    by_bool : (b : Bool) → b && false ≡ false
-    by_bool true = refl
-    by_bool false = refl
+change_meets memory actor (Step other (Exchange slot old new) (Whether true) reply) e = and-false (other == actor)
 change_meets memory actor entry e = absurd (cc)
 
 -- nor does an entry of another actor
@@ -45,10 +43,6 @@ own_meet actor asked answer = elim (eqb_tells actor actor) [ inl same ↦ rw sam
 
 calm_none : (asked : StepOf Record) (answer : Answer Record) → meets asked answer ≡ false → meets_now asked answer ≡ 0
 calm_none asked answer e = ap (λ (b : Bool). cond {A = ℕ} b 1 0) e
-
-one_now : (b : Bool) → cond {A = ℕ} b 1 0 ≤ 1
-one_now true = omega arith
-one_now false = omega arith
 
 module _ (limits : Limits) (actor : ℕ) where
   -- a memory in which the tree stands as it does now, and how often the writer meets one from here on, as long as it stands so
@@ -188,7 +182,7 @@ module _ (limits : Limits) (actor : ℕ) where
               let none = calm_none asked answer calm in
               (most, omega (arith, none), after_change new most was.1 after)
           | inr few ↦
-              let one = one_now (meets asked answer) in
+              let one = one_at_most (meets asked answer) in
               let le : 18 ≤ 18 = omega arith in
               (18, omega (arith, few, one), after_change new 18 le after)
         ]

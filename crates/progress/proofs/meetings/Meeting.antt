@@ -2,6 +2,7 @@
 use Rattle.std.proofs.Common.{◌≡◌, ◌≢◌, ◌<◌, ◌≤◌, ◌+◌, ◌-◌, ◌⊎◌, ℕ, zero, suc, [], length, Bool, true, false, Option, None, Some, refl, sym, ap, subst, ◌∙◌, inl, inr, arith}
 use Rattle.progress.proofs.Words.{⊤, IsTrue, is_below, Limits, Child, content_in, is_removed, level_in, low_in, LivePage, Version, WayState, Root, Page, Visit, to_page}
 use Rattle.progress.proofs.Words.{StaysLeft, precedes, Key, IsPageOn, covers, cases_lt}
+use Rattle.progress.proofs.rounds.Treating.{clash}
 use Rattle.std.specs.Prelude.{IfSome}
 use Rattle.tree_law.proofs.shape.KeyOrder.{covers_to, upto_refl}
 use Rattle.structure_changes.proofs.Few.{few_many}
@@ -26,13 +27,8 @@ use Rattle.progress.proofs.meetings.Gone.{has_removal, owed, owed_one}
 use Rattle.progress.proofs.meetings.Held.{IsHeld, held_under, may_merge, may_unterm, none_under, term_in}
 
 pub is_way_of : (goal : WriteGoal) (key : Key) → IsWay (write_way goal key)
-is_way_of Seek key = reaches_is_way key
 is_way_of (Left pid) key = precedes_is_way key
-is_way_of (Merge left) key = reaches_is_way key
-is_way_of (Unterm parent left) key = reaches_is_way key
-
-clash : (b : Bool) → b ≡ true → b ≡ false → ⊥
-clash b e f = let both : true ≡ false = sym e ∙ f in cc
+is_way_of goal key = reaches_is_way key
 
 one_less : (few rest owes : ℕ) → 1 ≤ few → few ≤ rest → owes ≤ 1 → (few - 1) + owes ≤ rest
 one_less few rest owes some less one = omega (arith, some, less, one)
@@ -202,11 +198,9 @@ module _ (w : Standing) where
 
     -- what is left below the page: for a child that isn't removed as much, for one that is one less
     spares_below : (goal : WriteGoal) (l : ℕ) → level ≡ suc l → ends_at goal old.floor < suc l → Spares goal old.key old.floor level rest → Spares goal old.key old.floor l rest
-    spares_below Seek l e index s = s
     spares_below (Left pid) l e index (inl s) = let under : old.floor < suc l = index in inl (s.0, omega (arith, under), s.2)
     spares_below (Left pid) l e index (inr s) = inr s
-    spares_below (Merge left) l e index s = s
-    spares_below (Unterm parent left) l e index s = s
+    spares_below goal l e index s = s
 
     less_below : (goal : WriteGoal) (l : ℕ) (page : LivePage) → level ≡ suc l → l ≤ 15 → ends_at goal old.floor < suc l → Under w (write_way goal old.key) (Some version) l page
         → write_way goal old.key (low_of page) ≡ true → Spares goal old.key old.floor level rest → (1 ≤ rest) × (17 ≤ (rest - 1) + l)

@@ -52,13 +52,11 @@ module _ (limits : Limits) (entries : List Entry) (entry : Entry) (later : IsSta
 
   pub stays_paid : (s : State) (hand : Hand) (task : Task) (r : Recalled) → ShowsState task hand.spares (knows entries actor) r s
       → ((m : ℕ) → start < m → m ≤ length entries → MeetsAt limits entries actor m s) → (m : ℕ) → start < m → m ≤ length longer → MeetsAt limits longer actor m s
-  stays_paid Begun hand task r shows pays m after within = from_each 21 m within (omega arith) (pays m after)
-  stays_paid Epoch hand task r shows pays m after within = from_each 21 m within (omega arith) (pays m after)
-  stays_paid (Enter epoch) hand task r shows pays m after within = from_each 21 m within (omega arith) (pays m after)
   stays_paid (Read round) hand task r shows pays m after within = absurd (pays (length entries) begun (omega arith))
   stays_paid (Write round) hand task r shows pays m after within = stands_on (InRound round) r shows.shows pays m after within
   stays_paid (Change now next) hand task r shows pays m after within = stands_on (change_at now) r tt pays m after within
   stays_paid (Leave reply lacks) hand task r shows pays m after within = from_each 0 m within (omega arith) (pays m after)
+  stays_paid state hand task r shows pays m after within = from_each 21 m within (omega arith) (pays m after)
 
 one_other : (limits : Limits) (entries : List Entry) (entry : Entry) → IsState limits (entries ++ entry ∷ [])
     → IsDirect limits (entries ++ entry ∷ []) → (actor : ℕ) → is_entry_of actor entry ≡ false → (hand : Hand) (o : Option UnderWay)
@@ -108,13 +106,11 @@ writers_stay_paid limits actor seen run at x kept shows pays =
 module _ (limits : Limits) (entries : List Entry) (actor : ℕ) (m : ℕ) (past : length entries ≤ m) where
   at_begin : (s : State) (task : Task) (hand : Hand) (k : Knowledge) (r : Recalled) → ShowsState task hand.spares k r s → k.inside ≡ false
       → is_writer task.command ≡ true → MeetsAt limits entries actor m s
-  at_begin Begun task hand k r shows out writer = pays_end limits entries actor m 21 past (omega arith)
-  at_begin Epoch task hand k r shows out writer = pays_end limits entries actor m 21 past (omega arith)
-  at_begin (Enter epoch) task hand k r shows out writer = pays_end limits entries actor m 21 past (omega arith)
   at_begin (Read round) task hand k r shows out writer = let both : true ≡ false = sym shows.seeks.inside ∙ out in absurd (cc both)
   at_begin (Write round) task hand k r shows out writer = let both : true ≡ false = sym shows.seeks.inside ∙ out in absurd (cc both)
   at_begin (Change now next) task hand k r shows out writer = let both : true ≡ false = sym shows.shows.may.inside ∙ out in absurd (cc both)
   at_begin (Leave reply lacks) task hand k r shows out writer = pays_end limits entries actor m 0 past (omega arith)
+  at_begin state task hand k r shows out writer = pays_end limits entries actor m 21 past (omega arith)
 
 pub begun_writers_paid : BegunWritersArePaid
 begun_writers_paid limits entries actor command k r new shown out runs = by_running new.running shown runs

@@ -4,6 +4,7 @@ use Rattle.std.specs.Prelude.{◌&&◌, ◌==◌}
 use Rattle.progress.proofs.Words.{IsSome, slice_get_below, cases_lt, same_Some, Limits, is_writer, Reply, Answer, StepOf, Record, Entry, Step, Knowledge}
 use Rattle.progress.proofs.Words.{knows, Recalled, recalls, pushed_length, Hand, State, Begun, Epoch, Enter, Read, Write, Change, Leave, Task, is_leaving}
 use Rattle.progress.proofs.Words.{IsDirect, IsState, command_at, wanted_by, IsActorWith, UnderWay}
+use Rattle.std.proofs.Math.Bool.{and-false}
 use Rattle.bw_model.specs.declared.step.Step.TheVariants as step_of
 use Rattle.traces.specs.discipline.Discipline.{May}
 use Rattle.traces.specs.discipline.Fitting.{Fits}
@@ -51,41 +52,28 @@ calm_begin op hand k asked answer first holds is = (elim (op.sweep) as (λ o. as
 
 is_begun : (s : State) → (s ≡ Begun) ⊎ (s ≡ Begun → ⊥)
 is_begun Begun = inl refl
-is_begun Epoch = inr (λ e. cc e)
-is_begun (Enter epoch) = inr (λ e. cc e)
-is_begun (Read round) = inr (λ e. cc e)
-is_begun (Write round) = inr (λ e. cc e)
-is_begun (Change now after) = inr (λ e. cc e)
-is_begun (Leave reply lacks) = inr (λ e. cc e)
+is_begun state = inr (λ e. cc e)
 
 pub meets_none : (actor other : ℕ) (step : StepOf Record) (answer : Answer Record) (reply : Option Reply) → meets step answer ≡ false → meets_at actor (Step other step answer reply) ≡ false
-meets_none actor other step answer reply calm = rw calm (never (other == actor))
-  where
-    never : (b : Bool) → (b && false) ≡ false
-    never true = refl
-    never false = refl
+meets_none actor other step answer reply calm = rw calm (and-false (other == actor))
 
 -- what a state pays for yet
 pub paid_some : (limits : Limits) (entries : List Entry) (actor m : ℕ) (state : State) → MeetsAt limits entries actor m state → PaysMeets limits entries actor m 0
-paid_some limits entries actor m Begun pays = pays_less limits entries actor m 21 0 (omega arith) pays
-paid_some limits entries actor m Epoch pays = pays_less limits entries actor m 21 0 (omega arith) pays
-paid_some limits entries actor m (Enter epoch) pays = pays_less limits entries actor m 21 0 (omega arith) pays
 paid_some limits entries actor m (Read round) pays = absurd pays
 paid_some limits entries actor m (Write round) pays = pays_less limits entries actor m pays.left 0 (omega arith) pays.pays
 paid_some limits entries actor m (Change now after) pays = pays_less limits entries actor m pays.left 0 (omega arith) pays.pays
 paid_some limits entries actor m (Leave reply lacks) pays = pays
+paid_some limits entries actor m state pays = pays_less limits entries actor m 21 0 (omega arith) pays
 
 -- in the memory of a state, wherever a writer stands
 pub at_fresh : (limits : Limits) (entries : List Entry) (actor m : ℕ) (task : Task) (hand : Hand) (k : Knowledge) (r : Recalled) → IsState limits entries
     → (t : State) → ShowsState task hand.spares k r t
     → is_writer task.command ≡ true → PaysMeets limits entries actor m 21 → MeetsAt limits entries actor m t
-at_fresh limits entries actor m task hand k r state Begun shows writer pays = pays
-at_fresh limits entries actor m task hand k r state Epoch shows writer pays = pays
-at_fresh limits entries actor m task hand k r state (Enter epoch) shows writer pays = pays
 at_fresh limits entries actor m task hand k r state (Read round) shows writer pays = absurd (let both : true ≡ false = sym writer ∙ shows.reader in cc)
 at_fresh limits entries actor m task hand k r state (Write round) shows writer pays = writer_fresh limits entries actor (InRound round) m state pays
 at_fresh limits entries actor m task hand k r state (Change now after) shows writer pays = writer_fresh limits entries actor (change_at now) m state pays
 at_fresh limits entries actor m task hand k r state (Leave reply lacks) shows writer pays = pays_less limits entries actor m 21 0 (omega arith) pays
+at_fresh limits entries actor m task hand k r state other shows writer pays = pays
 
 -- where a writer stands that is paid for
 pub at_state : (limits : Limits) (entries : List Entry) (actor m : ℕ) (writer : WriterState) (t : State) → (is_leaving t ≡ true) ⊎ IsStanding t writer → PaysForWriter limits entries actor writer m
@@ -99,10 +87,7 @@ at_state limits entries actor m writer (Change now after) goes pays = elim goes 
   | inr stands ↦ subst (λ (w : WriterState). PaysForWriter limits entries actor w m) stands pays
 ]
 at_state limits entries actor m writer (Leave reply lacks) goes pays = pays_less limits entries actor m pays.left 0 (omega arith) pays.pays
-at_state limits entries actor m writer Begun goes pays = elim goes [ inl e ↦ absurd (cc e) | inr stands ↦ absurd stands ]
-at_state limits entries actor m writer Epoch goes pays = elim goes [ inl e ↦ absurd (cc e) | inr stands ↦ absurd stands ]
-at_state limits entries actor m writer (Enter epoch) goes pays = elim goes [ inl e ↦ absurd (cc e) | inr stands ↦ absurd stands ]
-at_state limits entries actor m writer (Read round) goes pays = elim goes [ inl e ↦ absurd (cc e) | inr stands ↦ absurd stands ]
+at_state limits entries actor m writer state goes pays = elim goes [ inl e ↦ absurd (cc e) | inr stands ↦ absurd stands ]
 
 module _ (limits : Limits) (entries : List Entry) (actor : ℕ) (step : StepOf Record) (answer : Answer Record) (fit : AnswersFit) (state : IsState limits entries)
     (later : IsState limits (entries ++ Step actor step answer None ∷ [])) (direct : IsDirect limits (entries ++ Step actor step answer None ∷ [])) (start : ℕ)

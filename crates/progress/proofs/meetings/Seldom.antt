@@ -14,7 +14,8 @@ use Rattle.progress.specs.WritersAmong.{few_meets, meets_at}
 use Rattle.progress.proofs.ReaderStates.{range_kept}
 use Rattle.progress.proofs.Tallies.{one_at_most, counted_range, passes, passes_in, tally, tally_none, tally_split}
 use Rattle.progress.proofs.meetings.Own.{paid_some}
-use Rattle.progress.proofs.meetings.Pays.{changes_kept, counted}
+use Rattle.progress.proofs.ReaderPays.{changes_kept}
+use Rattle.progress.proofs.meetings.Pays.{counted}
 
 abbrev meets_from : List Entry → ℕ → ℕ → ℕ → ℕ
 meets_from entries actor m n = count_by (meets_at actor) (slice_range entries m (suc n))
@@ -50,8 +51,7 @@ since_last limits entries actor m n whole h = (
   h.changes,
   record {
     increasing = h.increasing;
-    each = All-weaker (λ place. (m ≤ place) × (place < length entries) × Happens limits entries place ChangesTree) (λ place. (m ≤ place) × (place ≤ n) × Happens limits entries place ChangesTree)
-        (λ place g. let below : place < length entries = g.1 in (g.0, omega arith, g.2)) h.changes h.each;
+    each = λ k d lt. let g = h.each k d lt in (g.0, (let below = g.1 in omega (arith, whole, below)), g.2);
   },
   (
       let same : slice_range entries m (suc n) ≡ drop m entries = ap (λ end. take (end - m) (drop m entries)) whole ∙ take_rest entries m in
@@ -87,10 +87,7 @@ module _ (limits : Limits) (entries : List Entry) where
     h.0,
     record {
       increasing = h.1.increasing;
-      each =
-          All-weaker (λ place. (suc op.start ≤ place) × (place ≤ n) × Happens limits entries place ChangesTree)
-          (λ place. (op.start ≤ place) × (place ≤ n) × Happens limits entries place ChangesTree)
-          (λ place g. let low : suc op.start ≤ place = g.0 in (omega (arith, low), g.1, g.2)) h.0 h.1.each;
+      each = λ k d lt. let g = h.1.each k d lt in ((let low = g.0 in omega (arith, low)), g.1, g.2);
     },
     subst (λ (met : ℕ). met ≤ (1 + length h.0) * most_meets) (sym (from_begin op n begun after)) h.2,
   )
@@ -117,8 +114,7 @@ module _ (limits : Limits) (entries : List Entry) (last : Entry) (kept : IsWrite
         h.0,
         record {
           increasing = h.1.increasing;
-          each = All-weaker (λ place. (m ≤ place) × (place ≤ n) × Happens limits entries place ChangesTree) (λ place. (m ≤ place) × (place ≤ n) × Happens limits longer place ChangesTree)
-              (λ place g. (g.0, g.1, Happens-kept (last ∷ []) g.2)) h.0 h.1.each;
+          each = λ k d lt. let g = h.1.each k d lt in (g.0, g.1, Happens-kept (last ∷ []) g.2);
         },
         subst (λ (met : ℕ). met ≤ (1 + length h.0) * most_meets)
             (sym (ap (count_by (meets_at op.actor)) (range_kept entries last m (suc n) (omega (arith, le)) (omega (arith, below))))) h.2,

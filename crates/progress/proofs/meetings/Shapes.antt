@@ -73,10 +73,8 @@ module _ (limits : Limits) (task : Task) (spares : Spares) (k : Knowledge) (r : 
       placed = (record_is task.actor now.limits k now.plan spares shows.sound.room enough shows.shows.may shows.shows.keeps shows.shows.are).1
 
       by_plan : (plan : Plan) → now.plan ≡ plan → (slot_of now.plan ≡ 0) ⊎ (0 < linked_number now.limits now.plan spares)
-      by_plan (plan_is.Install pid head content) e = inr (rw e (rw e at placed))
-      by_plan (plan_is.Split pid plan) e = inr (rw e (rw e at placed))
       by_plan (plan_is.Root left root) e = inl (ap slot_of e)
-      by_plan (plan_is.Unlink pid head unterm removal) e = inr (rw e (rw e at placed))
+      by_plan plan e = inr (rw e (rw e at placed))
 
   pub decides : now.state ≡ at.Link → May task.actor k (wanted_at now.limits now.plan spares now.state)
       → Decides k (slot_of now.plan) (head_of now.plan) (wanted_at now.limits now.plan spares now.state)

@@ -2,6 +2,7 @@
 use Rattle.std.proofs.Common.{◌≡◌, ◌<◌, ◌≤◌, ◌+◌, ◌-◌, ◌⊎◌, ◌++◌, append_assoc, ℕ, suc, List, [], ◌∷◌, length, Bool, true, false, cond, Option, None, Some, refl, sym, ap, subst, ◌∙◌, inl, inr, arith}
 use Rattle.progress.proofs.Words.{⊤, IsTrue, ◌==◌, Answer, Number, StepOf, Record, IsChainFrom, IsChainOf, IsPageChain, is_below, is_removed, low_in, LivePage, Version, Key}
 use Rattle.progress.proofs.Words.{IsAnswer, Memory, WayState, Root, Page, Visit, VisitState, Sight, Empty, Whole, to_page, by_step, same_page, IsPageOn, eqb_tells, either}
+use Rattle.progress.proofs.Tallies.{one_at_most}
 use Rattle.std.specs.Prelude.{IfSome}
 use Rattle.bw_model.specs.declared.step.Answer.TheVariants.{Content}
 use Rattle.bw_model.specs.declared.step.Step.TheVariants as step
@@ -260,13 +261,9 @@ module _ (w : Standing) (memory : Memory) where
         ap (λ (s : VisitState). meets_now (page.wanted_at visit.pid s) told) c.asked ∙ meets_record c.row c.content told c.is in
         less most (meets_now (page.wanted_step visit) told) (cond {A = ℕ} (is_removal c.content) 1 0) (cond {A = ℕ} (has_removal visit.part) 1 0)
         (cond {A = ℕ} (has_removal next.part) 1 0) one (omega (arith, once, after)) few
-        (one_bool (has_removal visit.part)) (one_bool (is_removal c.content))
+        (one_at_most (has_removal visit.part)) (one_at_most (is_removal c.content))
   ]
     where
-      one_bool : (b : Bool) → cond {A = ℕ} b 1 0 ≤ 1
-      one_bool true = omega arith
-      one_bool false = omega arith
-
       less : (most now here before after : ℕ) → now ≡ here → before + here ≤ after → 21 ≤ most + before → before ≤ 1 → here ≤ 1 → (left : ℕ) × (left + now ≤ most) × (21 ≤ left + after)
       less most now here before after same once few some one = (most - here, omega (arith, same, once, few, some, one), omega (arith, same, once, few, some, one))
 
@@ -275,13 +272,9 @@ module _ (w : Standing) (memory : Memory) where
   stale_found old visit next Empty new result told r sees most few fits answer =
       let bare : visit.part ≡ [] = subst (λ (s : VisitState). FitsAt memory visit s) r.asked fits in
       let before : cond {A = ℕ} (has_removal visit.part) 1 0 ≡ 0 = ap (λ (p : List Record). cond {A = ℕ} (has_removal p) 1 0) bare in
-      let one : meets_now (page.wanted_step visit) told ≤ 1 = at_most (meets (page.wanted_step visit) told) in
+      let one : meets_now (page.wanted_step visit) told ≤ 1 = one_at_most (meets (page.wanted_step visit) told) in
       (19, enough most (cond {A = ℕ} (has_removal visit.part) 1 0) (meets_now (page.wanted_step visit) told) few before one, subst (λ (o : Option WriteEnd). StaleThen w new o 19) (sym sees) some)
     where
-      at_most : (b : Bool) → cond {A = ℕ} b 1 0 ≤ 1
-      at_most true = omega arith
-      at_most false = omega arith
-
       enough : (most before now : ℕ) → 21 ≤ most + before → before ≡ 0 → now ≤ 1 → 19 + now ≤ most
       enough most before now some none one = omega (arith, some, none, one)
 
@@ -306,10 +299,6 @@ module _ (w : Standing) (memory : Memory) where
       on : (new : WriteRound) (goes : WriteRound) (most : ℕ) → new ≡ goes → IsStale w goes.state most → IsStale w new.state most
       on new goes most e s = subst (λ (o : WriteRound). IsStale w o.state most) (sym e) s
 
-      small : (b : Bool) → cond {A = ℕ} b 1 0 ≤ 1
-      small true = omega arith
-      small false = omega arith
-
       treated : (old : WriteRound) (visit : Visit) (version : Version) (new : WriteRound) (result : Option WriteEnd) (most : ℕ)
           → 21 ≤ most + cond (has_removal visit.part) 1 0 → IsPageChain version.chain
           → (has_removal visit.part ≡ true → is_removed version.chain ≡ true) → TreatsWrite (at old (Page visit)) version new result → StaleThen w new result most
@@ -323,13 +312,10 @@ module _ (w : Standing) (memory : Memory) where
           ]
         ]
       ]
-      treated old visit version new (Some end.Again) most few fitted gone t = let one = small (has_removal visit.part) in omega (arith, few, one)
-      treated old visit version new (Some end.Done) most few fitted gone t = let one = small (has_removal visit.part) in omega (arith, few, one)
       treated old visit version new (Some (end.Removed removed)) most few fitted gone t =
-          let one = small (has_removal visit.part) in
+          let one = one_at_most (has_removal visit.part) in
           (subst (λ (v : Version). IsTrue (is_below [] (low_in v.chain))) (sym t.is) (above_empty version.chain fitted.fitted t.gone), omega (arith, few, one))
-      treated old visit version new (Some (end.Due plan after)) most few fitted gone t = let one = small (has_removal visit.part) in omega (arith, few, one)
-      treated old visit version new (Some (end.Leaf parent leaf)) most few fitted gone t = let one = small (has_removal visit.part) in omega (arith, few, one)
+      treated old visit version new (Some other) most few fitted gone t = let one = one_at_most (has_removal visit.part) in omega (arith, few, one)
 
   pub stale_responds : (old new : WriteRound) (told : Answer Record) (result : Option WriteEnd) → Responds writing old told new result → KeptStale old told new result
   stale_responds old new told result responds = by_step writing (λ round. refl) KeptStale old new told result responds

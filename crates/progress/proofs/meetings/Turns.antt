@@ -87,13 +87,8 @@ module _ (task : Task) (round : WriteRound) (k : Knowledge) (answer : Answer Rec
       )
 
 is_link : (state : StateOf) → (state ≡ at.Link) ⊎ (state ≡ at.Link → ⊥)
-is_link (at.Taking taking) = inr (λ e. cc e)
-is_link at.Base = inr (λ e. cc e)
-is_link at.Ready = inr (λ e. cc e)
-is_link at.Place = inr (λ e. cc e)
 is_link at.Link = inl refl
-is_link at.Undo = inr (λ e. cc e)
-is_link at.Clear = inr (λ e. cc e)
+is_link state = inr (λ e. cc e)
 
 module _ (limits : Limits) (task : Task) (spares : Spares) (k : Knowledge) (r : Recalled) (now : ChangeOf) (after : Then) (shows : IsInChange task spares k r now after) (answer : Answer Record)
     (fits : Fits limits k (wanted_at now.limits now.plan spares now.state) answer) (may : May task.actor k (wanted_at now.limits now.plan spares now.state)) (new : State) where

@@ -1,5 +1,6 @@
 -- How many elements of a list pass a test.
 use Rattle.progress.proofs.Words.{◌≡◌, ◌<◌, ◌≤◌, ◌+◌, ℕ, zero, suc, List, [], ◌∷◌, Bool, true, false, cond, length, refl, ap, subst, ◌∙◌, ◌⊎◌, inl, inr, arith, cases_lt, ◌||◌, Contains}
+use Rattle.std.proofs.lemmas.Bool.{or_left, or_right, or_cases}
 use Rattle.progress.proofs.Tallies.{one_at_most}
 
 abbrev pub many : {X : Type 0} → (X → Bool) → List X → ℕ
@@ -56,21 +57,9 @@ abbrev pub any : {X : Type 0} → (X → Bool) → List X → Bool
 any p [] = false
 any p (x ∷ xs) = p x || any p xs
 
-or_of : (b c : Bool) → (b || c) ≡ true → (b ≡ true) ⊎ (c ≡ true)
-or_of true c e = inl refl
-or_of false c e = inr e
-
 pub any_of : {X : Type 0} (p : X → Bool) (xs : List X) → any p xs ≡ true → (x : X) × Contains xs x × (p x ≡ true)
 any_of p [] e = absurd (cc)
-any_of p (x ∷ xs) e = elim (or_of (p x) (any p xs) e) [ inl here ↦ (x, has_first x xs, here) | inr there ↦ let f = any_of p xs there in (f.0, has_later x f.0 xs f.1, f.2) ]
-
-or_left : (b c : Bool) → b ≡ true → (b || c) ≡ true
-or_left true c e = refl
-or_left false c e = absurd (cc)
-
-or_right : (b c : Bool) → c ≡ true → (b || c) ≡ true
-or_right true c e = refl
-or_right false c e = e
+any_of p (x ∷ xs) e = elim (or_cases (p x) (any p xs) e) [ inl here ↦ (x, has_first x xs, here) | inr there ↦ let f = any_of p xs there in (f.0, has_later x f.0 xs f.1, f.2) ]
 
 pub any_in : {X : Type 0} (p : X → Bool) (xs : List X) (x : X) → Contains xs x → p x ≡ true → any p xs ≡ true
 any_in p [] x (k, lt, e) so = absurd (omega (arith, lt))

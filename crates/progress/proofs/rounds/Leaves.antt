@@ -21,12 +21,12 @@ module _ (w : Standing) where
   pub of_term : (way : Key → Bool) (above : Option Version) (leaf : LivePage) → IsPageOn w.limits w.memory 0 leaf → Under w way above 0 leaf → IsRemovedLeaf leaf
   of_term way above leaf stands u = record { stands = stands; gone = u.gone; above = live u.over; on = u.on; term = u.term }
 
-  -- of two pages one and the same key is in the range
-  joint : (one two s : Key) (a b : LivePage) → On w 1 a → On w 1 b → IsBelow one s → IsBelow two s → IsTrue (covers a.chain one)
+  -- of two pages of a level one and the same key is in the range
+  pub joint : (level : ℕ) (one two s : Key) (a b : LivePage) → On w level a → On w level b → IsBelow one s → IsBelow two s → IsTrue (covers a.chain one)
       → StaysLeft (precedes s) a.chain → IsTrue (covers b.chain two) → IsTrue (covers b.chain s) → a ≡ b
-  joint one two s a b on_a on_b below_one below_two in_a stays in_b reaches_s = by_below one two
-      (λ less. w.tree.one 1 a b two on_a on_b (within (precedes s) (precedes_is_way s) a.chain one two stays in_a (below_not one two less) below_two) in_b)
-      (λ least. w.tree.one 1 a b one on_a on_b in_a (between_keys b.chain two one s in_b reaches_s least below_one))
+  joint level one two s a b on_a on_b below_one below_two in_a stays in_b reaches_s = by_below one two
+      (λ less. w.tree.one level a b two on_a on_b (within (precedes s) (precedes_is_way s) a.chain one two stays in_a (below_not one two less) below_two) in_b)
+      (λ least. w.tree.one level a b one on_a on_b in_a (between_keys b.chain two one s in_b reaches_s least below_one))
     where
       between_keys : (chain : List Record) (low key end : Key) → IsTrue (covers chain low) → IsTrue (covers chain end) → IsUpTo low key → IsBelow key end → IsTrue (covers chain key)
       between_keys chain low key end one two up less =
@@ -39,7 +39,7 @@ module _ (w : Standing) where
       let in_over = (w.tree.child 0 page.pid (live u.over) (low_of page) true u.on u.term).0 in
       let in_above = (w.tree.child 0 l.1 r.above l.0 false r.on l.2.has).0 in
       let here = (w.tree.child 0 leaf.pid r.above (low_of leaf) true r.on r.term).0 in
-      let same : live u.over ≡ r.above = joint (low_of page) l.0 (low_of leaf) (live u.over) r.above u.on r.on pass l.2.passing in_over u.stays in_above here in
+      let same : live u.over ≡ r.above = joint 1 (low_of page) l.0 (low_of leaf) (live u.over) r.above u.on r.on pass l.2.passing in_over u.stays in_above here in
       let term : content_in r.above.chain (low_of page) ≡ Some (Child page.pid true) = subst (λ (p : LivePage). content_in p.chain (low_of page) ≡ Some (Child page.pid true)) same u.term in
       let left : content_in u.over.chain l.0 ≡ Some (Child l.1 false) = subst (λ (p : LivePage). content_in p.chain l.0 ≡ Some (Child l.1 false)) (sym same) l.2.has in
       let one = l.2.greatest (low_of page) pass (some_of _ _ term) in

@@ -8,7 +8,7 @@ use Rattle.progress.proofs.rounds.Measures.{left_from, left_less, left_more, lef
 use Rattle.progress.proofs.rounds.Pages.{Below, Clear, On, Standing, Under, down, live, low_of, right, right_clear}
 use Rattle.progress.proofs.rounds.Rounding.{Near, Onward, go_round, merged_right, nearer, through_down, through_right}
 
-clash : (b : Bool) → b ≡ true → b ≡ false → ⊥
+pub clash : (b : Bool) → b ≡ true → b ≡ false → ⊥
 clash b e f = let both : true ≡ false = sym e ∙ f in cc
 
 module _ (w : Standing) where

@@ -3,6 +3,7 @@ use Rattle.std.proofs.Common.{◌≡◌, ◌≢◌, ◌<◌, ◌≤◌, ◌⊎�
 use Rattle.progress.proofs.Words.{eqb_tells, MatchOption, ◌==◌, Limits, Reply, Answer, Whether, Link, Exchange, Place, Memory, next_row, Record, IsChainFrom, IsChainOf, Entry, Begin, Step}
 use Rattle.progress.proofs.Words.{IsNext, memory_after_entry, memory_at, memory_of, pushed_length, slice_get-push, take-push_whole, IsDirect, IsInPhase, MovesPhase, Phase, free, owned}
 use Rattle.progress.proofs.Words.{takes, splits, becomes_root, terms, under_root, holds, removes, merges, unterms, reuses, shared_part, IsInTree, IsState, phase_of, slot_some}
+use Rattle.progress.proofs.Tallies.{itself}
 use Rattle.bw_model.specs.declared.step.Link.TheVariants as link
 use Rattle.traces.specs.discipline.Knowledge.{Knowledge, OwnRow, Written, knows, knows_after}
 use Rattle.traces.proofs.TraceLaws.{Happens-below, Happens-kept, Happens-push_cases, memory_of-push}
@@ -56,9 +57,6 @@ in_tree_as (Placed st l s) two e h = tt
 in_tree_as (Cleared a l s) two e h = tt
 in_tree_as Nobody two e h = tree_free two (sym e) h
 in_tree_as (Keeps a) two e h = tree_owned two (sym e) h
-
-itself : (a : ℕ) → (a == a) ≡ true
-itself a = elim (eqb_tells a a) [ inl same ↦ same.0 | inr apart ↦ absurd (apart.1 refl) ]
 
 placed_here : (actor placed : ℕ) (content : Record) (answer : Answer Record) (reply : Option Reply) (ks : ℕ → Knowledge)
     → (knows_after ks (Step actor (Place placed content) answer reply) actor).own.rows placed ≡ Written content
