@@ -112,7 +112,7 @@ module _ (limits : Limits) (entries : List Entry) (actor : ℕ) (step : StepOf R
         goes =
             inl (record {
               answer = answer;
-              entry_is = ap (λ (s : StepOf Record). Step actor s answer None) (sym wants);
+              entry_is = rw (← wants);
               steps = same_steps old task round answer
                   (Read next) (same_first limits actor command old same_limits same_command) steps;
             });
@@ -120,7 +120,7 @@ module _ (limits : Limits) (entries : List Entry) (actor : ℕ) (step : StepOf R
 
       none : ◌≡◌ {A = ℕ} (if changes_tree (memory_of limits entries) entry then 1 else 0) 0
       none =
-          ap (λ (b : Bool). if◌then◌else◌ {A = ℕ} b 1 0) (ap (λ (s : StepOf Record). changes_tree (memory_of limits entries) (Step actor s answer None))
+          rw (ap (λ (s : StepOf Record). changes_tree (memory_of limits entries) (Step actor s answer None))
           (sym wants) ∙ read_no_change (memory_of limits entries) actor (wanted_step round) answer (is_read round.state))
 
   -- by what the round makes of the answer
@@ -150,7 +150,7 @@ module _ (limits : Limits) (entries : List Entry) (actor : ℕ) (step : StepOf R
 
   from_enter : (t : State) → t ≡ Read (first_read old) → ((m : ℕ) → start < m → m ≤ length entries → PaysFrom limits entries actor m (one_memory limits + 2))
       → (m : ℕ) → start < m → m ≤ length longer → PaysAt limits longer task m t
-  from_enter t is pays m after within = subst (λ (s : State). PaysAt limits longer task m s) (sym is) (record {
+  from_enter t is pays m after within = rw is (record {
     left = one_memory limits;
     few = few_fresh limits actor task longer (first_read old) later;
     pays = from_each (one_memory limits + 2) (one_memory limits + 1) m within (omega arith) (omega arith) (pays m after);

@@ -59,7 +59,7 @@ gone_read (content ∷ older ∷ part) rest fitted e = either (is_removal conten
 
 has_pushed : (part : List Record) (content : Record) → has_removal (part ++ content ∷ []) ≡ has_removal part || is_removal content
 has_pushed [] content = or-false (is_removal content)
-has_pushed (newest ∷ part) content = ap (λ (b : Bool). is_removal newest || b) (has_pushed part content) ∙ sym (or_assoc (is_removal newest) (has_removal part) (is_removal content))
+has_pushed (newest ∷ part) content = rw (has_pushed part content) (sym (or_assoc (is_removal newest) (has_removal part) (is_removal content)))
 
 or_none : (a b : Bool) → b ≡ false → (a || b) ≡ a
 or_none true b none = refl
@@ -87,7 +87,7 @@ owed_next part rest content fitted = either (is_removal content) removal other
     removal : is_removal content ≡ true → Goal
     removal e =
         let none = removal_newest part rest content fitted e in
-        let gone : is_removed (part ++ content ∷ rest) ≡ true = ap (λ (p : List Record). is_removed (p ++ content ∷ rest)) none ∙ removed_by content (is_removed rest) e in
+        let gone : is_removed (part ++ content ∷ rest) ≡ true = rw none (removed_by content (is_removed rest) e) in
         let before : has_removal part ≡ false = ap has_removal none in
         let after : has_removal (part ++ content ∷ []) ≡ true = has_pushed part content ∙ (rw (before, e) refl) in
         let le : 0 + 1 ≤ 1 = omega arith in

@@ -203,7 +203,7 @@ module _ (limits : Limits) (entries : List Entry) where
       let parts = tally_either (told a) (is_change limits entries) (gone a) m (suc n - m) (λ k. both_at_most (is_change limits entries k) (gone a k)) in
       let both = two_tallies a m (suc n - m) in
       enough causes (tally (told a) m (suc n - m)) (tally (beside limits entries a) m (suc n - m)) (tally (is_change limits entries) m (suc n - m)) (tally (gone a) m (suc n - m))
-      (tally (hinder limits entries a) m (suc n - m)) (length changes) extra all parts both changed (subst (λ (x : ℕ). x ≤ (1 + length changes) * most_meets) counts few)
+      (tally (hinder limits entries a) m (suc n - m)) (length changes) extra all parts both changed (rw (← counts) few)
     where
       enough : (causes told taken changed met hinders list extra : ℕ) → causes ≤ told + taken + extra → told ≤ changed + met → changed + taken ≤ hinders → list ≤ changed → met ≤ (1 + list) * 22
           → causes ≤ (22 + 1) * hinders + 22 + extra
