@@ -38,7 +38,7 @@ last_begin entries a zero some = absurd (cc)
 last_begin entries a (suc n) some = by_entry (λ before. last_begin entries a n before) (slice_get entries n) refl
   where
     by_entry : (IsSome (command_of (take n entries) a) → LastBegin entries a n) → (o : Option Entry) → slice_get entries n ≡ o → LastBegin entries a (suc n)
-    by_entry earlier None at = one_on entries a n (λ c e. cc (at, e)) (earlier (rw (ap (λ es. command_of es a) (take_past entries n at)) at some))
+    by_entry earlier None at = one_on entries a n (λ c e. cc (at, e)) (earlier (rw (take_past entries n at) at some))
     by_entry earlier (Some (Begin b c)) at = elim (eqb_tells a b) [
       | inl same ↦ begins_here entries a n c (at ∙ ap (λ x. Some (Begin x c)) (sym same.1))
       | inr apart ↦ one_on entries a n (λ d e. apart.1 (let f : Some (Begin b c) ≡ Some (Begin a d) = sym at ∙ e in cc))

@@ -115,7 +115,7 @@ module _ (limits : Limits) (entries : List Entry) (last : Entry) (kept : IsReade
           increasing = h.1.increasing;
           each = λ k d lt. let g = h.1.each k d lt in (g.0, g.1, Happens-kept (last ∷ []) g.2);
         },
-        rw (ap (count_by (is_step_of op.actor)) (range_kept entries last m (suc n) (omega (arith, le)) (omega (arith, below)))) h.2,
+        rw (range_kept entries last m (suc n) (omega (arith, le)) (omega (arith, below))) h.2,
       )
 
   -- where the last entry is paid for

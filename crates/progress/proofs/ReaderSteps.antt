@@ -15,7 +15,7 @@ use Rattle.tree_law.proofs.trace.Owned.{same_start}
 use Rattle.progress.specs.ReaderStates.{PaysAt, PaysForRound, PaysFrom, PaysReader, StepsArePaid, reader_task}
 use Rattle.progress.proofs.ReaderPays.{pays_end, pays_kept}
 use Rattle.progress.proofs.ReaderRounds.{after_reads, few_fresh, few_on, few_some, last_cases, moment_of, next_of, round_fresh, same_steps}
-use Rattle.progress.proofs.Tallies.{one_at_most}
+use Rattle.progress.proofs.Tallies.{one_at_most, itself}
 use Rattle.progress.proofs.rounds.Among.{is_read, read_no_change}
 
 -- the command that an operation shows
@@ -75,7 +75,7 @@ module _ (limits : Limits) (entries : List Entry) (actor : ℕ) (step : StepOf R
   one = one_at_most (is_step_of actor entry)
 
   own : cond {A = ℕ} (is_step_of actor entry) 1 0 ≡ 1
-  own = ap (λ (b : Bool). cond {A = ℕ} b 1 0) (elim (eqb_tells actor actor) [ inl same ↦ same.0 | inr apart ↦ absurd (apart.1 refl) ])
+  own = rw (itself actor)
 
   -- what was paid for from an earlier entry on, and from the end on
   from_each : (left rest m : ℕ) → m ≤ length longer → rest < left → rest ≤ one_memory limits + 3 → (m ≤ length entries → PaysFrom limits entries actor m left) → PaysFrom limits longer actor m rest
@@ -119,9 +119,7 @@ module _ (limits : Limits) (entries : List Entry) (actor : ℕ) (step : StepOf R
       }
 
       none : ◌≡◌ {A = ℕ} (if changes_tree (memory_of limits entries) entry then 1 else 0) 0
-      none =
-          rw (ap (λ (s : StepOf Record). changes_tree (memory_of limits entries) (Step actor s answer None))
-          (sym wants) ∙ read_no_change (memory_of limits entries) actor (wanted_step round) answer (is_read round.state))
+      none = rw (← wants) (rw (read_no_change (memory_of limits entries) actor (wanted_step round) answer (is_read round.state)))
 
   -- by what the round makes of the answer
   from_round : (round : ReadRound) (r : Recalled) (t : State) → wanted_step round ≡ step → ShowsState old hand.spares (knows entries actor) r (Read round)

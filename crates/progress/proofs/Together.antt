@@ -8,7 +8,7 @@ use Rattle.linearization.specs.Progress.{AreAmong, ChangesTree, is_begin, is_end
 use Rattle.linearization.specs.UntilRemoval.{AreLockFreeUntilRemoval, PlacesNoRemoval}
 use Rattle.progress.proofs.Begun.{LastBegin, actor_below, begins_here, command_next, last_begin, one_on}
 use Rattle.progress.proofs.Hindering.{happens, hinder, hinder_parts, is_change, paid_by_hinder}
-use Rattle.progress.proofs.Tallies.{counted_range, counted_taken, listed, one_at_most, passes, passes_in, sum, sum_both, sum_less, sum_none, sum_one, sum_worth}
+use Rattle.progress.proofs.Tallies.{counted_range, counted_taken, listed, one_at_most, passes, passes_in, sum, sum_both, sum_less, sum_none, sum_one, sum_worth, itself}
 use Rattle.progress.proofs.Tallies.{tally, tally_grows, tally_none, tally_split}
 
 -- the entry begins an operation of the actor's
@@ -206,7 +206,7 @@ module _ (limits : Limits) (entries : List Entry) (run : IsRun limits entries) (
             omega (arith, early, here, split_steps, joined, grown)
           where
             is_mine : (a == a) ≡ true
-            is_mine = elim (eqb_tells a a) [ inl same ↦ same.0 | inr apart ↦ absurd (apart.1 refl) ]
+            is_mine = itself a
 
             parts : (t : ℕ → Bool) → tally t 0 n ≡ tally t 0 start + tally t start (n - start)
             parts t =
@@ -269,7 +269,7 @@ module _ (limits : Limits) (entries : List Entry) (run : IsRun limits entries) w
       zeroed = omega arith
 
       mark : (p : Entry → Bool) (o : Option Entry) → slice_get entries n ≡ o → cond {A = ℕ} (passes_in p entries (0 + n)) 1 0 ≡ cond (passes p o) 1 0
-      mark p o at = rw (ap (slice_get entries) zeroed ∙ at)
+      mark p o at = rw (zeroed, at)
 
       by_entry : tally (passes_in (begin_of a) entries) 0 n ≤ tally (passes_in (end_of a) entries) 0 n + under_way (command_of (take n entries) a) → (o : Option Entry) → slice_get entries n ≡ o
           → tally (passes_in (begin_of a) entries) 0 n + cond (passes_in (begin_of a) entries (0 + n)) 1 0 ≤ tally (passes_in (end_of a) entries) 0 n + cond

@@ -2,7 +2,7 @@
 use Rattle.std.proofs.Common.{◌≡◌, ◌<◌, ◌≤◌, ◌+◌, ◌*◌, ◌⊎◌, ◌++◌, ℕ, List, [], ◌∷◌, Bool, true, false, cond, Some, None, refl, sym, ap, subst, ◌∙◌, inl, inr, arith}
 use Rattle.progress.proofs.Words.{add-mul, eqb_tells, if◌then◌else◌, ◌==◌, Limits, Answer, Number, Whether, Exchange, StepOf, Memory, Record, Entry, Begin, Step, knows, Recalled, IsNext}
 use Rattle.progress.proofs.Words.{IsAnswer, IsChainOf, IsTrue, memory_of, WayState, Root, Page, Visit, VisitState, is_below, low_in, IsState, IsInTree, Key, either, changes_tree}
-use Rattle.progress.proofs.Tallies.{one_at_most}
+use Rattle.progress.proofs.Tallies.{one_at_most, itself}
 use Rattle.std.proofs.Math.Bool.{and-false}
 use Rattle.std.specs.Prelude.{◌&&◌}
 use Rattle.linearization.specs.Direct.{IsDirect}
@@ -39,7 +39,7 @@ others_meet actor (Begin other command) others = refl
 others_meet actor (Step other asked answer reply) others = elim (eqb_tells other actor) [ inl same ↦ absurd (others same.1) | inr apart ↦ rw apart.0 refl ]
 
 own_meet : (actor : ℕ) (asked : StepOf Record) (answer : Answer Record) → cond {A = ℕ} (meets_at actor (Step actor asked answer None)) 1 0 ≡ meets_now asked answer
-own_meet actor asked answer = elim (eqb_tells actor actor) [ inl same ↦ rw same.0 refl | inr apart ↦ absurd (apart.1 refl) ]
+own_meet actor asked answer = rw (itself actor)
 
 calm_none : (asked : StepOf Record) (answer : Answer Record) → meets asked answer ≡ false → meets_now asked answer ≡ 0
 calm_none asked answer e = rw e
@@ -86,8 +86,7 @@ module _ (limits : Limits) (actor : ℕ) where
             → FitsAt (memory_of limits entries) visit at
         by_visit visit Slot e v = rw e at v.seeks.on_way.bare
         by_visit visit (Row head row) e v =
-            let reads : seen.Reads (knows entries actor) visit.pid head visit.part row =
-            rw e at v.seeks.on_way.shows.stands in
+            let reads : seen.Reads (knows entries actor) visit.pid head visit.part row = rw e at v.seeks.on_way.shows.stands in
             let f = read_front limits entries state actor visit.pid head row visit.part reads.in_slot reads.seen in
             (f.0, f.1, f.2.fits)
 
@@ -102,7 +101,7 @@ module _ (limits : Limits) (actor : ℕ) where
       where
         by_state : (at : WayState) → write.ShowsState round (knows entries actor) r at → StandsAt w round.goal round.key round.floor round.parent round.left at most
             → IsAnswer (memory_of limits entries) (way.wanted_at at) answer → IsAnswer w.memory (way.wanted_at at) answer
-        by_state Root s f told = told ∙ ap (λ (n : ℕ). Number n) same.root
+        by_state Root s f told = told ∙ ap Number same.root
         by_state (Page visit) s f told =
             visit_same limits entries state actor w same round.limits r visit (record { level = s.level; low = s.low; earlier = s.earlier; on_way = s.seeks.on_way })
             (inr (record { chain = f.page.chain; left = f.left; is_chain = rw (← f.is_pid) f.stands.stands; is_left = f.is_left; at_head = f.at_head }))
@@ -150,8 +149,7 @@ module _ (limits : Limits) (actor : ℕ) where
           at_root zeroth =
               let has : (memory_of limits entries).slots slot ≡ expected = ap (memory_of limits entries).slots zeroth ∙ same.root ∙ ap w.memory.slots (sym zeroth) ∙ holds in
               let won : entry ≡ Step actor (Exchange 0 expected d.number) (Whether true) None = wins has ∙ ap (λ (n : ℕ). Step actor (Exchange n expected d.number) (Whether true) None) zeroth in
-              let on : changes_tree (memory_of limits entries) (Step actor (Exchange 0 expected d.number) (Whether true) None) ≡ false =
-              rw won at off in
+              let on : changes_tree (memory_of limits entries) (Step actor (Exchange 0 expected d.number) (Whether true) None) ≡ false = rw won at off in
               cc on
 
           at_page : (knows entries actor).read.heads slot ≡ Some expected → 0 < slot → ⊥

@@ -40,8 +40,7 @@ module _ (w : Standing) where
 
   pub term_in : (pid : ℕ) (key : Key) (level : ℕ) → IsHeld pid key level → (over : LivePage) → On w (suc level) over → StaysLeft (precedes key) over.chain
       → precedes key (low_of over) ≡ true → content_in over.chain key ≡ Some (Child pid true)
-  term_in pid key level h over on stays pass =
-      rw (above_same pid key level h over on stays pass) h.term
+  term_in pid key level h over on stays pass = rw (above_same pid key level h over on stays pass) h.term
 
   -- on its level no removed page is on the way to the left of it
   pub none_under : (pid : ℕ) (key : Key) (level : ℕ) → IsHeld pid key level → (page : LivePage) (above : Option Version) → Under w (precedes key) above level page

@@ -252,8 +252,7 @@ module _ (w : Standing) where
     at_left : (pid : ℕ) → IsAtLeft old version pid → IsOnWay (Left pid) old.key old.floor old.parent old.left level (live version) rest × Clear w (precedes old.key) level (live version)
         × ((IsHeld w pid old.key level × (17 ≤ rest + level)) ⊎ (19 ≤ rest)) × StaysLeft (precedes old.key) version.chain
     at_left pid l =
-        let here : At (Left pid) old.key old.floor old.parent old.left level (live version) rest =
-        rw l.goal at at in
+        let here : At (Left pid) old.key old.floor old.parent old.left level (live version) rest = rw l.goal at at in
         let stays : StaysLeft (precedes old.key) version.chain = rw l.goal at l.here.stays in
         let same : old.floor ≡ level = sym l.level ∙ stands.level_is in
         elim here.is [
@@ -313,8 +312,7 @@ module _ (w : Standing) where
     -- no round to the left of a page that has its held term ends below that one's level, or without a change
     too_low : EndsBelow old version → 18 ≤ rest
     too_low g =
-        let here : At (Left g.pid) old.key old.floor old.parent old.left level (live version) rest =
-        rw g.goal at at in
+        let here : At (Left g.pid) old.key old.floor old.parent old.left level (live version) rest = rw g.goal at at in
         elim here.is [
           | inl clear ↦ elim clear.1 [
             | inl held ↦ absurd (let low = g.below in let is : level_in version.chain ≡ level = stands.level_is in let up = held.1 in omega (arith, low, is, up))
@@ -344,14 +342,12 @@ module _ (w : Standing) where
 
     unmerged : EndsUnmerged old version → 18 ≤ rest
     unmerged g =
-        let here : At (Merge g.left) old.key old.floor old.parent old.left level (live version) rest =
-        rw g.goal at at in
+        let here : At (Merge g.left) old.key old.floor old.parent old.left level (live version) rest = rw g.goal at at in
         elim here.1 [ inl can ↦ absurd (g.none (can version refl)) | inr spare ↦ spare ]
 
     uncut : EndsUncut old version → 18 ≤ rest
     uncut g =
-        let here : At (Unterm g.parent g.left) old.key old.floor old.parent old.left level (live version) rest =
-        rw g.goal at at in
+        let here : At (Unterm g.parent g.left) old.key old.floor old.parent old.left level (live version) rest = rw g.goal at at in
         elim here.1 [ inl can ↦ absurd (g.none (can version refl)) | inr spare ↦ spare ]
 
     -- a removed page has its held term
@@ -403,18 +399,15 @@ module _ (w : Standing) where
       | inr holds ↦ by_plan plan _ (planned.0 ∙ holds.is) (parent_read parent due.here.seeks due.tended.above, inr parent.is_row.0)
     ]
     due_is (end.Merge left removed merge) plan after planned due =
-        let here : At (Merge left) old.key old.floor old.parent old.left level (live version) rest =
-        rw due.goal at at in
+        let here : At (Merge left) old.key old.floor old.parent old.left level (live version) rest = rw due.goal at at in
         by_plan plan _ planned.0 (here.0, inr left.is_row.0)
     due_is (end.Unterm parent left removed unterm) plan after planned due =
-        let here : At (Unterm parent left) old.key old.floor old.parent old.left level (live version) rest =
-        rw due.goal at at in
+        let here : At (Unterm parent left) old.key old.floor old.parent old.left level (live version) rest = rw due.goal at at in
         by_plan plan _ planned.0 (here.0, inr parent.is_row.0)
 
     at_leaf : (parent : Option Version) (leaf : Version) → EndsFine old version parent leaf → (18 ≤ rest) × IsAsRead leaf × IfSome parent IsAsRead
     at_leaf parent leaf g =
-        let here : At Seek old.key old.floor old.parent old.left level (live version) rest =
-        rw g.seeks at at in
+        let here : At Seek old.key old.floor old.parent old.left level (live version) rest = rw g.seeks at at in
         elim here.is [
           | inl clear ↦ (clear.1, as_over leaf g.is, by_above parent g.above)
           | inr under ↦ absurd (clash (is_removed version.chain) under.0.gone g.here.alive)

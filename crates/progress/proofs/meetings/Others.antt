@@ -87,8 +87,7 @@ module _ (limits : Limits) (actor : ℕ) (hand : Hand) (o : Option UnderWay) whe
             let direct : IsDirect limits next = subst (IsDirect limits) here (directs (length next)) in
             let alone : own_entries actor (entry ∷ []) ≡ [] = rw e in
             let lasts = own_lasts limits actor seen next (entry ∷ [], refl, alone) in
-            let shown : IsActorWith limits actor (knows next actor) (recalls next actor) hand o =
-            rw lasts.known
+            let shown : IsActorWith limits actor (knows next actor) (recalls next actor) hand o = rw lasts.known
             (rw lasts.recalled shows) in
             rw (← whole)
             (along next rest f (λ n. rw whole (states n))

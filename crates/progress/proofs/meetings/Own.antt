@@ -216,8 +216,7 @@ writer_steps_paid fit limits entries actor step answer reply old new state shown
                 | inl first ↦ inl (calm_begin running.op old.hand (knows entries actor) step answer first goes.shows.limbo wanted)
                 | inr other ↦ inr other
               ] in
-              let may : May running.op.task.actor (knows entries actor) step =
-              rw (← same_Some running.wanted step wants) goes.may.may in
+              let may : May running.op.task.actor (knows entries actor) step = rw (← same_Some running.wanted step wants) goes.may.may in
               from_state limits entries actor step answer fit state later direct start running.op.task old.hand shows.own_actor may (slice_get_below entries start _ before.begun)
               running.op.state now.op.state (knows_then (knows entries actor) step answer reply) (recalls entries actor)
               (recall (recalls entries actor) step answer) now.op.task new.hand goes.shows.stands step_is calm

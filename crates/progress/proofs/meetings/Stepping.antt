@@ -125,10 +125,8 @@ module _ (w : Standing) where
       enough = elim r [
         | inl f ↦
             let bare : visit.part ≡ [] = rw f.asked at v.bare in
-            let before : owed (is_removed v.page.chain) (has_removal visit.part) ≡ owed (is_removed v.page.chain) false =
-            rw bare in
-            let after : owed (is_removed v.page.chain) (has_removal next.part) ≡ owed (is_removed v.page.chain) false =
-            rw f.goes in
+            let before : owed (is_removed v.page.chain) (has_removal visit.part) ≡ owed (is_removed v.page.chain) false = rw bare in
+            let after : owed (is_removed v.page.chain) (has_removal next.part) ≡ owed (is_removed v.page.chain) false = rw f.goes in
             let none : meets_now (page.wanted_step visit) told ≡ 0 = rw f.asked (meets_none visit.pid f.row told f.is f.some) in
             let few = v.few in
             omega (arith, before, after, none, few)
@@ -142,8 +140,7 @@ module _ (w : Standing) where
             let here : owed (is_removed v.page.chain) (has_removal (visit.part ++ c.content ∷ [])) + cond (is_removal c.content) 1 0 ≤ owed (is_removed v.page.chain) (has_removal visit.part) = rw (← whole) pays in
             let after : owed (is_removed v.page.chain) (has_removal next.part) ≡ owed (is_removed v.page.chain) (has_removal (visit.part ++ c.content ∷ [])) =
             rw part in
-            let one : meets_now (page.wanted_step visit) told ≡ cond (is_removal c.content) 1 0 =
-            rw c.asked (meets_record c.row c.content told c.is) in
+            let one : meets_now (page.wanted_step visit) told ≡ cond (is_removal c.content) 1 0 = rw c.asked (meets_record c.row c.content told c.is) in
             let few = v.few in
             omega (arith, here, after, one, few)
       ]
@@ -255,8 +252,7 @@ module _ (w : Standing) (memory : Memory) where
         let whole : visit.part ++ c.content ∷ is_left.0 ≡ visit.part ++ rest.0 = sym (append_assoc visit.part (c.content ∷ []) is_left.0) ∙ is_left.3 in
         let once = once_next visit.part is_left.0 c.content (subst IsFitted (sym whole) rest.2.fitted) in
         let after : cond {A = ℕ} (has_removal next.part) 1 0 ≡ cond (has_removal (visit.part ++ c.content ∷ [])) 1 0 = rw part in
-        let one : meets_now (page.wanted_step visit) told ≡ cond (is_removal c.content) 1 0 =
-        rw c.asked (meets_record c.row c.content told c.is) in
+        let one : meets_now (page.wanted_step visit) told ≡ cond (is_removal c.content) 1 0 = rw c.asked (meets_record c.row c.content told c.is) in
         less most (meets_now (page.wanted_step visit) told) (cond {A = ℕ} (is_removal c.content) 1 0) (cond {A = ℕ} (has_removal visit.part) 1 0)
         (cond {A = ℕ} (has_removal next.part) 1 0) one (omega (arith, once, after)) few
         (one_at_most (has_removal visit.part)) (one_at_most (is_removal c.content))

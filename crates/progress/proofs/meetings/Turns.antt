@@ -112,8 +112,7 @@ module _ (limits : Limits) (task : Task) (spares : Spares) (k : Knowledge) (r : 
   at_link : now.state ≡ at.Link → StepsChanging now new → Takes
   at_link link steps =
       let fresh : has_decided now.state ≡ false = ap has_decided link in
-      let decided : HasDecided k slot head (has_decided now.state) step answer =
-      rw fresh (decides limits task spares k r now after shows answer link may) in
+      let decided : HasDecided k slot head (has_decided now.state) step answer = rw fresh (decides limits task spares k r now after shows answer link may) in
       elim steps.goes [
         | inl on ↦ (
           AtChange slot head true,

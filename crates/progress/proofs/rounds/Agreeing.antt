@@ -80,7 +80,7 @@ module _ (limits : Limits) (entries : List Entry) (state : IsState limits entrie
   pub visit_same : (within : Limits) (r : Recalled) (visit : Visit) → OnItsWay within r visit → (visit.state ≡ Slot) ⊎ Reading visit → (answer : Answer Record)
       → (state : VisitState) → visit.state ≡ state → IsAnswer memory (seen.wanted_at visit.pid state) answer
       → IsAnswer w.memory (seen.wanted_at visit.pid state) answer
-  visit_same within r visit o here answer Slot e is = is ∙ ap (λ (n : ℕ). Number n) (slot_same within r visit o)
+  visit_same within r visit o here answer Slot e is = is ∙ ap Number (slot_same within r visit o)
   visit_same within r visit o here answer (Row head row) e (content, there, is) = elim here [
     | inl at_slot ↦ absurd (let both : Slot ≡ Row head row = sym at_slot ∙ e in cc)
     | inr v ↦ (
@@ -94,7 +94,7 @@ module _ (limits : Limits) (entries : List Entry) (state : IsState limits entrie
   state_same : (within : Limits) (key : Key) (goal : ReadGoal) (leg : Leg) (r : Recalled) (steps : ℕ) (at : WayState) → ShowsState within key goal leg k r at
       → StandsAt w leg goal key at steps ⊎ SettledAt w leg goal at steps
       → (answer : Answer Record) → IsAnswer memory (way.wanted_at at) answer → IsAnswer w.memory (way.wanted_at at) answer
-  state_same within key goal leg r steps Root shows has answer is = is ∙ ap (λ (n : ℕ). Number n) same.root
+  state_same within key goal leg r steps Root shows has answer is = is ∙ ap Number same.root
   state_same within key goal leg r steps (Page visit) shows has answer is =
       visit_same within r visit (way_of within key goal leg r visit shows) (at_visit leg goal key visit steps has) answer visit.state refl is
 

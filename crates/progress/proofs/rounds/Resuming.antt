@@ -100,8 +100,7 @@ module _ (w : Standing) where
   ]
 
   moved : (new : ReadRound) (cost steps : ℕ) → (m : Moves w new cost) → 14 * m.left + 14 + after ≤ steps → SettledLeft new steps
-  moved new cost steps m enough =
-      rw m.is_state (at_place new.limits new.leg new.goal [] m.pid m.left steps m.place m.leg_is m.goal_is m.few enough)
+  moved new cost steps m enough = rw m.is_state (at_place new.limits new.leg new.goal [] m.pid m.left steps m.place m.leg_is m.goal_is m.few enough)
 
   -- by how a round goes on or ends
   abbrev pub Comes : ReadRound → ReadRound → Option ReadEnd → ℕ → Type 0
