@@ -1,6 +1,6 @@
 -- An operation that runs alone ends, where nobody has placed a removal.
-use Rattle.progress.proofs.Words.{◌≡◌, ◌<◌, ◌≤◌, ◌+◌, ◌-◌, ◌*◌, ℕ, suc, List, Some, true, cond, length, sym, ap, subst, ◌∙◌, inl, inr, arith}
-use Rattle.progress.proofs.Words.{mul-le-mul_left, cases_lt, All-weaker, count_by}
+use Rattle.progress.proofs.Words.{◌≡◌, ◌<◌, ◌≤◌, ◌+◌, ◌-◌, ◌*◌, ℕ, suc, List, Some, true, cond, length, sym, ap, ◌∙◌, inl, inr, arith}
+use Rattle.progress.proofs.Words.{mul-le-mul_left, cases_lt, count_by}
 use Rattle.progress.proofs.Words.{◌||◌, slice_get, slice_range, Limits, Whether, TakePid, TakeRow, Entry, Begin, Step, cause_worth, Happens}
 use Rattle.progress.proofs.Words.{memory_at, HasFewChanges, AreAmong, ChangesTree, IsDirect, IsRun, KeepsPhases}
 use Rattle.progress.proofs.Words.{is_begin, steps_from, Hinders, RunsAlone, Command}

@@ -1,5 +1,5 @@
 -- Where a slot has another number than it had, or a number is free no more, a step in between has changed that.
-use Rattle.std.proofs.Common.{◌≡◌, ◌≢◌, ◌<◌, ◌≤◌, ◌⊎◌, ℕ, zero, suc, List, Option, None, Some, Bool, true, false, refl, sym, ap, subst, ◌∙◌, inl, inr, arith}
+use Rattle.std.proofs.Common.{◌≡◌, ◌≢◌, ◌<◌, ◌≤◌, ◌⊎◌, ℕ, zero, suc, List, Option, None, Some, Bool, true, false, refl, sym, ap, ◌∙◌, inl, inr, arith}
 use Rattle.progress.proofs.Words.{cases_lt, eqb_tells, if◌then◌else◌, slice_get, ◌==◌, ◌||◌, Limits, Answer, Whether, StepOf, Memory, Record, Entry, Begin, Step, IsRun, IsAnswer}
 use Rattle.progress.proofs.Words.{memory_after, TakesStep, memory_at, memory_of, take_past}
 use Rattle.bw_model.specs.declared.step.Step.TheVariants.{Exchange, ReusePids, ReuseRows, TakePid, TakeRow}

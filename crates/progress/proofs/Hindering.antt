@@ -1,6 +1,6 @@
 -- The causes of an operation are changes of the tree, and numbers that others took, where nobody has placed a removal.
-use Rattle.std.proofs.Common.{◌≡◌, ◌≢◌, ◌<◌, ◌≤◌, ◌+◌, ◌-◌, ◌*◌, ◌⊎◌, ℕ, zero, suc, List, [], ◌∷◌, Option, None, Some, Bool, true, false, cond, length, take}
-use Rattle.progress.proofs.Words.{refl, sym, ap, subst, ◌∙◌, inl, inr, arith, eqb_tells, All-weaker, All, IsStrictlyIncreasing, ◌==◌, ◌||◌, not, slice_get, Limits, Number, Whether, Link}
+use Rattle.std.proofs.Common.{◌≡◌, ◌≢◌, ◌<◌, ◌≤◌, ◌+◌, ◌-◌, ◌*◌, ℕ, zero, suc, List, [], ◌∷◌, Option, None, Some, Bool, true, false, cond, length, take}
+use Rattle.progress.proofs.Words.{refl, ap, ◌∙◌, inl, inr, arith, eqb_tells, All, IsStrictlyIncreasing, ◌==◌, ◌||◌, not, slice_get, Limits, Number, Whether, Link}
 use Rattle.progress.proofs.Words.{Memory, not_true, Entry, Step, cause_worth, IsRun, Happens, TakesStep, memory_at, IsCause, IsDirect, link_of, IsOperation, IsOwnStep, Operation}
 use Rattle.progress.proofs.Words.{TakesOwnStep, IsInPhase, KeepsPhases, owned, AreAmong, ChangesTree, PlacesNoRemoval, steps_from, takes_number}
 use Rattle.std.proofs.lemmas.Bool.{or_left, or_right, or_cases}

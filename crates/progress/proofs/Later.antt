@@ -1,5 +1,5 @@
 -- From any entry on: what an operation had read before costs it a slot of each page, and free numbers once, and what hinders it since pays for the rest.
-use Rattle.progress.proofs.Words.{◌≡◌, ◌<◌, ◌≤◌, ◌+◌, ◌-◌, ◌*◌, ◌⊎◌, ℕ, zero, suc, List, [], ◌∷◌, Bool, true, false, length, take, refl, ap, subst}
+use Rattle.progress.proofs.Words.{◌≡◌, ◌<◌, ◌≤◌, ◌+◌, ◌-◌, ◌*◌, ◌⊎◌, ℕ, zero, suc, List, [], ◌∷◌, Bool, true, false, length, take, refl, ap}
 use Rattle.progress.proofs.Words.{◌∙◌, inl, inr, arith}
 use Rattle.progress.proofs.Words.{mul-le-mul_left, cases_lt, All, Limits, Number, Whether, Entry, cause_worth, IsRun, IsCause, IsDirect, IsExchangeOf}
 use Rattle.progress.proofs.Words.{TakesNone}

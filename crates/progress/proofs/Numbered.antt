@@ -1,5 +1,5 @@
 -- Where things have numbers, and different ones different numbers, a list of different things has as many numbers.
-use Rattle.progress.proofs.Words.{◌≡◌, ◌⊎◌, ℕ, suc, List, [], ◌∷◌, length, refl, sym, ap, subst, ◌∙◌, inl, inr, All-head, All-tail, All}
+use Rattle.progress.proofs.Words.{◌≡◌, ◌⊎◌, ℕ, suc, List, [], ◌∷◌, length, refl, ap, ◌∙◌, inl, inr, All-head, All-tail, All}
 use Rattle.progress.proofs.Counted.{AreDistinct, Each, IsNotAmong}
 
 abbrev pub IsIn : ℕ → List ℕ → Type 0

@@ -1,10 +1,9 @@
 -- Each cause of an operation needs an entry of its own, where nobody has placed a removal.
-use Rattle.progress.proofs.Words.{◌≡◌, ◌≢◌, ◌<◌, ◌≤◌, ◌+◌, ◌-◌, ◌*◌, ◌⊎◌, ℕ, suc, List, [], ◌∷◌, Some, Bool, true, false, take, refl, sym, subst, ◌∙◌}
+use Rattle.progress.proofs.Words.{◌≡◌, ◌≢◌, ◌<◌, ◌≤◌, ◌+◌, ◌-◌, ◌*◌, ◌⊎◌, ℕ, suc, List, [], ◌∷◌, Some, Bool, true, false, take, refl, sym, ◌∙◌}
 use Rattle.progress.proofs.Words.{inl, inr, arith}
 use Rattle.progress.proofs.Words.{mul-le-mul_left, cases_lt, All-head, All-tail, All, IsStrictlyIncreasing, Limits, Number, Whether, Link, Entry}
 use Rattle.progress.proofs.Words.{IsRun, TakesStep, memory_at, link_of}
 use Rattle.progress.proofs.Words.{IsCause, IsDirect, IsExchangeOf, IsTake, TakesNone, IsOperation, Operation, TakesOwnStep, KeepsPhases, PlacesNoRemoval}
-use Rattle.std.specs.Prelude.{slice_index}
 use Rattle.bw_model.specs.declared.step.Step.TheVariants.{Exchange, Slot}
 use Rattle.bw_model.specs.declared.step.Link.TheVariants as link
 use Rattle.progress.proofs.Between.{take_of}

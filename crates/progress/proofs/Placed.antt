@@ -1,5 +1,5 @@
 -- A record that stands in a row was placed there, or stood there from the beginning.
-use Rattle.std.proofs.Common.{◌≡◌, ◌<◌, ◌≤◌, ◌⊎◌, ℕ, zero, suc, List, Option, None, Some, Bool, true, false, take, refl, sym, ap, subst, ◌∙◌, inl, inr, arith}
+use Rattle.std.proofs.Common.{◌≡◌, ◌<◌, ◌≤◌, ◌⊎◌, ℕ, zero, suc, List, Option, None, Some, Bool, true, false, take, refl, sym, ap, ◌∙◌, inl, inr, arith}
 use Rattle.progress.proofs.Words.{eqb_tells, same_Some, if◌then◌else◌, slice_get, ◌==◌, Limits, Answer, StepOf, Place, Record, Entry, Begin, Step, memory_after, TakesStep}
 use Rattle.progress.proofs.Words.{memory_after_entry, memory_at, memory_of, get_take, take_past, memory_of-push, take-one, PlacesNoRemoval}
 use Rattle.base_page.specs.Pages.{empty_leaf}

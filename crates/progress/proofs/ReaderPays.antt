@@ -1,8 +1,8 @@
 -- What changes of the tree pay for, after one entry more.
-use Rattle.std.proofs.Common.{◌≡◌, ◌≢◌, ◌<◌, ◌≤◌, ◌+◌, ◌*◌, ◌++◌, ℕ, suc, List, [], ◌∷◌, length, drop, Bool, true, false, cond, Option, None, Some, refl, ap, ◌∙◌, arith}
+use Rattle.std.proofs.Common.{◌≡◌, ◌≢◌, ◌<◌, ◌≤◌, ◌+◌, ◌*◌, ◌++◌, ℕ, suc, List, [], ◌∷◌, length, drop, Bool, true, false, cond, Option, Some, refl, ap, ◌∙◌, arith}
 use Rattle.std.proofs.Math.Nat.{mul-suc}
 use Rattle.std.proofs.lemmas.List.{drop-append-le, drop_all}
-use Rattle.progress.proofs.Words.{All-push, All-weaker, fold-append, All, count_by, Limits, Whether, Link, Exchange, Memory, Entry, Step, Happens, memory_of, increasing_push, pushed_length}
+use Rattle.progress.proofs.Words.{All-push, fold-append, All, count_by, Limits, Whether, Link, Exchange, Memory, Entry, Step, Happens, memory_of, increasing_push, pushed_length}
 use Rattle.progress.proofs.Words.{is_step_of, link_of, ChangesTree, one_memory, PaysFrom}
 use Rattle.bw_model.specs.declared.step.Link.TheVariants as link
 use Rattle.traces.proofs.TraceLaws.{Happens-kept, Happens-last}

@@ -1,5 +1,5 @@
 -- How many steps a reader's round has left, among moments that are to come.
-use Rattle.std.proofs.Common.{◌≡◌, ◌<◌, ◌≤◌, ◌+◌, ◌*◌, ◌++◌, ◌⊎◌, ℕ, List, [], ◌∷◌, length, true, cond, Option, None, Some, sym, ap, subst, ◌∙◌, inl, inr, arith}
+use Rattle.std.proofs.Common.{◌≡◌, ◌<◌, ◌≤◌, ◌+◌, ◌*◌, ◌++◌, ◌⊎◌, ℕ, List, [], ◌∷◌, length, true, cond, Option, None, Some, sym, ap, ◌∙◌, inl, inr, arith}
 use Rattle.progress.proofs.Words.{add-mul, if◌then◌else◌, Limits, Command, Entry, Begin, IsNext, memory_of, ReadEnd, Again, Removed, Leaf, Beside, ReadRound, Answer, Record, first_read}
 use Rattle.progress.proofs.Words.{is_leaving, is_reading, AfterReading, StepsReading, State, Read, Task, is_step_of, one_memory, IsLast, IsState, operation_from, IsLawfulMoment, Moment}
 use Rattle.progress.proofs.Words.{all_changes, changes_tree, own_steps}

@@ -1,6 +1,6 @@
 -- Readers have taken few steps still with one entry more.
 use Rattle.std.proofs.Common.{◌≡◌, ◌<◌, ◌≤◌, ◌+◌, ◌-◌, ◌*◌, ◌++◌, ℕ, suc, List, [], ◌∷◌, length, drop, take, Bool, true, false, Option, None, Some, sym, ap, subst, ◌∙◌, inl, inr, arith}
-use Rattle.progress.proofs.Words.{cases_lt, All-weaker, count_by, slice_get, slice_range, Limits, is_writer, Reply, Answer, Whether, StepOf, Exchange, Record, Entry, Begin, Step, Happens}
+use Rattle.progress.proofs.Words.{cases_lt, count_by, slice_get, slice_range, Limits, is_writer, Reply, Answer, Whether, StepOf, Exchange, Record, Entry, Begin, Step}
 use Rattle.progress.proofs.Words.{Happens-kept, wanted_by, State, Begun, Epoch, Enter, Read, Write, Change, Leave, Task, UnderWay, IsDirect, is_step_of, IsOperation, IsOwnStep, Operation}
 use Rattle.progress.proofs.Words.{AreAmong, ChangesTree, steps_from, RunsAlone, IsLast, IsState}
 use Rattle.std.proofs.lemmas.List.{drop-append-le, length-drop, take-append-le, take_all, take_rest}

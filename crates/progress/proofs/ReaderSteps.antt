@@ -1,6 +1,6 @@
 -- A reader is paid for after its own step.
-use Rattle.std.proofs.Common.{◌≡◌, ◌<◌, ◌≤◌, ◌+◌, ◌-◌, ◌*◌, ◌++◌, ◌⊎◌, ℕ, List, [], ◌∷◌, length, Bool, true, false, cond, Option, None, Some, refl, sym, ap, subst, ◌∙◌, inl, inr, arith}
-use Rattle.progress.proofs.Words.{IsSome, if◌then◌else◌, slice_get, cases_lt, eqb_tells, same_Some, Limits, is_writer, Command, Reply, Answer, StepOf, Record, Entry, Begin, Step, Knowledge}
+use Rattle.std.proofs.Common.{◌≡◌, ◌<◌, ◌≤◌, ◌+◌, ◌-◌, ◌*◌, ◌++◌, ◌⊎◌, ℕ, List, [], ◌∷◌, length, true, false, cond, Option, None, Some, refl, sym, ap, ◌∙◌, inl, inr, arith}
+use Rattle.progress.proofs.Words.{IsSome, if◌then◌else◌, slice_get, cases_lt, same_Some, Limits, is_writer, Command, Reply, Answer, StepOf, Record, Entry, Begin, Step, Knowledge}
 use Rattle.progress.proofs.Words.{knows, Recalled, recalls, memory_of, pushed_length, slice_get_below, first_read, Hand, State, Begun, Epoch, Enter, Read, Write, Change, Leave, Task}
 use Rattle.progress.proofs.Words.{IsDirect, is_step_of, one_memory, IsLast, IsState, operation_from, IsLawfulMoment, changes_tree}
 use Rattle.bw_model.specs.declared.step.Step.TheVariants as step_of

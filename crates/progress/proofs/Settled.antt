@@ -1,5 +1,5 @@
 -- A page of the tree is nobody's own later, where nobody has placed a removal.
-use Rattle.progress.proofs.Words.{◌≡◌, ◌≢◌, ◌<◌, ◌≤◌, ℕ, List, true, Some, take, refl, sym, ap, subst, ◌∙◌, inl, inr, arith, cases_lt, eqb_tells, slice_get, Limits, Whether, TakePid, Memory}
+use Rattle.progress.proofs.Words.{◌≡◌, ◌≢◌, ◌<◌, ◌≤◌, ℕ, List, true, Some, take, refl, sym, ap, ◌∙◌, inl, inr, arith, cases_lt, eqb_tells, slice_get, Limits, Whether, TakePid, Memory}
 use Rattle.progress.proofs.Words.{Entry, IsInPhase, KeepsPhases, MovesAt, MovesPhase, Phase, cleared, free, owned, takes, splits, becomes_root, terms, under_root, holds, removes, merges}
 use Rattle.progress.proofs.Words.{unterms, reuses, PlacesNoRemoval}
 use Rattle.traces.specs.trace.Trace.{IsStep}

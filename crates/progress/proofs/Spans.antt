@@ -1,5 +1,5 @@
 -- An exchange that loses, and a take that misses, needs a step that another actor has taken since it read what it expects.
-use Rattle.progress.proofs.Words.{◌≡◌, ◌≢◌, ◌<◌, ◌≤◌, ℕ, List, Bool, true, false, Some, refl, sym, ap, subst, ◌∙◌, inl, inr, arith, eqb_tells, Limits, Answer, Number, Whether, StepOf}
+use Rattle.progress.proofs.Words.{◌≡◌, ◌≢◌, ◌<◌, ◌≤◌, ℕ, List, Bool, true, false, Some, refl, sym, ap, ◌∙◌, inl, inr, arith, eqb_tells, Limits, Answer, Number, Whether, StepOf}
 use Rattle.progress.proofs.Words.{Record, Entry, Step, IsRun, TakesStep, memory_at, IsExchangeOf, IsTake, TakesNone, Operation, TakesOwnStep}
 use Rattle.std.proofs.Math.Nat.{div-add-mod}
 use Rattle.std.specs.Int.{bit_at}

@@ -1,6 +1,6 @@
 -- How many places from one on pass a test, and sums of numbers.
 use Rattle.std.proofs.Common.{◌≡◌, ◌<◌, ◌≤◌, ◌+◌, ◌-◌, ◌*◌, ◌++◌, ℕ, zero, suc, List, [], ◌∷◌, Option, None, Some, Bool, true, false, cond, drop, length, take, refl, ap, ◌∙◌, inl, inr, arith}
-use Rattle.progress.proofs.Words.{mul-add, eqb_tells, All-push, All-weaker, fold-append, All, count_by, IsStrictlyIncreasing, ◌==◌, slice_get, take-one, increasing_push, pushed_length}
+use Rattle.progress.proofs.Words.{mul-add, eqb_tells, All-push, fold-append, All, count_by, IsStrictlyIncreasing, ◌==◌, slice_get, take-one, increasing_push, pushed_length}
 use Rattle.progress.proofs.Counted.{AreDistinct, Each, among, distinct_without, each_without, without}
 use Rattle.traces.proofs.Cuts.{get_drop, take_past}
 

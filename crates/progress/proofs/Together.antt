@@ -1,7 +1,7 @@
 -- All operations together take few steps, where nobody has placed a removal.
 use Rattle.std.proofs.Common.{◌≡◌, ◌<◌, ◌≤◌, ◌+◌, ◌-◌, ◌*◌, ◌⊎◌, ℕ, zero, suc, List, [], ◌∷◌, Option, None, Some, Bool, true, false, cond, take, refl, sym, ap, ◌∙◌, inl, inr, arith}
-use Rattle.progress.proofs.Words.{mul-add, mul-le-mul_left, cases_lt, eqb_tells, All-weaker, count_by, ◌==◌, slice_get, Limits, Command, Entry, Begin}
-use Rattle.progress.proofs.Words.{Step, cause_worth, IsRun, Happens}
+use Rattle.progress.proofs.Words.{mul-add, mul-le-mul_left, cases_lt, eqb_tells, count_by, ◌==◌, slice_get, Limits, Command, Entry, Begin}
+use Rattle.progress.proofs.Words.{Step, cause_worth, IsRun}
 use Rattle.progress.proofs.Words.{command_of, commands_after, HasFewChanges, IsDirect, KeepsPhases, is_step_of, IsOperation, IsOwnStep, Operation}
 use Rattle.progress.proofs.Words.{get_take, take_past}
 use Rattle.linearization.specs.Progress.{AreAmong, ChangesTree, is_begin, is_end, is_step, steps_from, takes_number}

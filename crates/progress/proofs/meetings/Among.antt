@@ -1,10 +1,9 @@
 -- A writer's meetings among the entries of others, and its own, that change the tree.
-use Rattle.std.proofs.Common.{◌≡◌, ◌<◌, ◌≤◌, ◌+◌, ◌*◌, ◌⊎◌, ◌++◌, ℕ, List, [], ◌∷◌, Bool, true, false, cond, Some, None, refl, sym, ap, subst, ◌∙◌, inl, inr, arith}
+use Rattle.std.proofs.Common.{◌≡◌, ◌<◌, ◌≤◌, ◌+◌, ◌*◌, ◌⊎◌, ◌++◌, ℕ, List, [], ◌∷◌, Bool, true, false, cond, Some, None, refl, sym, ap, ◌∙◌, inl, inr, arith}
 use Rattle.progress.proofs.Words.{add-mul, eqb_tells, if◌then◌else◌, ◌==◌, Limits, Answer, Number, Whether, Exchange, StepOf, Memory, Record, Entry, Begin, Step, knows, Recalled, IsNext}
-use Rattle.progress.proofs.Words.{IsAnswer, IsChainOf, IsTrue, memory_of, WayState, Root, Page, Visit, VisitState, is_below, low_in, IsState, IsInTree, Key, either, changes_tree}
+use Rattle.progress.proofs.Words.{IsAnswer, memory_of, WayState, Root, Page, Visit, VisitState, low_in, IsState, IsInTree, either, changes_tree}
 use Rattle.progress.proofs.Tallies.{one_at_most, itself}
 use Rattle.std.proofs.Math.Bool.{and-false}
-use Rattle.std.specs.Prelude.{◌&&◌}
 use Rattle.linearization.specs.Direct.{IsDirect}
 use Rattle.round_model.specs.Courses.{WriteGoal, Seek, Left, Merge, Unterm}
 use Rattle.round_model.specs.Descents as way
@@ -17,7 +16,6 @@ use Rattle.traces.specs.chain.Chains.{level_in}
 use Rattle.progress.specs.WritersAmong.{few_meets, AfterChange, AreLawfulWritings, AtChange, Decides, HasDecided, InRound, IsLawfulWriting, IsOtherWriting, IsOwnWriting}
 use Rattle.progress.specs.WritersAmong.{ShowsWriter, StepsAtChange, StepsInRound, StepsOn, WriterMoment, WriterState, WritersMeetFew, changes_among, meets, meets_at}
 use Rattle.progress.specs.ReadersAmong.{IsOthers}
-use Rattle.round_model.specs.Walks.{HasNoneRead}
 use Rattle.progress.proofs.rounds.Agreeing.{visit_same}
 use Rattle.progress.proofs.rounds.Counts.{many}
 use Rattle.progress.proofs.rounds.Ending.{many_is_count}
@@ -26,7 +24,7 @@ use Rattle.progress.proofs.rounds.Pages.{Standing}
 use Rattle.progress.proofs.rounds.Unchanged.{IsSame, none_wins, reached_in, same_next}
 use Rattle.progress.proofs.meetings.Gone.{has_removal}
 use Rattle.progress.proofs.meetings.Meeting.{Begins, MeetsFew, StandsAt}
-use Rattle.progress.proofs.meetings.Stepping.{FitsAt, FitsRound, IsStale, Stands, begins_few, fresh_after, fresh_responds, meets_now, stale_after, stale_responds}
+use Rattle.progress.proofs.meetings.Stepping.{FitsAt, FitsRound, Stands, begins_few, fresh_after, fresh_responds, meets_now, stale_after, stale_responds}
 
 -- a change of the tree meets nothing
 change_meets : (memory : Memory) (actor : ℕ) (entry : Entry) → changes_tree memory entry ≡ true → meets_at actor entry ≡ false

@@ -1,13 +1,12 @@
 -- A removed page whose held term stands above it, and the page to the left of it.
-use Rattle.std.proofs.Common.{◌≡◌, ◌≢◌, ℕ, suc, List, Bool, true, false, Option, None, Some, refl, sym, ap, subst, ◌∙◌}
-use Rattle.progress.proofs.Words.{IsTrue, Child, Record, content_in, covers, high_in, is_removed, low_in, right_in, LivePage, Version, StaysLeft, precedes}
-use Rattle.progress.proofs.Words.{IsBelow, IsUpTo, Key, IsPageOn, is_below}
+use Rattle.std.proofs.Common.{◌≡◌, ◌≢◌, ℕ, suc, Bool, true, false, Option, None, Some, refl, sym, ap, subst, ◌∙◌}
+use Rattle.progress.proofs.Words.{IsTrue, Child, content_in, covers, high_in, is_removed, low_in, right_in, LivePage, Version, StaysLeft, precedes}
+use Rattle.progress.proofs.Words.{Key, IsPageOn, is_below}
 use Rattle.std.specs.Prelude.{IsFalse, IfSome}
-use Rattle.tree_law.proofs.shape.KeyOrder.{below_not, by_below, covers_from, covers_to, under_trans, upto_both, upto_refl, upto_trans}
+use Rattle.tree_law.proofs.shape.KeyOrder.{covers_to, upto_both, upto_refl}
 use Rattle.structure_changes.specs.Merges.{CanMerge}
 use Rattle.structure_changes.specs.Sizes.{HasFewDeltas, HasMergeRoom}
 use Rattle.structure_changes.specs.Unterms.{CanUnterm}
-use Rattle.progress.proofs.rounds.KeyWays.{precedes_is_way, within}
 use Rattle.progress.proofs.rounds.Leaves.{joint}
 use Rattle.progress.proofs.rounds.Pages.{On, Standing, Under, chain_on, live, low_of, one_child, same_pid, some_of}
 use Rattle.progress.proofs.meetings.Gone.{few_gone, unheld_items}

@@ -3,7 +3,7 @@ use Rattle.std.proofs.Common.{◌≡◌, ◌<◌, ◌≤◌, ◌++◌, ℕ, List
 use Rattle.std.proofs.Common.{◌∙◌, inl, inr, arith, append_assoc, append-nil}
 use Rattle.std.specs.Prelude.{◌&&◌, ◌==◌}
 use Rattle.progress.proofs.Words.{if◌then◌else◌, slice_get, cases_lt, eqb_tells, same_Some, Limits, is_writer, Entry, Begin, Step, Knowledge, knows, Recalled, recalls}
-use Rattle.progress.proofs.Words.{pushed_length, slice_get-push, slice_get_below, take-push_whole, IsActorWith, command_at, Hand, State, Begun, Epoch, Enter, Read, Write, Change}
+use Rattle.progress.proofs.Words.{pushed_length, slice_get-push, slice_get_below, take-push_whole, IsActorWith, command_at, Hand, State, Read, Write, Change}
 use Rattle.progress.proofs.Words.{Leave, Task, UnderWay, IsDirect, IsState}
 use Rattle.traces.specs.discipline.Disciplined.{is_entry_of, own_entries}
 use Rattle.op_machine.specs.machine.Shows.{ShowsState}

@@ -1,6 +1,6 @@
 -- A writer is paid for after its own step.
-use Rattle.std.proofs.Common.{◌≡◌, ◌<◌, ◌≤◌, ◌++◌, ◌⊎◌, ℕ, List, [], ◌∷◌, length, Bool, true, false, cond, Option, None, Some, refl, sym, ap, subst, ◌∙◌, inl, inr, arith}
-use Rattle.std.specs.Prelude.{◌&&◌, ◌==◌}
+use Rattle.std.proofs.Common.{◌≡◌, ◌<◌, ◌≤◌, ◌++◌, ◌⊎◌, ℕ, List, [], ◌∷◌, length, true, false, cond, Option, None, Some, refl, sym, ap, ◌∙◌, inl, inr, arith}
+use Rattle.std.specs.Prelude.{◌==◌}
 use Rattle.progress.proofs.Words.{IsSome, slice_get_below, cases_lt, same_Some, Limits, is_writer, Reply, Answer, StepOf, Record, Entry, Step, Knowledge}
 use Rattle.progress.proofs.Words.{knows, Recalled, recalls, pushed_length, Hand, State, Begun, Epoch, Enter, Read, Write, Change, Leave, Task, is_leaving}
 use Rattle.progress.proofs.Words.{IsDirect, IsState, command_at, wanted_by, IsActorWith, UnderWay}

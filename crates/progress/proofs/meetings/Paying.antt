@@ -1,10 +1,10 @@
 -- Whatever was removed, what hinders an operation pays for its steps, where writers meet what is gone seldom.
 use Rattle.std.proofs.Common.{◌≡◌, ◌<◌, ◌≤◌, ◌+◌, ◌-◌, ◌*◌, ℕ, zero, suc, List, [], ◌∷◌, Option, Some, Bool, true, false, cond, length, refl, sym, ap, subst, ◌∙◌, inl, inr, arith}
-use Rattle.progress.proofs.Words.{◌||◌, if◌then◌else◌, Command, add-mul, mul-le-mul_left, eqb_tells, All, IsStrictlyIncreasing, count_by, slice_get}
+use Rattle.progress.proofs.Words.{◌||◌, if◌then◌else◌, Command, add-mul, mul-le-mul_left, All, IsStrictlyIncreasing, count_by, slice_get}
 use Rattle.progress.proofs.Words.{slice_range, Limits, is_writer, Answer, StepOf, Number, Whether, either}
 use Rattle.progress.proofs.Words.{Memory, Record, Entry, Step, cause_worth, IsRun, Happens, memory_at, IsCause, IsDirect, IsOperation, IsOwnStep}
 use Rattle.progress.proofs.Words.{Operation, TakesOwnStep}
-use Rattle.progress.proofs.Words.{AreAmong, ChangesTree, steps_from, one_memory, ◌==◌}
+use Rattle.progress.proofs.Words.{AreAmong, ChangesTree, steps_from, one_memory}
 use Rattle.std.proofs.Math.Nat.{mul-le-mul_right, mul_assoc}
 use Rattle.std.proofs.lemmas.List.Elements.{All-from_recursion, All-head, All-tail}
 use Rattle.std.specs.List.{AllByRecursion}

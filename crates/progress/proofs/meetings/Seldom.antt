@@ -1,6 +1,6 @@
 -- Writers have met what is gone seldom still with one entry more.
-use Rattle.std.proofs.Common.{◌≡◌, ◌<◌, ◌≤◌, ◌+◌, ◌-◌, ◌*◌, ◌++◌, ℕ, suc, List, [], ◌∷◌, length, drop, take, Bool, true, cond, Option, None, Some, sym, ap, subst, ◌∙◌, inl, inr, arith}
-use Rattle.progress.proofs.Words.{cases_lt, All, IsStrictlyIncreasing, All-weaker, count_by, slice_get, slice_range, Limits, is_writer, Reply, Answer, StepOf, Record, Entry, Begin, Step, Happens}
+use Rattle.std.proofs.Common.{◌≡◌, ◌<◌, ◌≤◌, ◌+◌, ◌-◌, ◌*◌, ◌++◌, ℕ, suc, List, [], ◌∷◌, length, drop, Bool, true, cond, Option, None, Some, sym, ap, subst, ◌∙◌, inl, inr, arith}
+use Rattle.progress.proofs.Words.{cases_lt, All, IsStrictlyIncreasing, count_by, slice_get, slice_range, Limits, is_writer, Reply, Answer, StepOf, Record, Entry, Begin, Step, Happens}
 use Rattle.progress.proofs.Words.{Happens-kept, wanted_by, UnderWay, IsDirect, IsOperation, IsOwnStep, Operation, AreAmong, ChangesTree, IsLast, IsState}
 use Rattle.std.proofs.lemmas.List.{take_all, take_rest}
 use Rattle.traces.proofs.Pushes.{pushed_length, slice_get_below, take-push}

@@ -1,5 +1,5 @@
 -- Which steps of a change lose: the exchange that decides alone.
-use Rattle.std.proofs.Common.{◌≡◌, ◌<◌, ◌⊎◌, ℕ, zero, suc, Bool, true, false, Option, None, Some, refl, sym, ap, subst, ◌∙◌, inl, inr, arith}
+use Rattle.std.proofs.Common.{◌≡◌, ◌<◌, ◌⊎◌, ℕ, zero, suc, Bool, true, false, Option, None, Some, refl, sym, ap, ◌∙◌, inl, inr, arith}
 use Rattle.progress.proofs.Words.{is_some, Limits, Answer, Whether, Exchange, Record, Knowledge, Recalled, Task}
 use Rattle.std.specs.Prelude.{IfSome, unwrap_or, not}
 use Rattle.structure_changes.specs.Plans.{cleared_page, cleared_row, clears, head_of, needs_pid, slot_of}

@@ -1,5 +1,5 @@
 -- From any later entry on: one take may miss by what the operation had read before, and what hinders it since pays for the rest.
-use Rattle.std.proofs.Common.{◌≡◌, ◌<◌, ◌≤◌, ◌+◌, ◌-◌, ◌*◌, ◌⊎◌, ℕ, zero, suc, List, [], ◌∷◌, Bool, true, false, length, refl, ap, subst, ◌∙◌, inl, inr, arith}
+use Rattle.std.proofs.Common.{◌≡◌, ◌<◌, ◌≤◌, ◌+◌, ◌-◌, ◌*◌, ◌⊎◌, ℕ, zero, suc, List, [], ◌∷◌, Bool, true, false, length, refl, ap, ◌∙◌, inl, inr, arith}
 use Rattle.progress.proofs.Words.{either, cases_lt, All, IsStrictlyIncreasing, Limits, is_writer, Whether, Entry, IsRun, IsCause, IsDirect}
 use Rattle.progress.proofs.Words.{IsOperation, IsOwnStep, Operation, steps_from}
 use Rattle.bw_model.specs.declared.step.Step.TheVariants.{Exchange}

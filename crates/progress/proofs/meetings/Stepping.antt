@@ -1,9 +1,8 @@
 -- A step of a writer while nobody changes the tree: how often it meets pages that are gone from there on.
 use Rattle.std.proofs.Common.{◌≡◌, ◌<◌, ◌≤◌, ◌+◌, ◌-◌, ◌⊎◌, ◌++◌, append_assoc, ℕ, suc, List, [], ◌∷◌, length, Bool, true, false, cond, Option, None, Some, refl, sym, ap, subst, ◌∙◌, inl, inr, arith}
-use Rattle.progress.proofs.Words.{⊤, IsTrue, ◌==◌, Answer, Number, StepOf, Record, IsChainFrom, IsChainOf, IsPageChain, is_below, is_removed, low_in, LivePage, Version, Key}
-use Rattle.progress.proofs.Words.{IsAnswer, Memory, WayState, Root, Page, Visit, VisitState, Sight, Empty, Whole, to_page, by_step, same_page, IsPageOn, eqb_tells, either}
+use Rattle.progress.proofs.Words.{⊤, IsTrue, ◌==◌, Answer, Number, StepOf, Record, IsChainFrom, IsPageChain, is_below, is_removed, low_in, Version, Key}
+use Rattle.progress.proofs.Words.{IsAnswer, Memory, WayState, Root, Page, Visit, VisitState, Sight, Empty, Whole, to_page, by_step, same_page, eqb_tells, either}
 use Rattle.progress.proofs.Tallies.{one_at_most}
-use Rattle.std.specs.Prelude.{IfSome}
 use Rattle.bw_model.specs.declared.step.Answer.TheVariants.{Content}
 use Rattle.bw_model.specs.declared.step.Step.TheVariants as step
 use Rattle.traces.specs.chain.Fitted.{IsFitted}
@@ -12,7 +11,6 @@ use Rattle.round_model.specs.Courses.{WriteGoal, Seek, Left, Merge, Unterm}
 use Rattle.round_model.specs.Rounds.{Responds, Sees}
 use Rattle.round_model.specs.Visits.{Completes, Continues, FindsHead, Slot, Row}
 use Rattle.round_model.specs.Visits as page
-use Rattle.round_model.specs.Walks.{HasNoneRead}
 use Rattle.round_model.specs.WriteEnds.{WriteEnd}
 use Rattle.round_model.specs.WriteEnds as end
 use Rattle.round_model.specs.WriteResponses.{TreatsWrite, writing}
@@ -21,9 +19,9 @@ use Rattle.round_model.proofs.PageLaws.{above_empty}
 use Rattle.round_model.proofs.WayLaws.{lowest}
 use Rattle.progress.specs.WritersAmong.{AfterRound, AtChange, BeginsRound, InRound, WriterState, meets}
 use Rattle.progress.proofs.rounds.Pages.{Standing, live, root_clear}
-use Rattle.progress.proofs.rounds.Visiting.{GoesOn, IsAtHead, IsLeft, finds, goes_on, heads, not_empty, visits}
+use Rattle.progress.proofs.rounds.Visiting.{GoesOn, IsLeft, finds, goes_on, heads, not_empty, visits}
 use Rattle.progress.proofs.meetings.Gone.{gone_read, has_removal, last_stands, once_next, owed, owed_next}
-use Rattle.progress.proofs.meetings.Meeting.{At, Begins, IsAsRead, MeetsFew, StandsAt, Then, Visits, treats}
+use Rattle.progress.proofs.meetings.Meeting.{At, Begins, IsAsRead, MeetsFew, StandsAt, Then, treats}
 
 -- how often a step meets a page that is gone
 abbrev pub meets_now : StepOf Record → Answer Record → ℕ

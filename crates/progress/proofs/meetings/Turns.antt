@@ -1,5 +1,5 @@
 -- Where a writer's operation stands, and how it goes on there by what it makes of an answer.
-use Rattle.std.proofs.Common.{◌≡◌, ◌⊎◌, ℕ, Bool, true, false, Option, None, Some, refl, sym, ap, subst, ◌∙◌, inl, inr}
+use Rattle.std.proofs.Common.{◌≡◌, ◌⊎◌, ℕ, Bool, true, false, Option, None, Some, refl, sym, ap, ◌∙◌, inl, inr}
 use Rattle.progress.proofs.Words.{either, Limits, Answer, StepOf, Record, Knowledge, Recalled, is_leaving, State, Write, Change, Task}
 use Rattle.structure_changes.specs.Plans.{head_of, slot_of}
 use Rattle.structure_changes.specs.declared.plan.Plan.{Plan}

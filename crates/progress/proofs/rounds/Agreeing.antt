@@ -1,5 +1,5 @@
 -- What a reader's round reads is as in the memory in which its steps are counted.
-use Rattle.progress.proofs.Words.{◌≡◌, ◌⊎◌, ◌++◌, ℕ, List, [], ◌∷◌, Option, Some, refl, sym, ap, subst, ◌∙◌, inl, inr, Limits, Answer, Number, Memory, Record, IsChainFrom, IsChainOf}
+use Rattle.progress.proofs.Words.{◌≡◌, ◌⊎◌, ◌++◌, ℕ, List, [], ◌∷◌, Option, Some, refl, sym, ap, ◌∙◌, inl, inr, Limits, Answer, Number, Memory, Record, IsChainFrom, IsChainOf}
 use Rattle.progress.proofs.Words.{level_in, low_in, Entry, Knowledge, knows, Recalled, IsAnswer, memory_of, IsChainFrom-unique, WayState, Root, Page, ReadGoal, Leg, Down, Round, Past}
 use Rattle.progress.proofs.Words.{IsOnWay, Key, IsInTree, IsState}
 use Rattle.round_model.specs.Descents as way

@@ -17,7 +17,7 @@ use Rattle.progress.proofs.rounds.Counts.{many}
 use Rattle.progress.proofs.rounds.Ending.{enough, many_is_count}
 use Rattle.progress.proofs.rounds.Known.{tree}
 use Rattle.progress.proofs.rounds.Pages.{Standing}
-use Rattle.progress.proofs.rounds.Resuming.{AnyAt, Comes, SettledAt, SettledLeft, StaleVisit, from_place, settled_any, settles, some_left, stale_ends, stale_on, stands_at}
+use Rattle.progress.proofs.rounds.Resuming.{AnyAt, Comes, SettledLeft, StaleVisit, from_place, settled_any, settles, some_left, stale_ends, stale_on, stands_at}
 use Rattle.progress.proofs.rounds.Running.{HasLeft, one_step}
 use Rattle.progress.proofs.rounds.Showing.{shown_in}
 use Rattle.progress.proofs.rounds.Unchanged.{IsSame, same_next}

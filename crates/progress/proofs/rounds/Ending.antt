@@ -1,5 +1,5 @@
 -- How many steps a reader's rounds take in one memory, by the limits.
-use Rattle.progress.proofs.Words.{◌≡◌, ◌≤◌, ◌+◌, ◌*◌, ℕ, zero, suc, List, Bool, true, false, cond, refl, ap, subst, inl, inr, arith, count_by, Limits, Memory, is_removed, low_in, LivePage}
+use Rattle.progress.proofs.Words.{◌≡◌, ◌≤◌, ◌+◌, ◌*◌, ℕ, zero, suc, List, Bool, true, false, cond, refl, ap, inl, inr, arith, count_by, Limits, Memory, is_removed, low_in, LivePage}
 use Rattle.progress.proofs.Words.{Version, Left, ReadRound, first_read, read_left_of, Task, memory_of, HasWholeTree, EndsWithin, FindsEach, IsRoundIn, WasRemovedLeaf}
 use Rattle.std.proofs.Math.Nat.{add-mul, mul-le-mul_right, suc-mul}
 use Rattle.std.proofs.lemmas.List.Recursion.{is_count_by}

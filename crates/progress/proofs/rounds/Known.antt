@@ -1,6 +1,6 @@
 -- Where a reader's round stands in the memory of a state, by what its actor knows.
-use Rattle.std.proofs.Common.{◌≡◌, ◌<◌, ◌≤◌, ◌⊎◌, ◌++◌, ℕ, zero, suc, List, [], Bool, true, false, Option, Some, None, refl, sym, ap, subst, ◌∙◌, inl, inr, arith}
-use Rattle.progress.proofs.Words.{IsTrue, Limits, Child, Memory, Record, Contains, IsPageChain, LivePage, Entry, Knowledge, knows, memory_of, IsChainFrom-unique, same_page, Version, Key}
+use Rattle.std.proofs.Common.{◌≡◌, ◌<◌, ◌≤◌, ◌⊎◌, ◌++◌, ℕ, zero, suc, List, [], Bool, true, false, Some, None, refl, sym, ap, ◌∙◌, inl, inr, arith}
+use Rattle.progress.proofs.Words.{IsTrue, Limits, Child, Memory, Record, IsPageChain, Entry, Knowledge, knows, memory_of, IsChainFrom-unique, same_page, Version, Key}
 use Rattle.progress.proofs.Words.{HasWholeTree, IsState, phase_of, covers_from, KeepsItsPlace, IsPlace, NamesPlaces}
 use Rattle.linearization.specs.Phases as phase
 use Rattle.traces.specs.chain.Chains.{IsChainFrom, IsFront, content_in, covers, is_removed, level_in, low_in, right_in}
@@ -8,7 +8,7 @@ use Rattle.structure_changes.specs.Readings.{HasSeen}
 use Rattle.structure_changes.proofs.Due.{covered}
 use Rattle.round_model.specs.Walks.{IsExpected}
 use Rattle.round_model.specs.Ways.{NamesAt}
-use Rattle.tree_law.specs.Owners.{ChainNames, HeadFits, InOrder, IsOut, OrderFits, Reached, SeenFits}
+use Rattle.tree_law.specs.Owners.{ChainNames, InOrder, IsOut, OrderFits, Reached}
 use Rattle.tree_law.specs.Phase.{Cleared, Keeps, Nobody, PageOwner, Placed, Stage, rank, rank_of}
 use Rattle.tree_law.specs.Shared.{row_in, shared_part, slot_in}
 use Rattle.tree_law.specs.Tree.{IsOff}

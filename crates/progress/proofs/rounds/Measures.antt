@@ -1,6 +1,6 @@
 -- How many pages a round may still come to, and how many removed leaves are ahead.
-use Rattle.progress.proofs.Words.{◌≡◌, ◌<◌, ◌≤◌, ◌+◌, ◌*◌, ℕ, zero, suc, Bool, true, false, refl, sym, ap, subst, ◌∙◌, inl, inr, arith, Contains, eqb_tells, is_below, is_removed, level_in}
-use Rattle.progress.proofs.Words.{LivePage, reaches, IsBelow, IsUpTo, Key}
+use Rattle.progress.proofs.Words.{◌≡◌, ◌<◌, ◌≤◌, ◌+◌, ◌*◌, ℕ, zero, suc, Bool, true, false, refl, sym, ap, ◌∙◌, arith, Contains, is_below, is_removed, level_in}
+use Rattle.progress.proofs.Words.{LivePage, reaches, IsBelow, Key}
 use Rattle.progress.proofs.Tallies.{itself}
 use Rattle.std.proofs.lemmas.Bool.{or_left, or_right, not_from_false, or_from, eqb-true}
 use Rattle.std.specs.Prelude.{not, ◌&&◌, ◌||◌, ◌==◌}

@@ -1,6 +1,6 @@
 -- The pages of a whole tree that a reader's way comes to.
-use Rattle.progress.proofs.Words.{◌≡◌, ◌⊎◌, ℕ, suc, Bool, true, false, Option, Some, refl, sym, ap, subst, ◌∙◌, inl, inr, arith, Contains, IsTrue, IsSome, is_some, Limits, is_below, Child}
-use Rattle.progress.proofs.Words.{either, Memory, IsChainOf, content_in, covers, high_in, is_removed, low_in, LivePage, Version, LeadsDown, LeadsRight, StaysLeft, IsBelow, IsUpTo, Key}
+use Rattle.progress.proofs.Words.{◌≡◌, ◌⊎◌, ℕ, suc, Bool, true, false, Option, Some, refl, sym, ap, ◌∙◌, inl, inr, arith, Contains, IsTrue, IsSome, is_some, Limits, is_below, Child}
+use Rattle.progress.proofs.Words.{either, Memory, IsChainOf, content_in, covers, high_in, is_removed, low_in, LivePage, Version, LeadsDown, LeadsRight, StaysLeft, IsBelow, Key}
 use Rattle.progress.proofs.Words.{IsPageOn, HasWholeTree, IsChildAt, below_not, below_upto, not_below}
 use Rattle.base_page.specs.declared.item.Content.{Content}
 use Rattle.traces.proofs.ChainLaws.{IsChainOf-unique, same_page}

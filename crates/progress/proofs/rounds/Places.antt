@@ -1,5 +1,5 @@
 -- Pages to which a round may come that began in an earlier memory, and how many are left to it: each twice at most.
-use Rattle.std.proofs.Common.{◌≡◌, ◌<◌, ◌≤◌, ◌+◌, ◌*◌, ◌⊎◌, ℕ, suc, Bool, true, Some, None, subst, inl, inr, arith}
+use Rattle.std.proofs.Common.{◌≡◌, ◌<◌, ◌≤◌, ◌+◌, ◌*◌, ◌⊎◌, ℕ, suc, Bool, true, Some, None, inl, inr, arith}
 use Rattle.progress.proofs.Words.{Child, either, IsChainOf, content_in, is_removed, level_in, LivePage, Version, Leg, Down, Round, Past, IsPlain, above_of, below, level_on, IsBelow, Key}
 use Rattle.progress.proofs.Words.{IsPageOn, KeepsItsPlace, IsLegIn, IsPlace, NamesPlaces}
 use Rattle.progress.proofs.rounds.Measures.{left_few, left_from, left_less, left_more, left_within, under_all, under_few}

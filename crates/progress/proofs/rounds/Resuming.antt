@@ -1,5 +1,5 @@
 -- A reader's run in one memory comes to its end, wherever its round stands at first.
-use Rattle.std.proofs.Common.{◌≡◌, ◌<◌, ◌≤◌, ◌+◌, ◌*◌, ◌⊎◌, ◌++◌, ℕ, suc, List, [], ◌∷◌, length, true, Option, Some, None, refl, sym, ap, subst, ◌∙◌, inl, inr, arith}
+use Rattle.std.proofs.Common.{◌≡◌, ◌<◌, ◌≤◌, ◌+◌, ◌*◌, ◌⊎◌, ◌++◌, ℕ, suc, List, [], ◌∷◌, length, true, Option, Some, None, refl, sym, ◌∙◌, inl, inr, arith}
 use Rattle.progress.proofs.Words.{length-append, ⊤, Limits, Answer, Number, Record, IsChainOf, LivePage, IsAnswer, same_page, Version, WayState, Root, Page, ReadEnd, Again, Removed, Leaf}
 use Rattle.progress.proofs.Words.{Beside, ReadGoal, Seek, Left, Leg, Down, Sight, Empty, Whole, Visit, VisitState, to_page, by_step, first_read, read_left_of, is_leaving, AfterReading}
 use Rattle.progress.proofs.Words.{State, Read, Task, Key, IsPageOn, EndsWithin, IsReaderRun, ReadsIn, IsGoalIn, IsLegIn, IsPlace, IsRoundIn, IsStateIn, IsVisitIn, WasRemovedLeaf}

@@ -1,6 +1,6 @@
 -- Round a removed index page, to the page on its left, and on from there.
-use Rattle.std.proofs.Common.{◌≡◌, ◌≢◌, ℕ, suc, Bool, true, false, Option, Some, None, sym, ap, subst, ◌∙◌, inl, inr}
-use Rattle.progress.proofs.Words.{IsSome, IsTrue, either, content_in, covers, is_removed, low_in, right_in, LivePage, Version, left_of, LeadsDown, LeadsRight, StaysLeft, Child, IsBelow}
+use Rattle.std.proofs.Common.{◌≡◌, ◌≢◌, ℕ, suc, Bool, true, false, Option, Some, None, sym, ap, ◌∙◌, inl, inr}
+use Rattle.progress.proofs.Words.{IsTrue, either, content_in, covers, is_removed, low_in, right_in, LivePage, Version, left_of, LeadsDown, LeadsRight, StaysLeft, Child, IsBelow}
 use Rattle.progress.proofs.Words.{IsUpTo, Key, IsPageOn, IsChildAt}
 use Rattle.tree_law.proofs.shape.KeyOrder.{below_not, below_upto, by_below, not_below, not_self, upto_below, upto_both}
 use Rattle.progress.proofs.rounds.KeyWays.{IsWay, within}

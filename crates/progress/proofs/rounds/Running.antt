@@ -1,6 +1,6 @@
 -- A reader's run in one memory comes to its end.
-use Rattle.std.proofs.Common.{◌≡◌, ◌≢◌, ◌<◌, ◌≤◌, ◌+◌, ◌*◌, ◌⊎◌, ℕ, zero, suc, List, [], ◌∷◌, length, Bool, true, Option, Some, None, refl, sym, subst, ◌∙◌, inl, inr, arith}
-use Rattle.progress.proofs.Words.{⊤, Limits, Answer, Number, Record, IsChainFrom, IsChainOf, low_in, LivePage, same_page, IsAnswer, Version, WayState, Root, Page, ReadEnd, Again, Removed}
+use Rattle.std.proofs.Common.{◌≡◌, ◌≢◌, ◌<◌, ◌≤◌, ◌+◌, ◌*◌, ◌⊎◌, ℕ, zero, suc, List, [], ◌∷◌, length, Bool, true, Option, Some, None, refl, sym, ◌∙◌, inl, inr, arith}
+use Rattle.progress.proofs.Words.{⊤, Limits, Answer, Number, Record, IsChainFrom, low_in, LivePage, same_page, IsAnswer, Version, WayState, Root, Page, ReadEnd, Again, Removed}
 use Rattle.progress.proofs.Words.{Leaf, Beside, ReadGoal, Seek, Left, Beyond, Leg, Down, Round, Past, Sight, Empty, Whole, Visit, to_page, precedes, reaches, by_step, read_left_of}
 use Rattle.progress.proofs.Words.{is_leaving, AfterReading, State, Read, Task, Key, IsPageOn, EndsWithin, FindsEach, IsReaderRun, ReadsIn, last_round}
 use Rattle.round_model.specs.ReadRounds.{ReadRound, at, read_way, reading, wanted_step}

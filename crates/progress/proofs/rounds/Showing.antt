@@ -1,5 +1,5 @@
 -- A reader's round that shows what its actor knows stands in the memory of the state.
-use Rattle.std.proofs.Common.{◌≡◌, ◌++◌, ℕ, List, false, Option, Some, None, refl, sym, subst}
+use Rattle.std.proofs.Common.{◌≡◌, ◌++◌, ℕ, List, false, Option, Some, None, refl}
 use Rattle.progress.proofs.Words.{Limits, Record, is_removed, right_in, Entry, Knowledge, knows, Recalled, Version, WayState, Root, Page, ReadGoal, Seek, Left, Beyond, Leg, Down, Round}
 use Rattle.progress.proofs.Words.{Past, Key, IsState, IsGoalIn, IsLegIn, IsRoundIn, IsStateIn, IsVisitIn, NamesPlaces, WasRemovedLeaf}
 use Rattle.round_model.specs.ReadRounds.{BeginsToRead, IsAbove, IsAside, IsGoneAt, IsOn, KeepsToRead, ReadRound, ShowsState, ShowsVisit, VisitsToRead}
