@@ -1,7 +1,6 @@
 -- Each step is one of an operation.
-use Rattle.std.proofs.Common.{◌≡◌, ◌<◌, ℕ, zero, suc, List, Option, None, Some, take, refl, sym, ap, ◌∙◌, inl, inr, arith}
-use Rattle.progress.proofs.Words.{eqb_tells, IsSome, slice_get, Limits, Command, Reply, Answer, StepOf, Record, Entry, Begin, Step, IsRun, TakesStep, command_of, commands_after, take-one}
-use Rattle.progress.proofs.Words.{IsOperation, Operation, TakesOwnStep, take_past}
+use Rattle.progress.proofs.Words.{◌≡◌, ◌<◌, ℕ, zero, suc, List, Option, None, Some, take, refl, sym, ap, ◌∙◌, inl, inr, arith, eqb_tells, IsSome, slice_get, Limits, Command, Reply, Answer}
+use Rattle.progress.proofs.Words.{StepOf, Record, Entry, Begin, Step, IsRun, TakesStep, command_of, commands_after, take-one, IsOperation, Operation, TakesOwnStep, take_past}
 use Rattle.traces.proofs.TraceLaws.{command_of-push}
 
 -- The actor began an operation at a place before this one, and none after it.

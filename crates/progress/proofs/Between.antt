@@ -1,8 +1,8 @@
 -- Where a slot has another number than it had, or a number is free no more, a step in between has changed that.
-use Rattle.std.proofs.Common.{◌≡◌, ◌≢◌, ◌<◌, ◌≤◌, ◌⊎◌, ℕ, zero, suc, List, Option, None, Some, Bool, true, false, refl, sym, ap, ◌∙◌, inl, inr, arith}
-use Rattle.progress.proofs.Words.{cases_lt, eqb_tells, if◌then◌else◌, slice_get, ◌==◌, ◌||◌, Limits, Answer, Whether, StepOf, Memory, Record, Entry, Begin, Step, IsRun, IsAnswer}
-use Rattle.progress.proofs.Words.{memory_after, TakesStep, memory_at, memory_of, take_past}
-use Rattle.bw_model.specs.declared.step.Step.TheVariants.{Exchange, ReusePids, ReuseRows, TakePid, TakeRow}
+use Rattle.progress.proofs.Words.{◌≡◌, ◌≢◌, ◌<◌, ◌≤◌, ◌⊎◌, ℕ, zero, suc, List, Option, None, Some, Bool, true, false, refl, sym, ap, ◌∙◌, inl, inr, arith, cases_lt, eqb_tells, if◌then◌else◌}
+use Rattle.progress.proofs.Words.{slice_get, ◌==◌, ◌||◌, Limits, Answer, Whether, StepOf, Memory, Record, Entry, Begin, Step, IsRun, IsAnswer, memory_after, TakesStep, memory_at, memory_of}
+use Rattle.progress.proofs.Words.{take_past, Exchange, TakePid, TakeRow}
+use Rattle.bw_model.specs.declared.step.Step.TheVariants.{ReusePids, ReuseRows}
 use Rattle.progress.proofs.Placed.{memory_next}
 
 -- the last place at which it was so, before one at which it isn't

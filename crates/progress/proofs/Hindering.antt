@@ -1,12 +1,12 @@
 -- The causes of an operation are changes of the tree, and numbers that others took, where nobody has placed a removal.
-use Rattle.std.proofs.Common.{◌≡◌, ◌≢◌, ◌<◌, ◌≤◌, ◌+◌, ◌-◌, ◌*◌, ℕ, zero, suc, List, [], ◌∷◌, Option, None, Some, Bool, true, false, cond, length, take}
-use Rattle.progress.proofs.Words.{refl, ap, ◌∙◌, inl, inr, arith, eqb_tells, All, IsStrictlyIncreasing, ◌==◌, ◌||◌, not, slice_get, Limits, Number, Whether, Link}
-use Rattle.progress.proofs.Words.{Memory, not_true, Entry, Step, cause_worth, IsRun, Happens, TakesStep, memory_at, IsCause, IsDirect, link_of, IsOperation, IsOwnStep, Operation}
-use Rattle.progress.proofs.Words.{TakesOwnStep, IsInPhase, KeepsPhases, owned, AreAmong, ChangesTree, PlacesNoRemoval, steps_from, takes_number}
-use Rattle.std.proofs.lemmas.Bool.{or_left, or_right, or_cases}
+use Rattle.progress.proofs.Words.{◌≡◌, ◌≢◌, ◌<◌, ◌≤◌, ◌+◌, ◌-◌, ◌*◌, ℕ, zero, suc, List, [], ◌∷◌, Option, None, Some, Bool, true, false, cond, length, take, refl, ap, ◌∙◌, inl, inr, arith}
+use Rattle.progress.proofs.Words.{eqb_tells, All, IsStrictlyIncreasing, ◌==◌, ◌||◌, not, slice_get, Limits, Number, Whether, Link, Memory, not_true, Entry, Step, cause_worth, IsRun, Happens}
+use Rattle.progress.proofs.Words.{TakesStep, memory_at, IsCause, IsDirect, link_of, IsOperation, IsOwnStep, Operation, TakesOwnStep, IsInPhase, KeepsPhases, owned, AreAmong, ChangesTree}
+use Rattle.progress.proofs.Words.{PlacesNoRemoval, steps_from, takes_number, or_left, or_right, Exchange, TakePid, TakeRow, Hinders}
+use Rattle.std.proofs.lemmas.Bool.{or_cases}
 use Rattle.bw_model.specs.declared.step.Link.TheVariants as link
-use Rattle.bw_model.specs.declared.step.Step.TheVariants.{Exchange, Slot, TakePid, TakeRow}
-use Rattle.linearization.specs.Progress.{Hinders, TakesBeside}
+use Rattle.bw_model.specs.declared.step.Step.TheVariants.{Slot}
+use Rattle.linearization.specs.Progress.{TakesBeside}
 use Rattle.progress.proofs.Begun.{one_of}
 use Rattle.progress.proofs.Between.{take_of}
 use Rattle.progress.proofs.Counted.{Each}

@@ -1,10 +1,8 @@
 -- Each cause of an operation needs an entry of its own, where nobody has placed a removal.
-use Rattle.progress.proofs.Words.{◌≡◌, ◌≢◌, ◌<◌, ◌≤◌, ◌+◌, ◌-◌, ◌*◌, ◌⊎◌, ℕ, suc, List, [], ◌∷◌, Some, Bool, true, false, take, refl, sym, ◌∙◌}
-use Rattle.progress.proofs.Words.{inl, inr, arith}
-use Rattle.progress.proofs.Words.{mul-le-mul_left, cases_lt, All-head, All-tail, All, IsStrictlyIncreasing, Limits, Number, Whether, Link, Entry}
-use Rattle.progress.proofs.Words.{IsRun, TakesStep, memory_at, link_of}
-use Rattle.progress.proofs.Words.{IsCause, IsDirect, IsExchangeOf, IsTake, TakesNone, IsOperation, Operation, TakesOwnStep, KeepsPhases, PlacesNoRemoval}
-use Rattle.bw_model.specs.declared.step.Step.TheVariants.{Exchange, Slot}
+use Rattle.progress.proofs.Words.{◌≡◌, ◌≢◌, ◌<◌, ◌≤◌, ◌+◌, ◌-◌, ◌*◌, ◌⊎◌, ℕ, suc, List, [], ◌∷◌, Some, Bool, true, false, take, refl, sym, ◌∙◌, inl, inr, arith, mul-le-mul_left, cases_lt}
+use Rattle.progress.proofs.Words.{All-head, All-tail, All, IsStrictlyIncreasing, Limits, Number, Whether, Link, Entry, IsRun, TakesStep, memory_at, link_of, IsCause, IsDirect, IsExchangeOf}
+use Rattle.progress.proofs.Words.{IsTake, TakesNone, IsOperation, Operation, TakesOwnStep, KeepsPhases, PlacesNoRemoval, Exchange}
+use Rattle.bw_model.specs.declared.step.Step.TheVariants.{Slot}
 use Rattle.bw_model.specs.declared.step.Link.TheVariants as link
 use Rattle.progress.proofs.Between.{take_of}
 use Rattle.progress.proofs.Causes.{meets_none}

@@ -1,9 +1,9 @@
 -- A record that stands in a row was placed there, or stood there from the beginning.
-use Rattle.std.proofs.Common.{◌≡◌, ◌<◌, ◌≤◌, ◌⊎◌, ℕ, zero, suc, List, Option, None, Some, Bool, true, false, take, refl, sym, ap, ◌∙◌, inl, inr, arith}
-use Rattle.progress.proofs.Words.{eqb_tells, same_Some, if◌then◌else◌, slice_get, ◌==◌, Limits, Answer, StepOf, Place, Record, Entry, Begin, Step, memory_after, TakesStep}
-use Rattle.progress.proofs.Words.{memory_after_entry, memory_at, memory_of, get_take, take_past, memory_of-push, take-one, PlacesNoRemoval}
+use Rattle.progress.proofs.Words.{◌≡◌, ◌<◌, ◌≤◌, ◌⊎◌, ℕ, zero, suc, List, Option, None, Some, Bool, true, false, take, refl, sym, ap, ◌∙◌, inl, inr, arith, eqb_tells, same_Some, if◌then◌else◌}
+use Rattle.progress.proofs.Words.{slice_get, ◌==◌, Limits, Answer, StepOf, Place, Record, Entry, Begin, Step, memory_after, TakesStep, memory_after_entry, memory_at, memory_of, get_take}
+use Rattle.progress.proofs.Words.{take_past, memory_of-push, take-one, PlacesNoRemoval, Memory}
 use Rattle.base_page.specs.Pages.{empty_leaf}
-use Rattle.deltas.specs.Memory.{Memory, opening}
+use Rattle.deltas.specs.Memory.{opening}
 use Rattle.deltas.specs.declared.record.Record.TheVariants as delta
 use Rattle.deltas.specs.declared.record.Remove.{Remove}
 

@@ -1,14 +1,14 @@
 -- A reader is paid for whatever others do, and where it begins.
-use Rattle.std.proofs.Common.{◌≡◌, ◌<◌, ◌≤◌, ◌+◌, ◌*◌, ◌++◌, ℕ, List, [], ◌∷◌, length, take, Bool, true, false, cond, Option, None, Some, refl, sym, ap, subst}
-use Rattle.std.proofs.Common.{◌∙◌, inl, inr, arith, append_assoc, append-nil}
-use Rattle.progress.proofs.Words.{if◌then◌else◌, slice_get, cases_lt, same_Some, either, Limits, is_writer, Command, Entry, Begin, Step, Knowledge, knows, Recalled, recalls, memory_of}
-use Rattle.progress.proofs.Words.{pushed_length, slice_get-push, slice_get_below, take-push_whole, ReadRound, IsActorWith, command_at, Hand, State, Begun, Epoch, Enter, Read, Write, Change}
-use Rattle.progress.proofs.Words.{Leave, Task, UnderWay, IsDirect, is_step_of, one_memory, IsState, IsLawfulMoment, IsOthers, changes_tree}
+use Rattle.progress.proofs.Words.{◌≡◌, ◌<◌, ◌≤◌, ◌+◌, ◌*◌, ◌++◌, ℕ, List, [], ◌∷◌, length, take, Bool, true, false, cond, Option, None, Some, refl, sym, ap, subst, ◌∙◌, inl, inr, arith}
+use Rattle.progress.proofs.Words.{append_assoc, if◌then◌else◌, slice_get, cases_lt, same_Some, either, Limits, is_writer, Command, Entry, Begin, Step, Knowledge, knows, Recalled, recalls}
+use Rattle.progress.proofs.Words.{memory_of, pushed_length, slice_get-push, slice_get_below, take-push_whole, ReadRound, IsActorWith, command_at, Hand, State, Begun, Epoch, Enter, Read, Write}
+use Rattle.progress.proofs.Words.{Change, Leave, Task, UnderWay, IsDirect, is_step_of, one_memory, IsState, IsLawfulMoment, IsOthers, changes_tree, ShowsState, PaysAt, PaysForRound, PaysFrom}
+use Rattle.progress.proofs.Words.{PaysReader, reader_task}
+use Rattle.std.proofs.Common.{append-nil}
 use Rattle.traces.specs.discipline.Disciplined.{is_entry_of, own_entries}
-use Rattle.op_machine.specs.machine.Shows.{ShowsState}
 use Rattle.tree_law.proofs.shape.Puts.{eqb_false}
 use Rattle.tree_law.proofs.trace.Others.{own_lasts}
-use Rattle.progress.specs.ReaderStates.{BegunArePaid, PaysAt, PaysForRound, PaysFrom, PaysReader, ReadersStayPaid, reader_task}
+use Rattle.progress.specs.ReaderStates.{BegunArePaid, ReadersStayPaid}
 use Rattle.progress.proofs.ReaderPays.{change_is, pays_end, pays_kept, pays_more}
 use Rattle.progress.proofs.ReaderRounds.{few_on, last_begun, last_cases, moment_of, next_of, round_fresh}
 use Rattle.progress.proofs.rounds.Among.{others_no_step}

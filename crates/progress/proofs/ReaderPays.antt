@@ -1,12 +1,12 @@
 -- What changes of the tree pay for, after one entry more.
-use Rattle.std.proofs.Common.{◌≡◌, ◌≢◌, ◌<◌, ◌≤◌, ◌+◌, ◌*◌, ◌++◌, ℕ, suc, List, [], ◌∷◌, length, drop, Bool, true, false, cond, Option, Some, refl, ap, ◌∙◌, arith}
+use Rattle.progress.proofs.Words.{◌≡◌, ◌≢◌, ◌<◌, ◌≤◌, ◌+◌, ◌*◌, ◌++◌, ℕ, suc, List, [], ◌∷◌, length, drop, Bool, true, false, cond, Option, Some, refl, ap, ◌∙◌, arith, drop-append-le, All-push}
+use Rattle.progress.proofs.Words.{fold-append, All, count_by, Limits, Whether, Link, Exchange, Memory, Entry, Step, Happens, memory_of, increasing_push, pushed_length, is_step_of, link_of}
+use Rattle.progress.proofs.Words.{ChangesTree, one_memory, PaysFrom, Happens-kept, changes_tree}
 use Rattle.std.proofs.Math.Nat.{mul-suc}
-use Rattle.std.proofs.lemmas.List.{drop-append-le, drop_all}
-use Rattle.progress.proofs.Words.{All-push, fold-append, All, count_by, Limits, Whether, Link, Exchange, Memory, Entry, Step, Happens, memory_of, increasing_push, pushed_length}
-use Rattle.progress.proofs.Words.{is_step_of, link_of, ChangesTree, one_memory, PaysFrom}
+use Rattle.std.proofs.lemmas.List.{drop_all}
 use Rattle.bw_model.specs.declared.step.Link.TheVariants as link
-use Rattle.traces.proofs.TraceLaws.{Happens-kept, Happens-last}
-use Rattle.progress.specs.ReadersAmong.{changes_tree, is_change}
+use Rattle.traces.proofs.TraceLaws.{Happens-last}
+use Rattle.progress.specs.ReadersAmong.{is_change}
 
 kind_of : (o : Option Link) → is_change o ≡ true → (kind : Link) × (o ≡ Some kind) × (kind ≢ link.Ready) × (kind ≢ link.Undo)
 kind_of (Some kind) e = (kind, refl, (λ f. cc f), (λ f. cc f))

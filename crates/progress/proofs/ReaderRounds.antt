@@ -1,10 +1,10 @@
 -- How many steps a reader's round has left, among moments that are to come.
-use Rattle.std.proofs.Common.{◌≡◌, ◌<◌, ◌≤◌, ◌+◌, ◌*◌, ◌++◌, ◌⊎◌, ℕ, List, [], ◌∷◌, length, true, cond, Option, None, Some, sym, ap, ◌∙◌, inl, inr, arith}
-use Rattle.progress.proofs.Words.{add-mul, if◌then◌else◌, Limits, Command, Entry, Begin, IsNext, memory_of, ReadEnd, Again, Removed, Leaf, Beside, ReadRound, Answer, Record, first_read}
-use Rattle.progress.proofs.Words.{is_leaving, is_reading, AfterReading, StepsReading, State, Read, Task, is_step_of, one_memory, IsLast, IsState, operation_from, IsLawfulMoment, Moment}
-use Rattle.progress.proofs.Words.{all_changes, changes_tree, own_steps}
-use Rattle.traces.proofs.Pushes.{slice_get-push, slice_get-push_cases, slice_get_below, slice_get_kept, take-push_whole}
-use Rattle.progress.specs.ReaderStates.{PaysForRound, TakesFewer}
+use Rattle.progress.proofs.Words.{◌≡◌, ◌<◌, ◌≤◌, ◌+◌, ◌*◌, ◌++◌, ◌⊎◌, ℕ, List, [], ◌∷◌, length, true, cond, Option, None, Some, sym, ap, ◌∙◌, inl, inr, arith, add-mul, if◌then◌else◌, Limits}
+use Rattle.progress.proofs.Words.{Command, Entry, Begin, IsNext, memory_of, ReadEnd, Again, Removed, Leaf, Beside, ReadRound, Answer, Record, first_read, is_leaving, is_reading, AfterReading}
+use Rattle.progress.proofs.Words.{StepsReading, State, Read, Task, is_step_of, one_memory, IsLast, IsState, operation_from, IsLawfulMoment, Moment, all_changes, changes_tree, own_steps}
+use Rattle.progress.proofs.Words.{slice_get-push, slice_get_below, take-push_whole, PaysForRound}
+use Rattle.traces.proofs.Pushes.{slice_get-push_cases, slice_get_kept}
+use Rattle.progress.specs.ReaderStates.{TakesFewer}
 use Rattle.progress.proofs.ReaderPays.{pays_end}
 use Rattle.progress.proofs.rounds.Among.{readers_end_among_changes}
 use Rattle.progress.proofs.rounds.Counts.{many}

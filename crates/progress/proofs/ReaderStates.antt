@@ -1,16 +1,15 @@
 -- Readers have taken few steps still with one entry more.
-use Rattle.std.proofs.Common.{◌≡◌, ◌<◌, ◌≤◌, ◌+◌, ◌-◌, ◌*◌, ◌++◌, ℕ, suc, List, [], ◌∷◌, length, drop, take, Bool, true, false, Option, None, Some, sym, ap, subst, ◌∙◌, inl, inr, arith}
-use Rattle.progress.proofs.Words.{cases_lt, count_by, slice_get, slice_range, Limits, is_writer, Reply, Answer, Whether, StepOf, Exchange, Record, Entry, Begin, Step}
-use Rattle.progress.proofs.Words.{Happens-kept, wanted_by, State, Begun, Epoch, Enter, Read, Write, Change, Leave, Task, UnderWay, IsDirect, is_step_of, IsOperation, IsOwnStep, Operation}
-use Rattle.progress.proofs.Words.{AreAmong, ChangesTree, steps_from, RunsAlone, IsLast, IsState}
-use Rattle.std.proofs.lemmas.List.{drop-append-le, length-drop, take-append-le, take_all, take_rest}
-use Rattle.traces.proofs.Pushes.{pushed_length, slice_get_below, take-push}
+use Rattle.progress.proofs.Words.{◌≡◌, ◌<◌, ◌≤◌, ◌+◌, ◌-◌, ◌*◌, ◌++◌, ℕ, suc, List, [], ◌∷◌, length, drop, take, Bool, true, false, Option, None, Some, sym, ap, subst, ◌∙◌, inl, inr, arith}
+use Rattle.progress.proofs.Words.{cases_lt, count_by, slice_get, slice_range, Limits, is_writer, Reply, Answer, Whether, StepOf, Exchange, Record, Entry, Begin, Step, Happens-kept, wanted_by}
+use Rattle.progress.proofs.Words.{State, Begun, Epoch, Enter, Read, Write, Change, Leave, Task, UnderWay, IsDirect, is_step_of, IsOperation, IsOwnStep, Operation, AreAmong, ChangesTree}
+use Rattle.progress.proofs.Words.{steps_from, RunsAlone, IsLast, IsState, drop-append-le, pushed_length, slice_get_below, ReadersEnd, one_memory, PaysAt, PaysFrom, PaysReader, reader_task}
+use Rattle.std.proofs.lemmas.List.{length-drop, take-append-le, take_all, take_rest}
+use Rattle.traces.proofs.Pushes.{take-push}
 use Rattle.linearization.specs.Readers.{IsReading}
-use Rattle.linearization.specs.ReadersEnd.{ReadersEnd, one_memory}
 use Rattle.tree_law.specs.TraceLaws.{Opens}
 use Rattle.tree_law.proofs.trace.Owned.{operation_old, step_below, step_cases}
 use Rattle.tree_law.specs.Direct.{IsDirectState}
-use Rattle.progress.specs.ReaderStates.{BeginsKeepReaders, IsReadersState, PaysAt, PaysFrom, PaysReader, StepsKeepReaders, reader_task}
+use Rattle.progress.specs.ReaderStates.{BeginsKeepReaders, IsReadersState, StepsKeepReaders}
 use Rattle.progress.proofs.ReaderPays.{pays_kept}
 use Rattle.progress.proofs.Tallies.{counted_range, one_at_most, passes, passes_in, tally, tally_none, tally_split}
 

@@ -1,18 +1,18 @@
 -- A reader is paid for after its own step.
-use Rattle.std.proofs.Common.{◌≡◌, ◌<◌, ◌≤◌, ◌+◌, ◌-◌, ◌*◌, ◌++◌, ◌⊎◌, ℕ, List, [], ◌∷◌, length, true, false, cond, Option, None, Some, refl, sym, ap, ◌∙◌, inl, inr, arith}
-use Rattle.progress.proofs.Words.{IsSome, if◌then◌else◌, slice_get, cases_lt, same_Some, Limits, is_writer, Command, Reply, Answer, StepOf, Record, Entry, Begin, Step, Knowledge}
-use Rattle.progress.proofs.Words.{knows, Recalled, recalls, memory_of, pushed_length, slice_get_below, first_read, Hand, State, Begun, Epoch, Enter, Read, Write, Change, Leave, Task}
-use Rattle.progress.proofs.Words.{IsDirect, is_step_of, one_memory, IsLast, IsState, operation_from, IsLawfulMoment, changes_tree}
+use Rattle.progress.proofs.Words.{◌≡◌, ◌<◌, ◌≤◌, ◌+◌, ◌-◌, ◌*◌, ◌++◌, ◌⊎◌, ℕ, List, [], ◌∷◌, length, true, false, cond, Option, None, Some, refl, sym, ap, ◌∙◌, inl, inr, arith, IsSome}
+use Rattle.progress.proofs.Words.{if◌then◌else◌, slice_get, cases_lt, same_Some, Limits, is_writer, Command, Reply, Answer, StepOf, Record, Entry, Begin, Step, Knowledge, knows, Recalled}
+use Rattle.progress.proofs.Words.{recalls, memory_of, pushed_length, slice_get_below, first_read, Hand, State, Begun, Epoch, Enter, Read, Write, Change, Leave, Task, IsDirect, is_step_of}
+use Rattle.progress.proofs.Words.{one_memory, IsLast, IsState, operation_from, IsLawfulMoment, changes_tree, ReadRound, wanted_step, IsActorWith, command_at, wanted_by, is_leaving, is_reading}
+use Rattle.progress.proofs.Words.{StepsReading, ShowsState, UnderWay, PaysAt, PaysForRound, PaysFrom, PaysReader, reader_task}
 use Rattle.bw_model.specs.declared.step.Step.TheVariants as step_of
-use Rattle.round_model.specs.ReadRounds.{ReadRound, wanted_step}
-use Rattle.op_machine.specs.machine.Actors.{IsActorWith, command_at, command_left, wanted_by}
+use Rattle.op_machine.specs.machine.Actors.{command_left}
 use Rattle.op_machine.specs.machine.Ops.{HoldsLimbo, Op, asked_by, wanted_of}
-use Rattle.op_machine.specs.machine.Outcomes.{is_entering, is_leaving, is_reading}
-use Rattle.op_machine.specs.machine.RoundSteps.{StepsInRound, StepsReading}
-use Rattle.op_machine.specs.machine.Shows.{ShowsState, wanted_at}
-use Rattle.op_machine.specs.machine.UnderWay.{StepsAt, UnderWay}
+use Rattle.op_machine.specs.machine.Outcomes.{is_entering}
+use Rattle.op_machine.specs.machine.RoundSteps.{StepsInRound}
+use Rattle.op_machine.specs.machine.Shows.{wanted_at}
+use Rattle.op_machine.specs.machine.UnderWay.{StepsAt}
 use Rattle.tree_law.proofs.trace.Owned.{same_start}
-use Rattle.progress.specs.ReaderStates.{PaysAt, PaysForRound, PaysFrom, PaysReader, StepsArePaid, reader_task}
+use Rattle.progress.specs.ReaderStates.{StepsArePaid}
 use Rattle.progress.proofs.ReaderPays.{pays_end, pays_kept}
 use Rattle.progress.proofs.ReaderRounds.{after_reads, few_fresh, few_on, few_some, last_cases, moment_of, next_of, round_fresh, same_steps}
 use Rattle.progress.proofs.Tallies.{one_at_most, itself}

@@ -1,10 +1,10 @@
 -- An exchange that loses, and a take that misses, needs a step that another actor has taken since it read what it expects.
-use Rattle.progress.proofs.Words.{◌≡◌, ◌≢◌, ◌<◌, ◌≤◌, ℕ, List, Bool, true, false, Some, refl, sym, ap, ◌∙◌, inl, inr, arith, eqb_tells, Limits, Answer, Number, Whether, StepOf}
-use Rattle.progress.proofs.Words.{Record, Entry, Step, IsRun, TakesStep, memory_at, IsExchangeOf, IsTake, TakesNone, Operation, TakesOwnStep}
+use Rattle.progress.proofs.Words.{◌≡◌, ◌≢◌, ◌<◌, ◌≤◌, ℕ, List, Bool, true, false, Some, refl, sym, ap, ◌∙◌, inl, inr, arith, eqb_tells, Limits, Answer, Number, Whether, StepOf, Record, Entry}
+use Rattle.progress.proofs.Words.{Step, IsRun, TakesStep, memory_at, IsExchangeOf, IsTake, TakesNone, Operation, TakesOwnStep, ◌==◌, Exchange}
 use Rattle.std.proofs.Math.Nat.{div-add-mod}
 use Rattle.std.specs.Int.{bit_at}
-use Rattle.std.specs.Prelude.{◌==◌, ◌/◌, ◌%◌}
-use Rattle.bw_model.specs.declared.step.Step.TheVariants.{Exchange, PidBits, RowBits, Slot}
+use Rattle.std.specs.Prelude.{◌/◌, ◌%◌}
+use Rattle.bw_model.specs.declared.step.Step.TheVariants.{PidBits, RowBits, Slot}
 use Rattle.progress.proofs.Between.{as_number, freedom, take_of, was_exchanged, was_taken}
 
 -- the step that reads the word of free PIDs, or else of free rows, in which the number is

@@ -1,8 +1,8 @@
 -- How many places from one on pass a test, and sums of numbers.
-use Rattle.std.proofs.Common.{◌≡◌, ◌<◌, ◌≤◌, ◌+◌, ◌-◌, ◌*◌, ◌++◌, ℕ, zero, suc, List, [], ◌∷◌, Option, None, Some, Bool, true, false, cond, drop, length, take, refl, ap, ◌∙◌, inl, inr, arith}
-use Rattle.progress.proofs.Words.{mul-add, eqb_tells, All-push, fold-append, All, count_by, IsStrictlyIncreasing, ◌==◌, slice_get, take-one, increasing_push, pushed_length}
+use Rattle.progress.proofs.Words.{◌≡◌, ◌<◌, ◌≤◌, ◌+◌, ◌-◌, ◌*◌, ◌++◌, ℕ, zero, suc, List, [], ◌∷◌, Option, None, Some, Bool, true, false, cond, drop, length, take, refl, ap, ◌∙◌, inl, inr}
+use Rattle.progress.proofs.Words.{arith, mul-add, eqb_tells, All-push, fold-append, All, count_by, IsStrictlyIncreasing, ◌==◌, slice_get, take-one, increasing_push, pushed_length, take_past}
 use Rattle.progress.proofs.Counted.{AreDistinct, Each, among, distinct_without, each_without, without}
-use Rattle.traces.proofs.Cuts.{get_drop, take_past}
+use Rattle.traces.proofs.Cuts.{get_drop}
 
 -- how many of the first n places from m on pass the test
 abbrev pub tally : (ℕ → Bool) → ℕ → ℕ → ℕ

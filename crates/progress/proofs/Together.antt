@@ -1,11 +1,10 @@
 -- All operations together take few steps, where nobody has placed a removal.
-use Rattle.std.proofs.Common.{◌≡◌, ◌<◌, ◌≤◌, ◌+◌, ◌-◌, ◌*◌, ◌⊎◌, ℕ, zero, suc, List, [], ◌∷◌, Option, None, Some, Bool, true, false, cond, take, refl, sym, ap, ◌∙◌, inl, inr, arith}
-use Rattle.progress.proofs.Words.{mul-add, mul-le-mul_left, cases_lt, eqb_tells, count_by, ◌==◌, slice_get, Limits, Command, Entry, Begin}
-use Rattle.progress.proofs.Words.{Step, cause_worth, IsRun}
-use Rattle.progress.proofs.Words.{command_of, commands_after, HasFewChanges, IsDirect, KeepsPhases, is_step_of, IsOperation, IsOwnStep, Operation}
-use Rattle.progress.proofs.Words.{get_take, take_past}
-use Rattle.linearization.specs.Progress.{AreAmong, ChangesTree, is_begin, is_end, is_step, steps_from, takes_number}
-use Rattle.linearization.specs.UntilRemoval.{AreLockFreeUntilRemoval, PlacesNoRemoval}
+use Rattle.progress.proofs.Words.{◌≡◌, ◌<◌, ◌≤◌, ◌+◌, ◌-◌, ◌*◌, ◌⊎◌, ℕ, zero, suc, List, [], ◌∷◌, Option, None, Some, Bool, true, false, cond, take, refl, sym, ap, ◌∙◌, inl, inr, arith}
+use Rattle.progress.proofs.Words.{mul-add, mul-le-mul_left, cases_lt, eqb_tells, count_by, ◌==◌, slice_get, Limits, Command, Entry, Begin, Step, cause_worth, IsRun, command_of, commands_after}
+use Rattle.progress.proofs.Words.{HasFewChanges, IsDirect, KeepsPhases, is_step_of, IsOperation, IsOwnStep, Operation, get_take, take_past, AreAmong, ChangesTree, is_begin, steps_from}
+use Rattle.progress.proofs.Words.{takes_number, PlacesNoRemoval}
+use Rattle.linearization.specs.Progress.{is_end, is_step}
+use Rattle.linearization.specs.UntilRemoval.{AreLockFreeUntilRemoval}
 use Rattle.progress.proofs.Begun.{LastBegin, actor_below, begins_here, command_next, last_begin, one_on}
 use Rattle.progress.proofs.Hindering.{happens, hinder, hinder_parts, is_change, paid_by_hinder}
 use Rattle.progress.proofs.Tallies.{counted_range, counted_taken, listed, one_at_most, passes, passes_in, sum, sum_both, sum_less, sum_none, sum_one, sum_worth, itself}

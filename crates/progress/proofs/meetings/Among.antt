@@ -1,21 +1,16 @@
 -- A writer's meetings among the entries of others, and its own, that change the tree.
-use Rattle.std.proofs.Common.{◌≡◌, ◌<◌, ◌≤◌, ◌+◌, ◌*◌, ◌⊎◌, ◌++◌, ℕ, List, [], ◌∷◌, Bool, true, false, cond, Some, None, refl, sym, ap, ◌∙◌, inl, inr, arith}
-use Rattle.progress.proofs.Words.{add-mul, eqb_tells, if◌then◌else◌, ◌==◌, Limits, Answer, Number, Whether, Exchange, StepOf, Memory, Record, Entry, Begin, Step, knows, Recalled, IsNext}
-use Rattle.progress.proofs.Words.{IsAnswer, memory_of, WayState, Root, Page, Visit, VisitState, low_in, IsState, IsInTree, either, changes_tree}
+use Rattle.progress.proofs.Words.{◌≡◌, ◌<◌, ◌≤◌, ◌+◌, ◌*◌, ◌⊎◌, ◌++◌, ℕ, List, [], ◌∷◌, Bool, true, false, cond, Some, None, refl, sym, ap, ◌∙◌, inl, inr, arith, add-mul, eqb_tells}
+use Rattle.progress.proofs.Words.{if◌then◌else◌, ◌==◌, Limits, Answer, Number, Whether, Exchange, StepOf, Memory, Record, Entry, Begin, Step, knows, Recalled, IsNext, IsAnswer, memory_of}
+use Rattle.progress.proofs.Words.{WayState, Root, Page, Visit, VisitState, low_in, IsState, IsInTree, either, changes_tree, and-false, IsDirect, WriteGoal, Merge, Unterm, Slot, Row, WriteRound}
+use Rattle.progress.proofs.Words.{above_empty, level_in, few_meets, AtChange, InRound, IsLawfulWriting, StepsOn, WriterMoment, WriterState, meets, meets_at, IsOthers}
 use Rattle.progress.proofs.Tallies.{one_at_most, itself}
-use Rattle.std.proofs.Math.Bool.{and-false}
-use Rattle.linearization.specs.Direct.{IsDirect}
-use Rattle.round_model.specs.Courses.{WriteGoal, Seek, Left, Merge, Unterm}
+use Rattle.round_model.specs.Courses.{Seek, Left}
 use Rattle.round_model.specs.Descents as way
-use Rattle.round_model.specs.Visits.{Slot, Row}
 use Rattle.round_model.specs.Visits as seen
-use Rattle.round_model.specs.WriteRounds.{BeginsToWrite, VisitsToWrite, WriteRound, wanted_step}
+use Rattle.round_model.specs.WriteRounds.{BeginsToWrite, VisitsToWrite, wanted_step}
 use Rattle.round_model.specs.WriteRounds as write
-use Rattle.round_model.proofs.PageLaws.{above_empty}
-use Rattle.traces.specs.chain.Chains.{level_in}
-use Rattle.progress.specs.WritersAmong.{few_meets, AfterChange, AreLawfulWritings, AtChange, Decides, HasDecided, InRound, IsLawfulWriting, IsOtherWriting, IsOwnWriting}
-use Rattle.progress.specs.WritersAmong.{ShowsWriter, StepsAtChange, StepsInRound, StepsOn, WriterMoment, WriterState, WritersMeetFew, changes_among, meets, meets_at}
-use Rattle.progress.specs.ReadersAmong.{IsOthers}
+use Rattle.progress.specs.WritersAmong.{AfterChange, AreLawfulWritings, Decides, HasDecided, IsOtherWriting, IsOwnWriting}
+use Rattle.progress.specs.WritersAmong.{ShowsWriter, StepsAtChange, StepsInRound, WritersMeetFew, changes_among}
 use Rattle.progress.proofs.rounds.Agreeing.{visit_same}
 use Rattle.progress.proofs.rounds.Counts.{many}
 use Rattle.progress.proofs.rounds.Ending.{many_is_count}

@@ -1,6 +1,6 @@
 -- Chains with a removal: it is the newest record, and there is one at most.
-use Rattle.std.proofs.Common.{◌≡◌, ◌≤◌, ◌+◌, ◌++◌, ℕ, List, [], ◌∷◌, length, Bool, true, false, cond, None, Some, refl, sym, ap, ◌∙◌, arith}
-use Rattle.progress.proofs.Words.{◌||◌, Child, Record, is_removed, next_row, either}
+use Rattle.progress.proofs.Words.{◌≡◌, ◌≤◌, ◌+◌, ◌++◌, ℕ, List, [], ◌∷◌, length, Bool, true, false, cond, None, Some, refl, sym, ap, ◌∙◌, arith, ◌||◌, Child, Record, is_removed, next_row}
+use Rattle.progress.proofs.Words.{either, IsFitted}
 use Rattle.std.proofs.Math.Bool.{or-false, or_assoc}
 use Rattle.std.specs.declared.cmp.Ordering.TheVariants.{Less}
 use Rattle.bw_model.specs.Bytes.{key_cmp}
@@ -14,7 +14,7 @@ use Rattle.base_page.proofs.KeyLaws.{differs_above}
 use Rattle.deltas.specs.declared.record.Record.TheVariants as kind
 use Rattle.deltas.specs.Records.{removed_after}
 use Rattle.traces.proofs.FittedLaws.{found_first}
-use Rattle.traces.specs.chain.Fitted.{FitsOver, IsFitted}
+use Rattle.traces.specs.chain.Fitted.{FitsOver}
 use Rattle.traces.specs.chain.Unheld.{IsUnheld}
 use Rattle.traces.specs.discipline.Recalled.{is_removal}
 use Rattle.structure_changes.proofs.Places.{from_made, made}

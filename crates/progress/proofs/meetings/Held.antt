@@ -1,9 +1,7 @@
 -- A removed page whose held term stands above it, and the page to the left of it.
-use Rattle.std.proofs.Common.{◌≡◌, ◌≢◌, ℕ, suc, Bool, true, false, Option, None, Some, refl, sym, ap, subst, ◌∙◌}
-use Rattle.progress.proofs.Words.{IsTrue, Child, content_in, covers, high_in, is_removed, low_in, right_in, LivePage, Version, StaysLeft, precedes}
-use Rattle.progress.proofs.Words.{Key, IsPageOn, is_below}
-use Rattle.std.specs.Prelude.{IsFalse, IfSome}
-use Rattle.tree_law.proofs.shape.KeyOrder.{covers_to, upto_both, upto_refl}
+use Rattle.progress.proofs.Words.{◌≡◌, ◌≢◌, ℕ, suc, Bool, true, false, Option, None, Some, refl, sym, ap, subst, ◌∙◌, IsTrue, Child, content_in, covers, high_in, is_removed, low_in, right_in}
+use Rattle.progress.proofs.Words.{LivePage, Version, StaysLeft, precedes, Key, IsPageOn, is_below, IfSome, covers_to, upto_both, upto_refl}
+use Rattle.std.specs.Prelude.{IsFalse}
 use Rattle.structure_changes.specs.Merges.{CanMerge}
 use Rattle.structure_changes.specs.Sizes.{HasFewDeltas, HasMergeRoom}
 use Rattle.structure_changes.specs.Unterms.{CanUnterm}

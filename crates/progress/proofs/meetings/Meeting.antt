@@ -1,23 +1,19 @@
 -- How often a writer's round meets pages that are gone, while nobody changes the tree: by what it makes of a page of the tree.
-use Rattle.std.proofs.Common.{◌≡◌, ◌≢◌, ◌<◌, ◌≤◌, ◌+◌, ◌-◌, ◌⊎◌, ℕ, zero, suc, [], length, Bool, true, false, Option, None, Some, refl, sym, ap, subst, ◌∙◌, inl, inr, arith}
-use Rattle.progress.proofs.Words.{⊤, IsTrue, is_below, Limits, Child, content_in, is_removed, level_in, low_in, LivePage, Version, WayState, Root, Page, Visit, to_page}
-use Rattle.progress.proofs.Words.{StaysLeft, precedes, Key, IsPageOn, covers, cases_lt}
+use Rattle.progress.proofs.Words.{◌≡◌, ◌≢◌, ◌<◌, ◌≤◌, ◌+◌, ◌-◌, ◌⊎◌, ℕ, zero, suc, [], length, Bool, true, false, Option, None, Some, refl, sym, ap, subst, ◌∙◌, inl, inr, arith, ⊤, IsTrue}
+use Rattle.progress.proofs.Words.{is_below, Limits, Child, content_in, is_removed, level_in, low_in, LivePage, Version, WayState, Root, Page, Visit, to_page, StaysLeft, precedes, Key, IsPageOn}
+use Rattle.progress.proofs.Words.{covers, cases_lt, IfSome, covers_to, upto_refl, head_of, slot_of, Plan, WriteGoal, Merge, Unterm, WriteEnd, WriteRound}
 use Rattle.progress.proofs.rounds.Treating.{clash}
-use Rattle.std.specs.Prelude.{IfSome}
-use Rattle.tree_law.proofs.shape.KeyOrder.{covers_to, upto_refl}
 use Rattle.structure_changes.proofs.Few.{few_many}
-use Rattle.structure_changes.specs.Plans.{head_of, slot_of}
 use Rattle.structure_changes.specs.Sizes.{HasFewDeltas, many_of}
 use Rattle.structure_changes.specs.Merges.{CanMerge}
 use Rattle.structure_changes.specs.Unterms.{CanUnterm}
 use Rattle.structure_changes.specs.declared.after.After.{After}
-use Rattle.structure_changes.specs.declared.plan.Plan.{Plan}
-use Rattle.round_model.specs.Courses.{WriteGoal, Seek, Left, Merge, Unterm}
-use Rattle.round_model.specs.WriteEnds.{DueChange, IsPlanned, WriteEnd}
+use Rattle.round_model.specs.Courses.{Seek, Left}
+use Rattle.round_model.specs.WriteEnds.{DueChange, IsPlanned}
 use Rattle.round_model.specs.WriteEnds as end
 use Rattle.round_model.specs.WriteResponses.{EndsBelow, EndsBy, EndsClean, EndsFine, EndsRemoved, EndsUncut, EndsUnmerged, GoesAside, GoesBelow, GoesToMerge}
 use Rattle.round_model.specs.WriteResponses.{GoesToUnterm, IsAtLeft, IsFine, TreatsWrite}
-use Rattle.round_model.specs.WriteRounds.{SeeksLeaf, WriteRound, ends_at, write_way}
+use Rattle.round_model.specs.WriteRounds.{SeeksLeaf, ends_at, write_way}
 use Rattle.round_model.specs.Walks.{HasNoneRead}
 use Rattle.progress.proofs.rounds.KeyWays.{IsWay, precedes_is_way, reaches_is_way}
 use Rattle.progress.proofs.rounds.Pages.{Below, Clear, On, Standing, Under, down, live, low_of, right, right_clear}

@@ -1,16 +1,14 @@
 -- A writer is paid for whatever others do, and where it begins.
-use Rattle.std.proofs.Common.{◌≡◌, ◌<◌, ◌≤◌, ◌++◌, ℕ, List, [], ◌∷◌, length, take, Bool, true, false, cond, Option, None, Some, refl, sym, ap, subst}
-use Rattle.std.proofs.Common.{◌∙◌, inl, inr, arith, append_assoc, append-nil}
-use Rattle.std.specs.Prelude.{◌&&◌, ◌==◌}
-use Rattle.progress.proofs.Words.{if◌then◌else◌, slice_get, cases_lt, eqb_tells, same_Some, Limits, is_writer, Entry, Begin, Step, Knowledge, knows, Recalled, recalls}
-use Rattle.progress.proofs.Words.{pushed_length, slice_get-push, slice_get_below, take-push_whole, IsActorWith, command_at, Hand, State, Read, Write, Change}
-use Rattle.progress.proofs.Words.{Leave, Task, UnderWay, IsDirect, IsState}
+use Rattle.progress.proofs.Words.{◌≡◌, ◌<◌, ◌≤◌, ◌++◌, ℕ, List, [], ◌∷◌, length, take, Bool, true, false, cond, Option, None, Some, refl, sym, ap, subst, ◌∙◌, inl, inr, arith, append_assoc}
+use Rattle.progress.proofs.Words.{◌&&◌, ◌==◌, if◌then◌else◌, slice_get, cases_lt, eqb_tells, same_Some, Limits, is_writer, Entry, Begin, Step, Knowledge, knows, Recalled, recalls}
+use Rattle.progress.proofs.Words.{pushed_length, slice_get-push, slice_get_below, take-push_whole, IsActorWith, command_at, Hand, State, Read, Write, Change, Leave, Task, UnderWay, IsDirect}
+use Rattle.progress.proofs.Words.{IsState, ShowsState, PaysForWriter, PaysMeets, PaysWriter, InRound, IsLawfulWriting, WriterState, meets, meets_at}
+use Rattle.std.proofs.Common.{append-nil}
 use Rattle.traces.specs.discipline.Disciplined.{is_entry_of, own_entries}
-use Rattle.op_machine.specs.machine.Shows.{ShowsState}
 use Rattle.tree_law.proofs.shape.Puts.{eqb_false}
 use Rattle.tree_law.proofs.trace.Others.{own_lasts}
-use Rattle.progress.specs.WriterStates.{BegunWritersArePaid, MeetsAt, PaysForWriter, PaysMeets, PaysWriter, WritersStayPaid}
-use Rattle.progress.specs.WritersAmong.{InRound, IsLawfulWriting, ShowsWriter, WriterState, meets, meets_at}
+use Rattle.progress.specs.WriterStates.{BegunWritersArePaid, MeetsAt, WritersStayPaid}
+use Rattle.progress.specs.WritersAmong.{ShowsWriter}
 use Rattle.progress.proofs.ReaderOthers.{begins_nothing, others}
 use Rattle.progress.proofs.ReaderRounds.{last_begun, last_cases, next_of}
 use Rattle.progress.proofs.meetings.Own.{moment_of}

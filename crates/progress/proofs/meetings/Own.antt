@@ -1,28 +1,23 @@
 -- A writer is paid for after its own step.
-use Rattle.std.proofs.Common.{◌≡◌, ◌<◌, ◌≤◌, ◌++◌, ◌⊎◌, ℕ, List, [], ◌∷◌, length, true, false, cond, Option, None, Some, refl, sym, ap, ◌∙◌, inl, inr, arith}
-use Rattle.std.specs.Prelude.{◌==◌}
-use Rattle.progress.proofs.Words.{IsSome, slice_get_below, cases_lt, same_Some, Limits, is_writer, Reply, Answer, StepOf, Record, Entry, Step, Knowledge}
-use Rattle.progress.proofs.Words.{knows, Recalled, recalls, pushed_length, Hand, State, Begun, Epoch, Enter, Read, Write, Change, Leave, Task, is_leaving}
-use Rattle.progress.proofs.Words.{IsDirect, IsState, command_at, wanted_by, IsActorWith, UnderWay}
-use Rattle.std.proofs.Math.Bool.{and-false}
+use Rattle.progress.proofs.Words.{◌≡◌, ◌<◌, ◌≤◌, ◌++◌, ◌⊎◌, ℕ, List, [], ◌∷◌, length, true, false, cond, Option, None, Some, refl, sym, ap, ◌∙◌, inl, inr, arith, ◌==◌, IsSome, slice_get_below}
+use Rattle.progress.proofs.Words.{cases_lt, same_Some, Limits, is_writer, Reply, Answer, StepOf, Record, Entry, Step, Knowledge, knows, Recalled, recalls, pushed_length, Hand, State, Begun}
+use Rattle.progress.proofs.Words.{Epoch, Enter, Read, Write, Change, Leave, Task, is_leaving, IsDirect, IsState, command_at, wanted_by, IsActorWith, UnderWay, and-false, May, Fits, WriteRound}
+use Rattle.progress.proofs.Words.{ShowsState, PaysForWriter, PaysMeets, PaysWriter, InRound, IsLawfulWriting, StepsOn, WriterMoment, WriterState, meets, meets_at}
 use Rattle.bw_model.specs.declared.step.Step.TheVariants as step_of
-use Rattle.traces.specs.discipline.Discipline.{May}
-use Rattle.traces.specs.discipline.Fitting.{Fits}
 use Rattle.traces.specs.discipline.Recalled.{recall}
-use Rattle.round_model.specs.WriteRounds.{WriteRound, wanted_step}
+use Rattle.round_model.specs.WriteRounds.{wanted_step}
 use Rattle.change_machine.specs.Changes.{Change as ChangeOf, wanted_at as wanted_of_change}
 use Rattle.op_machine.specs.machine.Actors.{command_left, knows_then}
 use Rattle.op_machine.specs.machine.Ops.{HoldsLimbo, Op, asked_by, wanted_of}
 use Rattle.op_machine.specs.machine.RoundSteps.{StepsInRound}
-use Rattle.op_machine.specs.machine.Shows.{ShowsState, wanted_at}
+use Rattle.op_machine.specs.machine.Shows.{wanted_at}
 use Rattle.op_machine.specs.machine.UnderWay.{StepsAt}
 use Rattle.sweep.specs.Sweeps.{Sweep, wanted_step as wanted_of_sweep, wanted_at as wanted_in_sweep}
 use Rattle.sweep.specs.declared.sweep.State.{State as SweepState}
 use Rattle.sweep.specs.declared.sweep.State.TheVariants as sweep_state
 use Rattle.epochs.specs.declared.item.Reuse.TheVariants.{Rows, Pids}
 use Rattle.tree_law.specs.TraceLaws.{AnswersFit}
-use Rattle.progress.specs.WriterStates.{MeetsAt, PaysForWriter, PaysMeets, PaysWriter, WriterStepsArePaid}
-use Rattle.progress.specs.WritersAmong.{InRound, IsLawfulWriting, StepsOn, WriterMoment, WriterState, meets, meets_at}
+use Rattle.progress.specs.WriterStates.{MeetsAt, WriterStepsArePaid}
 use Rattle.progress.proofs.ReaderRounds.{last_cases, next_of}
 use Rattle.progress.proofs.ReaderSteps.{asked_last, going, no_sweep}
 use Rattle.progress.proofs.meetings.Pays.{goes_on, pays_end, pays_kept, pays_less, writer_fresh}

@@ -1,21 +1,14 @@
 -- Whatever was removed, what hinders an operation pays for its steps, where writers meet what is gone seldom.
-use Rattle.std.proofs.Common.{◌≡◌, ◌<◌, ◌≤◌, ◌+◌, ◌-◌, ◌*◌, ℕ, zero, suc, List, [], ◌∷◌, Option, Some, Bool, true, false, cond, length, refl, sym, ap, subst, ◌∙◌, inl, inr, arith}
-use Rattle.progress.proofs.Words.{◌||◌, if◌then◌else◌, Command, add-mul, mul-le-mul_left, All, IsStrictlyIncreasing, count_by, slice_get}
-use Rattle.progress.proofs.Words.{slice_range, Limits, is_writer, Answer, StepOf, Number, Whether, either}
-use Rattle.progress.proofs.Words.{Memory, Record, Entry, Step, cause_worth, IsRun, Happens, memory_at, IsCause, IsDirect, IsOperation, IsOwnStep}
-use Rattle.progress.proofs.Words.{Operation, TakesOwnStep}
-use Rattle.progress.proofs.Words.{AreAmong, ChangesTree, steps_from, one_memory}
+use Rattle.progress.proofs.Words.{◌≡◌, ◌<◌, ◌≤◌, ◌+◌, ◌-◌, ◌*◌, ℕ, zero, suc, List, [], ◌∷◌, Option, Some, Bool, true, false, cond, length, refl, sym, ap, subst, ◌∙◌, inl, inr, arith, ◌||◌}
+use Rattle.progress.proofs.Words.{if◌then◌else◌, Command, add-mul, mul-le-mul_left, All, IsStrictlyIncreasing, count_by, slice_get, slice_range, Limits, is_writer, Answer, StepOf, Number}
+use Rattle.progress.proofs.Words.{Whether, either, Memory, Record, Entry, Step, cause_worth, IsRun, Happens, memory_at, IsCause, IsDirect, IsOperation, IsOwnStep, Operation, TakesOwnStep}
+use Rattle.progress.proofs.Words.{AreAmong, ChangesTree, steps_from, one_memory, All-head, All-tail, ◌&&◌, Content, Exchange, ReadersEnd, MeetsSeldom, hindrance_worth, meets, meets_at}
 use Rattle.std.proofs.Math.Nat.{mul-le-mul_right, mul_assoc}
-use Rattle.std.proofs.lemmas.List.Elements.{All-from_recursion, All-head, All-tail}
+use Rattle.std.proofs.lemmas.List.Elements.{All-from_recursion}
 use Rattle.std.specs.List.{AllByRecursion}
-use Rattle.std.specs.Prelude.{◌&&◌}
-use Rattle.bw_model.specs.declared.step.Answer.TheVariants.{Content}
-use Rattle.bw_model.specs.declared.step.Step.TheVariants.{Exchange, Row, Slot}
+use Rattle.bw_model.specs.declared.step.Step.TheVariants.{Row, Slot}
 use Rattle.deltas.specs.declared.record.Record.TheVariants as delta
-use Rattle.linearization.specs.ReadersEnd.{ReadersEnd}
-use Rattle.progress.specs.Writers.{MeetsSeldom}
-use Rattle.linearization.specs.Whole.{hindrance_worth, most_meets, most_worth}
-use Rattle.progress.specs.WritersAmong.{meets, meets_at}
+use Rattle.linearization.specs.Whole.{most_meets, most_worth}
 use Rattle.progress.proofs.Counted.{AreDistinct, Each, IsNotAmong}
 use Rattle.progress.proofs.Hindering.{beside, both_at_most, changes_at, changes_by, beside_by, hinder, is_change, takes_beside}
 use Rattle.progress.proofs.Numbered.{IsIn}

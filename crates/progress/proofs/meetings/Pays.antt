@@ -1,13 +1,11 @@
 -- What changes of the tree pay for of what a writer meets, after one entry more.
-use Rattle.std.proofs.Common.{◌≡◌, ◌<◌, ◌≤◌, ◌+◌, ◌-◌, ◌*◌, ◌++◌, ℕ, suc, List, [], ◌∷◌, length, drop, Bool, true, false, cond, refl, sym, ap, ◌∙◌, arith}
-use Rattle.std.specs.Prelude.{◌==◌}
-use Rattle.std.proofs.lemmas.List.{drop-append-le, drop_all}
-use Rattle.progress.proofs.Words.{either, Memory, add-mul, if◌then◌else◌, All-push, count_by, Limits, Entry, Happens, memory_of}
-use Rattle.progress.proofs.Words.{increasing_push, pushed_length, ChangesTree, IsState, changes_tree}
-use Rattle.std.proofs.Math.Bool.{and-false}
+use Rattle.progress.proofs.Words.{◌≡◌, ◌<◌, ◌≤◌, ◌+◌, ◌-◌, ◌*◌, ◌++◌, ℕ, suc, List, [], ◌∷◌, length, drop, Bool, true, false, cond, refl, sym, ap, ◌∙◌, arith, ◌==◌, drop-append-le, either}
+use Rattle.progress.proofs.Words.{Memory, add-mul, if◌then◌else◌, All-push, count_by, Limits, Entry, Happens, memory_of, increasing_push, pushed_length, ChangesTree, IsState, changes_tree}
+use Rattle.progress.proofs.Words.{and-false, PaysForWriter, PaysMeets, few_meets, IsLawfulWriting, WriterMoment, WriterState, meets_at}
+use Rattle.std.proofs.lemmas.List.{drop_all}
 use Rattle.traces.proofs.TraceLaws.{Happens-last}
-use Rattle.progress.specs.WriterStates.{MeetsFewer, PaysForWriter, PaysMeets}
-use Rattle.progress.specs.WritersAmong.{few_meets, IsLawfulWriting, WriterMoment, WriterState, changes_among, meets_at, own_meets}
+use Rattle.progress.specs.WriterStates.{MeetsFewer}
+use Rattle.progress.specs.WritersAmong.{changes_among, own_meets}
 use Rattle.progress.proofs.ReaderPays.{change_is, changes_kept, count_push, kept_enough}
 use Rattle.progress.proofs.meetings.Among.{writers_meet_few}
 use Rattle.progress.proofs.rounds.Counts.{many}

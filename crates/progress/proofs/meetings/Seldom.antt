@@ -1,16 +1,15 @@
 -- Writers have met what is gone seldom still with one entry more.
-use Rattle.std.proofs.Common.{◌≡◌, ◌<◌, ◌≤◌, ◌+◌, ◌-◌, ◌*◌, ◌++◌, ℕ, suc, List, [], ◌∷◌, length, drop, Bool, true, cond, Option, None, Some, sym, ap, subst, ◌∙◌, inl, inr, arith}
-use Rattle.progress.proofs.Words.{cases_lt, All, IsStrictlyIncreasing, count_by, slice_get, slice_range, Limits, is_writer, Reply, Answer, StepOf, Record, Entry, Begin, Step, Happens}
-use Rattle.progress.proofs.Words.{Happens-kept, wanted_by, UnderWay, IsDirect, IsOperation, IsOwnStep, Operation, AreAmong, ChangesTree, IsLast, IsState}
+use Rattle.progress.proofs.Words.{◌≡◌, ◌<◌, ◌≤◌, ◌+◌, ◌-◌, ◌*◌, ◌++◌, ℕ, suc, List, [], ◌∷◌, length, drop, Bool, true, cond, Option, None, Some, sym, ap, subst, ◌∙◌, inl, inr, arith, cases_lt}
+use Rattle.progress.proofs.Words.{All, IsStrictlyIncreasing, count_by, slice_get, slice_range, Limits, is_writer, Reply, Answer, StepOf, Record, Entry, Begin, Step, Happens, Happens-kept}
+use Rattle.progress.proofs.Words.{wanted_by, UnderWay, IsDirect, IsOperation, IsOwnStep, Operation, AreAmong, ChangesTree, IsLast, IsState, pushed_length, slice_get_below, PaysMeets}
+use Rattle.progress.proofs.Words.{PaysWriter, MeetsSeldom, few_meets, meets_at}
 use Rattle.std.proofs.lemmas.List.{take_all, take_rest}
-use Rattle.traces.proofs.Pushes.{pushed_length, slice_get_below, take-push}
+use Rattle.traces.proofs.Pushes.{take-push}
 use Rattle.tree_law.specs.TraceLaws.{Opens}
 use Rattle.tree_law.proofs.trace.Owned.{operation_old, step_below, step_cases}
 use Rattle.tree_law.specs.Direct.{IsDirectState}
-use Rattle.progress.specs.WriterStates.{BeginsKeepWriters, IsWritersState, PaysMeets, PaysWriter, StepsKeepWriters}
-use Rattle.progress.specs.Writers.{MeetsSeldom}
+use Rattle.progress.specs.WriterStates.{BeginsKeepWriters, IsWritersState, StepsKeepWriters}
 use Rattle.linearization.specs.Whole.{most_meets}
-use Rattle.progress.specs.WritersAmong.{few_meets, meets_at}
 use Rattle.progress.proofs.ReaderStates.{range_kept}
 use Rattle.progress.proofs.Tallies.{one_at_most, counted_range, passes, passes_in, tally, tally_none, tally_split}
 use Rattle.progress.proofs.meetings.Own.{paid_some}

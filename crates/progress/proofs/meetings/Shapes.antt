@@ -1,12 +1,11 @@
 -- Which steps of a change lose: the exchange that decides alone.
-use Rattle.std.proofs.Common.{◌≡◌, ◌<◌, ◌⊎◌, ℕ, zero, suc, Bool, true, false, Option, None, Some, refl, sym, ap, ◌∙◌, inl, inr, arith}
-use Rattle.progress.proofs.Words.{is_some, Limits, Answer, Whether, Exchange, Record, Knowledge, Recalled, Task}
-use Rattle.std.specs.Prelude.{IfSome, unwrap_or, not}
-use Rattle.structure_changes.specs.Plans.{cleared_page, cleared_row, clears, head_of, needs_pid, slot_of}
-use Rattle.structure_changes.specs.declared.plan.Plan.{Plan}
+use Rattle.progress.proofs.Words.{◌≡◌, ◌<◌, ◌⊎◌, ℕ, zero, suc, Bool, true, false, Option, None, Some, refl, sym, ap, ◌∙◌, inl, inr, arith, is_some, Limits, Answer, Whether, Exchange, Record}
+use Rattle.progress.proofs.Words.{Knowledge, Recalled, Task, IfSome, not, head_of, slot_of, Plan, May, Fits, meets}
+use Rattle.std.specs.Prelude.{unwrap_or}
+use Rattle.structure_changes.specs.Plans.{cleared_page, cleared_row, clears, needs_pid}
 use Rattle.structure_changes.specs.declared.plan.Plan.TheVariants as plan_is
-use Rattle.traces.specs.discipline.Discipline.{May, MayExchange}
-use Rattle.traces.specs.discipline.Fitting.{Fits, FitsExchange, ReadsRemoved}
+use Rattle.traces.specs.discipline.Discipline.{MayExchange}
+use Rattle.traces.specs.discipline.Fitting.{FitsExchange, ReadsRemoved}
 use Rattle.traces.specs.discipline.Knowledge.{Gone, Ready}
 use Rattle.change_machine.specs.Changes.{AreEnough, Change, IsSoundState, MayLinkAs, ShowsState, StandsReady, base_row, linked_number, record_row, wanted_at}
 use Rattle.change_machine.specs.Spares.{IsUnlinked, Spares, pid_of}
@@ -19,7 +18,7 @@ use Rattle.change_machine.specs.declared.taking.Taking.TheVariants.{Bits, Take}
 use Rattle.change_machine.proofs.Following.{record_is}
 use Rattle.op_machine.specs.machine.Shows.{IsInChange}
 use Rattle.op_parts.specs.declared.then.Then.{Then}
-use Rattle.progress.specs.WritersAmong.{Decides, meets}
+use Rattle.progress.specs.WritersAmong.{Decides}
 
 -- what an exchange is told that it has to win
 calm_exchange : (limits : Limits) (k : Knowledge) (slot old new : ℕ) (answer : Answer Record) → Fits limits k (Exchange slot old new) answer

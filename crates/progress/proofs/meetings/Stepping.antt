@@ -1,23 +1,19 @@
 -- A step of a writer while nobody changes the tree: how often it meets pages that are gone from there on.
-use Rattle.std.proofs.Common.{◌≡◌, ◌<◌, ◌≤◌, ◌+◌, ◌-◌, ◌⊎◌, ◌++◌, append_assoc, ℕ, suc, List, [], ◌∷◌, length, Bool, true, false, cond, Option, None, Some, refl, sym, ap, subst, ◌∙◌, inl, inr, arith}
-use Rattle.progress.proofs.Words.{⊤, IsTrue, ◌==◌, Answer, Number, StepOf, Record, IsChainFrom, IsPageChain, is_below, is_removed, low_in, Version, Key}
-use Rattle.progress.proofs.Words.{IsAnswer, Memory, WayState, Root, Page, Visit, VisitState, Sight, Empty, Whole, to_page, by_step, same_page, eqb_tells, either}
+use Rattle.progress.proofs.Words.{◌≡◌, ◌<◌, ◌≤◌, ◌+◌, ◌-◌, ◌⊎◌, ◌++◌, append_assoc, ℕ, suc, List, [], ◌∷◌, length, Bool, true, false, cond, Option, None, Some, refl, sym, ap, subst, ◌∙◌, inl}
+use Rattle.progress.proofs.Words.{inr, arith, ⊤, IsTrue, ◌==◌, Answer, Number, StepOf, Record, IsChainFrom, IsPageChain, is_below, is_removed, low_in, Version, Key, IsAnswer, Memory, WayState}
+use Rattle.progress.proofs.Words.{Root, Page, Visit, VisitState, Sight, Empty, Whole, to_page, by_step, same_page, eqb_tells, either, Content, IsFitted, WriteGoal, Merge, Unterm, Responds}
+use Rattle.progress.proofs.Words.{Sees, Slot, Row, WriteEnd, WriteRound, above_empty, AtChange, InRound, WriterState, meets}
 use Rattle.progress.proofs.Tallies.{one_at_most}
-use Rattle.bw_model.specs.declared.step.Answer.TheVariants.{Content}
 use Rattle.bw_model.specs.declared.step.Step.TheVariants as step
-use Rattle.traces.specs.chain.Fitted.{IsFitted}
 use Rattle.traces.specs.discipline.Recalled.{is_removal}
-use Rattle.round_model.specs.Courses.{WriteGoal, Seek, Left, Merge, Unterm}
-use Rattle.round_model.specs.Rounds.{Responds, Sees}
-use Rattle.round_model.specs.Visits.{Completes, Continues, FindsHead, Slot, Row}
+use Rattle.round_model.specs.Courses.{Seek, Left}
+use Rattle.round_model.specs.Visits.{Completes, Continues, FindsHead}
 use Rattle.round_model.specs.Visits as page
-use Rattle.round_model.specs.WriteEnds.{WriteEnd}
 use Rattle.round_model.specs.WriteEnds as end
 use Rattle.round_model.specs.WriteResponses.{TreatsWrite, writing}
-use Rattle.round_model.specs.WriteRounds.{WriteRound, at, wanted_step, write_way}
-use Rattle.round_model.proofs.PageLaws.{above_empty}
+use Rattle.round_model.specs.WriteRounds.{at, wanted_step, write_way}
 use Rattle.round_model.proofs.WayLaws.{lowest}
-use Rattle.progress.specs.WritersAmong.{AfterRound, AtChange, BeginsRound, InRound, WriterState, meets}
+use Rattle.progress.specs.WritersAmong.{AfterRound, BeginsRound}
 use Rattle.progress.proofs.rounds.Pages.{Standing, live, root_clear}
 use Rattle.progress.proofs.rounds.Visiting.{GoesOn, IsLeft, finds, goes_on, heads, not_empty, visits}
 use Rattle.progress.proofs.meetings.Gone.{gone_read, has_removal, last_stands, once_next, owed, owed_next}

@@ -1,13 +1,8 @@
 -- Where a writer's operation stands, and how it goes on there by what it makes of an answer.
-use Rattle.std.proofs.Common.{◌≡◌, ◌⊎◌, ℕ, Bool, true, false, Option, None, Some, refl, sym, ap, ◌∙◌, inl, inr}
-use Rattle.progress.proofs.Words.{either, Limits, Answer, StepOf, Record, Knowledge, Recalled, is_leaving, State, Write, Change, Task}
-use Rattle.structure_changes.specs.Plans.{head_of, slot_of}
-use Rattle.structure_changes.specs.declared.plan.Plan.{Plan}
-use Rattle.traces.specs.discipline.Discipline.{May}
-use Rattle.traces.specs.discipline.Fitting.{Fits}
-use Rattle.round_model.specs.WriteEnds.{WriteEnd}
+use Rattle.progress.proofs.Words.{◌≡◌, ◌⊎◌, ℕ, Bool, true, false, Option, None, Some, refl, sym, ap, ◌∙◌, inl, inr, either, Limits, Answer, StepOf, Record, Knowledge, Recalled, is_leaving}
+use Rattle.progress.proofs.Words.{State, Write, Change, Task, head_of, slot_of, Plan, May, Fits, WriteEnd, WriteRound, AtChange, InRound, StepsOn, WriterState, meets}
 use Rattle.round_model.specs.WriteEnds as end
-use Rattle.round_model.specs.WriteRounds.{WriteRound, wanted_step}
+use Rattle.round_model.specs.WriteRounds.{wanted_step}
 use Rattle.change_machine.specs.Changes.{CanDecide, Change as ChangeOf, has_decided, wanted_at}
 use Rattle.change_machine.specs.Spares.{Spares}
 use Rattle.change_machine.specs.declared.change.State.{State as StateOf}
@@ -17,7 +12,7 @@ use Rattle.op_machine.specs.machine.RoundSteps as op
 use Rattle.op_machine.specs.machine.RoundSteps.{StepsChanging, StepsWriting}
 use Rattle.op_machine.specs.machine.Shows.{IsInChange}
 use Rattle.op_parts.specs.declared.then.Then.{Then}
-use Rattle.progress.specs.WritersAmong.{AfterRound, AtChange, BeginsRound, HasDecided, InRound, StepsOn, WriterState, meets}
+use Rattle.progress.specs.WritersAmong.{AfterRound, BeginsRound, HasDecided}
 use Rattle.progress.proofs.meetings.Shapes.{calm, decides}
 
 abbrev pub change_at : ChangeOf → WriterState

@@ -1,11 +1,10 @@
 -- What a reader's round reads is as in the memory in which its steps are counted.
-use Rattle.progress.proofs.Words.{◌≡◌, ◌⊎◌, ◌++◌, ℕ, List, [], ◌∷◌, Option, Some, refl, sym, ap, ◌∙◌, inl, inr, Limits, Answer, Number, Memory, Record, IsChainFrom, IsChainOf}
-use Rattle.progress.proofs.Words.{level_in, low_in, Entry, Knowledge, knows, Recalled, IsAnswer, memory_of, IsChainFrom-unique, WayState, Root, Page, ReadGoal, Leg, Down, Round, Past}
-use Rattle.progress.proofs.Words.{IsOnWay, Key, IsInTree, IsState}
+use Rattle.progress.proofs.Words.{◌≡◌, ◌⊎◌, ◌++◌, ℕ, List, [], ◌∷◌, Option, Some, refl, sym, ap, ◌∙◌, inl, inr, Limits, Answer, Number, Memory, Record, IsChainFrom, IsChainOf, level_in, low_in}
+use Rattle.progress.proofs.Words.{Entry, Knowledge, knows, Recalled, IsAnswer, memory_of, IsChainFrom-unique, WayState, Root, Page, ReadGoal, Leg, Down, Round, Past, IsOnWay, Key, IsInTree}
+use Rattle.progress.proofs.Words.{IsState, ReadRound, wanted_step, Slot, Row, Visit, VisitState}
 use Rattle.round_model.specs.Descents as way
-use Rattle.round_model.specs.ReadRounds.{ReadRound, ShowsState, ShowsVisit, wanted_step}
+use Rattle.round_model.specs.ReadRounds.{ShowsState, ShowsVisit}
 use Rattle.round_model.specs.ReadRounds as read
-use Rattle.round_model.specs.Visits.{Slot, Row, Visit, VisitState}
 use Rattle.round_model.specs.Visits as seen
 use Rattle.progress.proofs.rounds.Known.{expected_reached, read_front}
 use Rattle.progress.proofs.rounds.Pages.{Standing}

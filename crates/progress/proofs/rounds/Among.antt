@@ -1,16 +1,15 @@
 -- A reader's steps among the entries of others that change the tree.
-use Rattle.std.proofs.Common.{◌≡◌, ◌<◌, ◌≤◌, ◌+◌, ◌*◌, ◌⊎◌, ◌++◌, ℕ, zero, suc, List, [], ◌∷◌, length, Bool, true, false, cond, Option, Some, None, refl, sym, ap, subst, ◌∙◌, inl, inr, arith}
-use Rattle.progress.proofs.Words.{add-mul, suc-mul, eqb_tells, length-append, if◌then◌else◌, Limits, Answer, StepOf, either, Memory, Record, Entry, Begin, Step, knows, Recalled, IsNext}
+use Rattle.progress.proofs.Words.{◌≡◌, ◌<◌, ◌≤◌, ◌+◌, ◌*◌, ◌⊎◌, ◌++◌, ℕ, zero, suc, List, [], ◌∷◌, length, Bool, true, false, cond, Option, Some, None, refl, sym, ap, subst, ◌∙◌, inl, inr}
+use Rattle.progress.proofs.Words.{arith, add-mul, suc-mul, eqb_tells, length-append, if◌then◌else◌, Limits, Answer, StepOf, either, Memory, Record, Entry, Begin, Step, knows, Recalled, IsNext}
 use Rattle.progress.proofs.Words.{IsAnswer, memory_of, WayState, Root, Page, ReadEnd, Again, Removed, Leaf, Beside, ReadGoal, Leg, Visit, VisitState, by_step, first_read, read_left_of}
-use Rattle.progress.proofs.Words.{is_leaving, AfterReading, State, Read, Task, is_step_of, IsState, ReadsIn, one_walk}
+use Rattle.progress.proofs.Words.{is_leaving, AfterReading, State, Read, Task, is_step_of, IsState, ReadsIn, one_walk, ReadRound, at, reading, wanted_step, Responds, IsLawfulMoment, IsOthers}
+use Rattle.progress.proofs.Words.{Moment, all_changes, changes_tree, own_steps, IsRoundIn, IsStateIn, IsVisitIn}
 use Rattle.bw_model.specs.declared.step.Step.TheVariants.{Row, Slot}
 use Rattle.round_model.specs.Descents as way
-use Rattle.round_model.specs.ReadRounds.{ReadRound, at, reading, wanted_step}
 use Rattle.round_model.specs.ReadRounds as read
-use Rattle.round_model.specs.Rounds.{Responds}
 use Rattle.round_model.specs.Visits as seen
-use Rattle.progress.specs.ReadersAmong.{AreLawful, IsLawfulMoment, IsOtherMoment, IsOthers, IsOwnMoment, Moment, ReadersEndAmongChanges, all_changes, changes_tree, own_steps}
-use Rattle.progress.specs.RoundsIn.{IsReadIn, IsRoundIn, IsStateIn, IsVisitIn}
+use Rattle.progress.specs.ReadersAmong.{AreLawful, IsOtherMoment, IsOwnMoment, ReadersEndAmongChanges}
+use Rattle.progress.specs.RoundsIn.{IsReadIn}
 use Rattle.progress.proofs.Tallies.{one_at_most}
 use Rattle.progress.proofs.rounds.Agreeing.{answer_same}
 use Rattle.progress.proofs.rounds.Counts.{many}

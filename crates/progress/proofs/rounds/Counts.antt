@@ -1,6 +1,6 @@
 -- How many elements of a list pass a test.
-use Rattle.progress.proofs.Words.{◌≡◌, ◌<◌, ◌≤◌, ◌+◌, ℕ, zero, suc, List, [], ◌∷◌, Bool, true, false, cond, length, refl, ap, ◌∙◌, inl, inr, arith, cases_lt, ◌||◌, Contains}
-use Rattle.std.proofs.lemmas.Bool.{or_left, or_right, or_cases}
+use Rattle.progress.proofs.Words.{◌≡◌, ◌<◌, ◌≤◌, ◌+◌, ℕ, zero, suc, List, [], ◌∷◌, Bool, true, false, cond, length, refl, ap, ◌∙◌, inl, inr, arith, cases_lt, ◌||◌, Contains, or_left, or_right}
+use Rattle.std.proofs.lemmas.Bool.{or_cases}
 use Rattle.progress.proofs.Tallies.{one_at_most}
 
 abbrev pub many : {X : Type 0} → (X → Bool) → List X → ℕ

@@ -1,8 +1,8 @@
 -- Ways of keys: where one key is on a way, each key below it is.
-use Rattle.std.proofs.Common.{◌≡◌, List, Bool, true, false, Option, Some, None, refl, sym, ◌∙◌}
-use Rattle.progress.proofs.Words.{IsTrue, is_below, not_true, Record, covers, high_in, low_in, StaysLeft, precedes, reaches, by_below, covers_from, covers_to, upto_below, upto_trans}
+use Rattle.progress.proofs.Words.{◌≡◌, List, Bool, true, false, Option, Some, None, refl, sym, ◌∙◌, IsTrue, is_below, not_true, Record, covers, high_in, low_in, StaysLeft, precedes, reaches}
+use Rattle.progress.proofs.Words.{by_below, covers_from, covers_to, upto_below, upto_trans, IsUpTo, Key}
 use Rattle.std.proofs.lemmas.Bool.{not_from_false}
-use Rattle.tree_law.specs.Keys.{IsUnder, IsUpTo, Key}
+use Rattle.tree_law.specs.Keys.{IsUnder}
 
 abbrev pub IsWay : (Key → Bool) → Type 0
 IsWay way = (a b : Key) → way b ≡ true → IsUpTo a b → way a ≡ true

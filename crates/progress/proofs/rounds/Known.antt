@@ -1,22 +1,22 @@
 -- Where a reader's round stands in the memory of a state, by what its actor knows.
-use Rattle.std.proofs.Common.{◌≡◌, ◌<◌, ◌≤◌, ◌⊎◌, ◌++◌, ℕ, zero, suc, List, [], Bool, true, false, Some, None, refl, sym, ap, ◌∙◌, inl, inr, arith}
-use Rattle.progress.proofs.Words.{IsTrue, Limits, Child, Memory, Record, IsPageChain, Entry, Knowledge, knows, memory_of, IsChainFrom-unique, same_page, Version, Key}
-use Rattle.progress.proofs.Words.{HasWholeTree, IsState, phase_of, covers_from, KeepsItsPlace, IsPlace, NamesPlaces}
+use Rattle.progress.proofs.Words.{◌≡◌, ◌<◌, ◌≤◌, ◌⊎◌, ◌++◌, ℕ, zero, suc, List, [], Bool, true, false, Some, None, refl, sym, ap, ◌∙◌, inl, inr, arith, IsTrue, Limits, Child, Memory, Record}
+use Rattle.progress.proofs.Words.{IsPageChain, Entry, Knowledge, knows, memory_of, IsChainFrom-unique, same_page, Version, Key, HasWholeTree, IsState, phase_of, covers_from, KeepsItsPlace}
+use Rattle.progress.proofs.Words.{IsPlace, NamesPlaces, IsChainFrom, content_in, covers, is_removed, level_in, low_in, right_in, shared_part, slot_some}
 use Rattle.linearization.specs.Phases as phase
-use Rattle.traces.specs.chain.Chains.{IsChainFrom, IsFront, content_in, covers, is_removed, level_in, low_in, right_in}
+use Rattle.traces.specs.chain.Chains.{IsFront}
 use Rattle.structure_changes.specs.Readings.{HasSeen}
 use Rattle.structure_changes.proofs.Due.{covered}
 use Rattle.round_model.specs.Walks.{IsExpected}
 use Rattle.round_model.specs.Ways.{NamesAt}
 use Rattle.tree_law.specs.Owners.{ChainNames, InOrder, IsOut, OrderFits, Reached}
 use Rattle.tree_law.specs.Phase.{Cleared, Keeps, Nobody, PageOwner, Placed, Stage, rank, rank_of}
-use Rattle.tree_law.specs.Shared.{row_in, shared_part, slot_in}
+use Rattle.tree_law.specs.Shared.{row_in, slot_in}
 use Rattle.tree_law.specs.Tree.{IsOff}
 use Rattle.tree_law.proofs.links.Keeping.{on_or_merged}
 use Rattle.tree_law.proofs.WholeTrees.{listed_tree}
 use Rattle.tree_law.proofs.shape.Chains.{chain_within, front_of}
 use Rattle.tree_law.proofs.shape.Leaves.{not_free}
-use Rattle.tree_law.proofs.shape.Mapping.{chain_at, slot_some}
+use Rattle.tree_law.proofs.shape.Mapping.{chain_at}
 
 -- a slot without a row holds 0
 no_row : (slots : ℕ → ℕ) (page : ℕ) → 0 < page → slot_in slots page ≡ None → slots page ≡ 0

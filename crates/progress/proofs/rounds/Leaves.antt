@@ -1,7 +1,8 @@
 -- Removed leaves, and the leaf to the left of one.
 use Rattle.progress.proofs.Words.{◌≡◌, ◌≢◌, ℕ, List, Bool, true, false, Option, Some, sym, ap, subst, ◌∙◌, IsTrue, Child, either, content_in, covers, high_in, is_removed, low_in, right_in}
-use Rattle.progress.proofs.Words.{LivePage, Record, Version, LeadsRight, StaysLeft, precedes, reaches, IsBelow, IsUpTo, Key, IsPageOn}
-use Rattle.tree_law.proofs.shape.KeyOrder.{below_not, by_below, covers_from, covers_to, not_below, under_trans, upto_both, upto_trans}
+use Rattle.progress.proofs.Words.{LivePage, Record, Version, LeadsRight, StaysLeft, precedes, reaches, IsBelow, IsUpTo, Key, IsPageOn, below_not, by_below, covers_from, covers_to, not_below}
+use Rattle.progress.proofs.Words.{upto_both, upto_trans}
+use Rattle.tree_law.proofs.shape.KeyOrder.{under_trans}
 use Rattle.progress.proofs.rounds.KeyWays.{precedes_is_way, reaches_is_way, within}
 use Rattle.progress.proofs.rounds.Measures.{none_after, removed_after}
 use Rattle.progress.proofs.rounds.Pages.{On, Standing, Under, chain_on, live, low_of, one_child, right, same_pid, some_of, term_of}

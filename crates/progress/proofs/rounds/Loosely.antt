@@ -1,8 +1,8 @@
 -- What a round makes of a page that began in an earlier memory: it comes to a place, with fewer pages left, or it ends.
-use Rattle.std.proofs.Common.{◌≡◌, ◌<◌, ◌≤◌, ◌+◌, ◌⊎◌, ℕ, zero, suc, List, Bool, true, false, Option, Some, None, refl, sym, ap, subst, ◌∙◌, inl, inr, arith}
-use Rattle.progress.proofs.Words.{⊤, Record, is_removed, level_in, low_in, right_in, IsPageChain, LivePage, Version, Page, ReadEnd, Again, Removed, Leaf, Beside, ReadGoal, Left, Beyond, Leg}
-use Rattle.progress.proofs.Words.{Round, Past, below, level_on, IsLeftLeaf, ReadRound, TreatsRead, reading_on_to, left_of, on, read_way, toward, to_page, LeadsDown, LeadsOn, LeadsRight}
-use Rattle.progress.proofs.Words.{reaches, IsBelow, Key, IsPageOn, below_not, below_upto, IsGoalIn, KeepsItsPlace, IsLegIn, IsPlace, NamesPlaces, WasRemovedLeaf}
+use Rattle.progress.proofs.Words.{◌≡◌, ◌<◌, ◌≤◌, ◌+◌, ◌⊎◌, ℕ, zero, suc, List, Bool, true, false, Option, Some, None, refl, sym, ap, subst, ◌∙◌, inl, inr, arith, ⊤, Record, is_removed}
+use Rattle.progress.proofs.Words.{level_in, low_in, right_in, IsPageChain, LivePage, Version, Page, ReadEnd, Again, Removed, Leaf, Beside, ReadGoal, Left, Beyond, Leg, Round, Past, below}
+use Rattle.progress.proofs.Words.{level_on, IsLeftLeaf, ReadRound, TreatsRead, reading_on_to, left_of, on, read_way, toward, to_page, LeadsDown, LeadsOn, LeadsRight, reaches, IsBelow, Key}
+use Rattle.progress.proofs.Words.{IsPageOn, below_not, below_upto, IsGoalIn, KeepsItsPlace, IsLegIn, IsPlace, NamesPlaces, WasRemovedLeaf}
 use Rattle.progress.proofs.rounds.Measures.{left_less, left_more, left_over, left_within, under_all, under_less}
 use Rattle.progress.proofs.rounds.Pages.{On, Standing, chain_on, live, low_of, right, right_above, same_pid}
 use Rattle.progress.proofs.rounds.Places.{Few, below_plain, child_of, few_above, few_any, few_below, first, kept_here, leg_below, leg_level, most, names_above}

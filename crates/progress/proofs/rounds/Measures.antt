@@ -1,11 +1,9 @@
 -- How many pages a round may still come to, and how many removed leaves are ahead.
-use Rattle.progress.proofs.Words.{◌≡◌, ◌<◌, ◌≤◌, ◌+◌, ◌*◌, ℕ, zero, suc, Bool, true, false, refl, sym, ap, ◌∙◌, arith, Contains, is_below, is_removed, level_in}
-use Rattle.progress.proofs.Words.{LivePage, reaches, IsBelow, Key}
+use Rattle.progress.proofs.Words.{◌≡◌, ◌<◌, ◌≤◌, ◌+◌, ◌*◌, ℕ, zero, suc, Bool, true, false, refl, sym, ap, ◌∙◌, arith, Contains, is_below, is_removed, level_in, LivePage, reaches, IsBelow, Key}
+use Rattle.progress.proofs.Words.{or_left, or_right, not, ◌&&◌, ◌||◌, ◌==◌, either, not_true, below_not, below_upto, not_below, upto_refl}
 use Rattle.progress.proofs.Tallies.{itself}
-use Rattle.std.proofs.lemmas.Bool.{or_left, or_right, not_from_false, or_from, eqb-true}
-use Rattle.std.specs.Prelude.{not, ◌&&◌, ◌||◌, ◌==◌}
-use Rattle.base_page.proofs.KeyLaws.{and_both, and_left, and_right, either, not_true}
-use Rattle.tree_law.proofs.shape.KeyOrder.{below_not, below_upto, not_below, upto_refl}
+use Rattle.std.proofs.lemmas.Bool.{not_from_false, or_from, eqb-true}
+use Rattle.base_page.proofs.KeyLaws.{and_both, and_left, and_right}
 use Rattle.progress.proofs.rounds.Counts.{any, any_in, any_of, has_number, many, many_more, many_none, many_up, many_within, numbers, numbers_length}
 use Rattle.progress.proofs.rounds.Pages.{On, Standing, chain_on, low_of, same_pid}
 

@@ -1,9 +1,9 @@
 -- The pages of a whole tree that a reader's way comes to.
-use Rattle.progress.proofs.Words.{◌≡◌, ◌⊎◌, ℕ, suc, Bool, true, false, Option, Some, refl, sym, ap, ◌∙◌, inl, inr, arith, Contains, IsTrue, IsSome, is_some, Limits, is_below, Child}
-use Rattle.progress.proofs.Words.{either, Memory, IsChainOf, content_in, covers, high_in, is_removed, low_in, LivePage, Version, LeadsDown, LeadsRight, StaysLeft, IsBelow, Key}
-use Rattle.progress.proofs.Words.{IsPageOn, HasWholeTree, IsChildAt, below_not, below_upto, not_below}
+use Rattle.progress.proofs.Words.{◌≡◌, ◌⊎◌, ℕ, suc, Bool, true, false, Option, Some, refl, sym, ap, ◌∙◌, inl, inr, arith, Contains, IsTrue, IsSome, is_some, Limits, is_below, Child, either}
+use Rattle.progress.proofs.Words.{Memory, IsChainOf, content_in, covers, high_in, is_removed, low_in, LivePage, Version, LeadsDown, LeadsRight, StaysLeft, IsBelow, Key, IsPageOn, HasWholeTree}
+use Rattle.progress.proofs.Words.{IsChildAt, below_not, below_upto, not_below, same_page}
 use Rattle.base_page.specs.declared.item.Content.{Content}
-use Rattle.traces.proofs.ChainLaws.{IsChainOf-unique, same_page}
+use Rattle.traces.proofs.ChainLaws.{IsChainOf-unique}
 use Rattle.round_model.proofs.PageLaws.{spans}
 use Rattle.progress.proofs.rounds.KeyWays.{IsWay, within}
 

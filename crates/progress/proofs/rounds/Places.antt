@@ -1,7 +1,6 @@
 -- Pages to which a round may come that began in an earlier memory, and how many are left to it: each twice at most.
-use Rattle.std.proofs.Common.{◌≡◌, ◌<◌, ◌≤◌, ◌+◌, ◌*◌, ◌⊎◌, ℕ, suc, Bool, true, Some, None, inl, inr, arith}
-use Rattle.progress.proofs.Words.{Child, either, IsChainOf, content_in, is_removed, level_in, LivePage, Version, Leg, Down, Round, Past, IsPlain, above_of, below, level_on, IsBelow, Key}
-use Rattle.progress.proofs.Words.{IsPageOn, KeepsItsPlace, IsLegIn, IsPlace, NamesPlaces}
+use Rattle.progress.proofs.Words.{◌≡◌, ◌<◌, ◌≤◌, ◌+◌, ◌*◌, ◌⊎◌, ℕ, suc, Bool, true, Some, None, inl, inr, arith, Child, either, IsChainOf, content_in, is_removed, level_in, LivePage, Version}
+use Rattle.progress.proofs.Words.{Leg, Down, Round, Past, IsPlain, above_of, below, level_on, IsBelow, Key, IsPageOn, KeepsItsPlace, IsLegIn, IsPlace, NamesPlaces}
 use Rattle.progress.proofs.rounds.Measures.{left_few, left_from, left_less, left_more, left_within, under_all, under_few}
 use Rattle.progress.proofs.rounds.Tops.{top_of}
 use Rattle.progress.proofs.rounds.Pages.{On, Standing, chain_on, low_of, same_pid}

@@ -1,10 +1,9 @@
 -- A reader's run in one memory comes to its end, wherever its round stands at first.
-use Rattle.std.proofs.Common.{◌≡◌, ◌<◌, ◌≤◌, ◌+◌, ◌*◌, ◌⊎◌, ◌++◌, ℕ, suc, List, [], ◌∷◌, length, true, Option, Some, None, refl, sym, ◌∙◌, inl, inr, arith}
-use Rattle.progress.proofs.Words.{length-append, ⊤, Limits, Answer, Number, Record, IsChainOf, LivePage, IsAnswer, same_page, Version, WayState, Root, Page, ReadEnd, Again, Removed, Leaf}
-use Rattle.progress.proofs.Words.{Beside, ReadGoal, Seek, Left, Leg, Down, Sight, Empty, Whole, Visit, VisitState, to_page, by_step, first_read, read_left_of, is_leaving, AfterReading}
-use Rattle.progress.proofs.Words.{State, Read, Task, Key, IsPageOn, EndsWithin, IsReaderRun, ReadsIn, IsGoalIn, IsLegIn, IsPlace, IsRoundIn, IsStateIn, IsVisitIn, WasRemovedLeaf}
-use Rattle.round_model.specs.ReadRounds.{ReadRound, at, reading, wanted_step}
-use Rattle.round_model.specs.Rounds.{Responds, Sees}
+use Rattle.progress.proofs.Words.{◌≡◌, ◌<◌, ◌≤◌, ◌+◌, ◌*◌, ◌⊎◌, ◌++◌, ℕ, suc, List, [], ◌∷◌, length, true, Option, Some, None, refl, sym, ◌∙◌, inl, inr, arith, length-append, ⊤, Limits, Answer}
+use Rattle.progress.proofs.Words.{Number, Record, IsChainOf, LivePage, IsAnswer, same_page, Version, WayState, Root, Page, ReadEnd, Again, Removed, Leaf, Beside, ReadGoal, Seek, Left, Leg}
+use Rattle.progress.proofs.Words.{Down, Sight, Empty, Whole, Visit, VisitState, to_page, by_step, first_read, read_left_of, is_leaving, AfterReading, State, Read, Task, Key, IsPageOn}
+use Rattle.progress.proofs.Words.{EndsWithin, IsReaderRun, ReadsIn, IsGoalIn, IsLegIn, IsPlace, IsRoundIn, IsStateIn, IsVisitIn, WasRemovedLeaf, ReadRound, at, reading, wanted_step, Responds}
+use Rattle.progress.proofs.Words.{Sees}
 use Rattle.round_model.specs.Visits as seen
 use Rattle.progress.proofs.rounds.Loosely.{Loose, LooseThen, Moves, Stale, loosely, stalely}
 use Rattle.progress.proofs.rounds.Measures.{all_removed, one_round, times}

@@ -1,8 +1,8 @@
 -- Round a removed index page, to the page on its left, and on from there.
-use Rattle.std.proofs.Common.{◌≡◌, ◌≢◌, ℕ, suc, Bool, true, false, Option, Some, None, sym, ap, ◌∙◌, inl, inr}
-use Rattle.progress.proofs.Words.{IsTrue, either, content_in, covers, is_removed, low_in, right_in, LivePage, Version, left_of, LeadsDown, LeadsRight, StaysLeft, Child, IsBelow}
-use Rattle.progress.proofs.Words.{IsUpTo, Key, IsPageOn, IsChildAt}
-use Rattle.tree_law.proofs.shape.KeyOrder.{below_not, below_upto, by_below, not_below, not_self, upto_below, upto_both}
+use Rattle.progress.proofs.Words.{◌≡◌, ◌≢◌, ℕ, suc, Bool, true, false, Option, Some, None, sym, ap, ◌∙◌, inl, inr, IsTrue, either, content_in, covers, is_removed, low_in, right_in, LivePage}
+use Rattle.progress.proofs.Words.{Version, left_of, LeadsDown, LeadsRight, StaysLeft, Child, IsBelow, IsUpTo, Key, IsPageOn, IsChildAt, below_not, below_upto, by_below, not_below, upto_below}
+use Rattle.progress.proofs.Words.{upto_both}
+use Rattle.tree_law.proofs.shape.KeyOrder.{not_self}
 use Rattle.progress.proofs.rounds.KeyWays.{IsWay, within}
 use Rattle.progress.proofs.rounds.Pages.{Below, Clear, On, Standing, Under, chain_on, down, live, low_of, one_child, right, same_pid, some_of, term_of}
 

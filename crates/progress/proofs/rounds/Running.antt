@@ -1,12 +1,9 @@
 -- A reader's run in one memory comes to its end.
-use Rattle.std.proofs.Common.{◌≡◌, ◌≢◌, ◌<◌, ◌≤◌, ◌+◌, ◌*◌, ◌⊎◌, ℕ, zero, suc, List, [], ◌∷◌, length, Bool, true, Option, Some, None, refl, sym, ◌∙◌, inl, inr, arith}
-use Rattle.progress.proofs.Words.{⊤, Limits, Answer, Number, Record, IsChainFrom, low_in, LivePage, same_page, IsAnswer, Version, WayState, Root, Page, ReadEnd, Again, Removed}
-use Rattle.progress.proofs.Words.{Leaf, Beside, ReadGoal, Seek, Left, Beyond, Leg, Down, Round, Past, Sight, Empty, Whole, Visit, to_page, precedes, reaches, by_step, read_left_of}
-use Rattle.progress.proofs.Words.{is_leaving, AfterReading, State, Read, Task, Key, IsPageOn, EndsWithin, FindsEach, IsReaderRun, ReadsIn, last_round}
-use Rattle.round_model.specs.ReadRounds.{ReadRound, at, read_way, reading, wanted_step}
-use Rattle.round_model.specs.Rounds.{Responds, Sees}
+use Rattle.progress.proofs.Words.{◌≡◌, ◌≢◌, ◌<◌, ◌≤◌, ◌+◌, ◌*◌, ◌⊎◌, ℕ, zero, suc, List, [], ◌∷◌, length, Bool, true, Option, Some, None, refl, sym, ◌∙◌, inl, inr, arith, ⊤, Limits, Answer}
+use Rattle.progress.proofs.Words.{Number, Record, IsChainFrom, low_in, LivePage, same_page, IsAnswer, Version, WayState, Root, Page, ReadEnd, Again, Removed, Leaf, Beside, ReadGoal, Seek, Left}
+use Rattle.progress.proofs.Words.{Beyond, Leg, Down, Round, Past, Sight, Empty, Whole, Visit, to_page, precedes, reaches, by_step, read_left_of, is_leaving, AfterReading, State, Read, Task}
+use Rattle.progress.proofs.Words.{Key, IsPageOn, EndsWithin, FindsEach, IsReaderRun, ReadsIn, last_round, ReadRound, at, read_way, reading, wanted_step, Responds, Sees, above_empty}
 use Rattle.round_model.specs.Visits as page
-use Rattle.round_model.proofs.PageLaws.{above_empty}
 use Rattle.round_model.proofs.WayLaws.{lowest}
 use Rattle.progress.proofs.rounds.Measures.{left_few, left_some, left_within, one_round, removed_after, times}
 use Rattle.progress.proofs.rounds.Pages.{Standing, live, low_of, root_clear}

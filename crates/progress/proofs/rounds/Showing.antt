@@ -1,12 +1,11 @@
 -- A reader's round that shows what its actor knows stands in the memory of the state.
-use Rattle.std.proofs.Common.{◌≡◌, ◌++◌, ℕ, List, false, Option, Some, None, refl}
-use Rattle.progress.proofs.Words.{Limits, Record, is_removed, right_in, Entry, Knowledge, knows, Recalled, Version, WayState, Root, Page, ReadGoal, Seek, Left, Beyond, Leg, Down, Round}
-use Rattle.progress.proofs.Words.{Past, Key, IsState, IsGoalIn, IsLegIn, IsRoundIn, IsStateIn, IsVisitIn, NamesPlaces, WasRemovedLeaf}
-use Rattle.round_model.specs.ReadRounds.{BeginsToRead, IsAbove, IsAside, IsGoneAt, IsOn, KeepsToRead, ReadRound, ShowsState, ShowsVisit, VisitsToRead}
+use Rattle.progress.proofs.Words.{◌≡◌, ◌++◌, ℕ, List, false, Option, Some, None, refl, Limits, Record, is_removed, right_in, Entry, Knowledge, knows, Recalled, Version, WayState, Root, Page}
+use Rattle.progress.proofs.Words.{ReadGoal, Seek, Left, Beyond, Leg, Down, Round, Past, Key, IsState, IsGoalIn, IsLegIn, IsRoundIn, IsStateIn, IsVisitIn, NamesPlaces, WasRemovedLeaf, ReadRound}
+use Rattle.progress.proofs.Words.{Slot, Row, Visit, VisitState, IsOnWay}
+use Rattle.round_model.specs.ReadRounds.{BeginsToRead, IsAbove, IsAside, IsGoneAt, IsOn, KeepsToRead, ShowsState, ShowsVisit, VisitsToRead}
 use Rattle.round_model.specs.ReadRounds as read
-use Rattle.round_model.specs.Visits.{Slot, Row, Visit, VisitState}
 use Rattle.round_model.specs.Visits as seen
-use Rattle.round_model.specs.Walks.{IsAhead, IsOnWay}
+use Rattle.round_model.specs.Walks.{IsAhead}
 use Rattle.progress.proofs.rounds.Known.{WasRead, expected_place, read_beyond, read_front, read_kept, read_names, read_whole, tree}
 
 module _ (limits : Limits) (entries : List Entry) (state : IsState limits entries) (actor : ℕ) where

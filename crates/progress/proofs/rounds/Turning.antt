@@ -1,9 +1,9 @@
 -- What a reader's round makes of a page of the tree: it goes on to a page, or ends at a removed leaf, or at the leaf that it sought.
-use Rattle.std.proofs.Common.{◌≡◌, ◌≢◌, ◌<◌, ◌≤◌, ◌+◌, ◌⊎◌, ℕ, suc, Bool, true, false, Option, Some, None, refl, sym, ap, subst, ◌∙◌, inl, inr, arith}
-use Rattle.progress.proofs.Words.{⊤, HasNoChild, content_in, is_removed, level_in, low_in, right_in, LivePage, Limits, Version, WayState, Page, ReadEnd, Again, Removed, Leaf, Beside}
-use Rattle.progress.proofs.Words.{ReadGoal, Seek, Left, Beyond, Leg, Down, Round, Past, IsPlain, above_of, below, level_on, to_page, LeadsRight, StaysLeft, reaches, IsBelow, Key}
-use Rattle.progress.proofs.Words.{IsPageOn, below_not, below_upto, upto_below, upto_trans, WasRemovedLeaf}
-use Rattle.round_model.specs.ReadRounds.{IsLeftLeaf, IsLost, IsOffLevel, LacksLeft, ReadRound, TreatsRead, reading_on_to, left_of, on, read_way, toward}
+use Rattle.progress.proofs.Words.{◌≡◌, ◌≢◌, ◌<◌, ◌≤◌, ◌+◌, ◌⊎◌, ℕ, suc, Bool, true, false, Option, Some, None, refl, sym, ap, subst, ◌∙◌, inl, inr, arith, ⊤, HasNoChild, content_in, is_removed}
+use Rattle.progress.proofs.Words.{level_in, low_in, right_in, LivePage, Limits, Version, WayState, Page, ReadEnd, Again, Removed, Leaf, Beside, ReadGoal, Seek, Left, Beyond, Leg, Down, Round}
+use Rattle.progress.proofs.Words.{Past, IsPlain, above_of, below, level_on, to_page, LeadsRight, StaysLeft, reaches, IsBelow, Key, IsPageOn, below_not, below_upto, upto_below, upto_trans}
+use Rattle.progress.proofs.Words.{WasRemovedLeaf, IsLeftLeaf, ReadRound, TreatsRead, reading_on_to, left_of, on, read_way, toward}
+use Rattle.round_model.specs.ReadRounds.{IsLost, IsOffLevel, LacksLeft}
 use Rattle.progress.proofs.rounds.KeyWays.{IsWay, precedes_is_way, reaches_is_way}
 use Rattle.progress.proofs.rounds.Leaves.{IsBeyond, IsRemovedLeaf, beside_right, left_stands, none_beyond, of_level, of_term, past_right}
 use Rattle.progress.proofs.rounds.Measures.{after_few, all_removed, fewer_after, left_from, left_less, one_round, removed_after, times, times_up}

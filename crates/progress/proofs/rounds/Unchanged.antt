@@ -1,19 +1,20 @@
 -- What stays of the tree where an entry doesn't change it.
-use Rattle.std.proofs.Common.{◌≡◌, ◌≢◌, ◌<◌, ◌≤◌, ◌⊎◌, ◌++◌, ℕ, suc, List, [], ◌∷◌, length, true, false, Option, Some, None, refl, sym, ap, ◌∙◌, inl, inr, arith}
-use Rattle.progress.proofs.Words.{eqb_tells, MatchOption, Limits, Reply, Answer, Whether, Link, Exchange, Place, Memory, next_row, Record, IsChainFrom, IsChainOf, Entry, Begin, Step}
-use Rattle.progress.proofs.Words.{IsNext, memory_after_entry, memory_at, memory_of, pushed_length, slice_get-push, take-push_whole, IsDirect, IsInPhase, MovesPhase, Phase, free, owned}
-use Rattle.progress.proofs.Words.{takes, splits, becomes_root, terms, under_root, holds, removes, merges, unterms, reuses, shared_part, IsInTree, IsState, phase_of, slot_some}
+use Rattle.progress.proofs.Words.{◌≡◌, ◌≢◌, ◌<◌, ◌≤◌, ◌⊎◌, ◌++◌, ℕ, suc, List, [], ◌∷◌, length, true, false, Option, Some, None, refl, sym, ap, ◌∙◌, inl, inr, arith, eqb_tells, MatchOption}
+use Rattle.progress.proofs.Words.{Limits, Reply, Answer, Whether, Link, Exchange, Place, Memory, next_row, Record, IsChainFrom, IsChainOf, Entry, Begin, Step, IsNext, memory_after_entry}
+use Rattle.progress.proofs.Words.{memory_at, memory_of, pushed_length, slice_get-push, take-push_whole, IsDirect, IsInPhase, MovesPhase, Phase, free, owned, takes, splits, becomes_root, terms}
+use Rattle.progress.proofs.Words.{under_root, holds, removes, merges, unterms, reuses, shared_part, IsInTree, IsState, phase_of, slot_some, Knowledge, knows, Happens-kept, memory_of-push}
+use Rattle.progress.proofs.Words.{link_of, changes_tree}
 use Rattle.progress.proofs.Tallies.{itself}
 use Rattle.bw_model.specs.declared.step.Link.TheVariants as link
-use Rattle.traces.specs.discipline.Knowledge.{Knowledge, Written, knows, knows_after}
-use Rattle.traces.proofs.TraceLaws.{Happens-below, Happens-kept, Happens-push_cases, memory_of-push}
-use Rattle.linearization.specs.Links.{Wins, link_of}
+use Rattle.traces.specs.discipline.Knowledge.{Written, knows_after}
+use Rattle.traces.proofs.TraceLaws.{Happens-below, Happens-push_cases}
+use Rattle.linearization.specs.Links.{Wins}
 use Rattle.tree_law.specs.Owners.{Linked, OwnFits, Reached, Spare}
 use Rattle.tree_law.specs.Phase.{Cleared, Fresh, Keeps, Nobody, PageOwner, Placed, Stage}
 use Rattle.tree_law.proofs.links.Keeping.{slot_of}
 use Rattle.tree_law.proofs.trace.Beginning.{knows-push}
 use Rattle.tree_law.proofs.trace.Names.{placed_at, slot_none}
-use Rattle.progress.specs.ReadersAmong.{changes_tree, is_change}
+use Rattle.progress.specs.ReadersAmong.{is_change}
 use Rattle.progress.proofs.Begun.{one_of}
 use Rattle.progress.proofs.rounds.Pages.{Standing}
 

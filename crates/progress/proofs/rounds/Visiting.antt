@@ -1,8 +1,7 @@
 -- The visit of a page whose chain stands in the memory: it reads one record after another, and finds the whole page.
-use Rattle.std.proofs.Common.{◌≡◌, ◌<◌, ◌++◌, append_assoc, ℕ, suc, List, [], ◌∷◌, length, Some, None, refl, sym, ap, ◌∙◌, inl, inr, arith}
-use Rattle.progress.proofs.Words.{MatchOption, Limits, Answer, Memory, next_row, Record, IsChainFrom, IsChainOf, IsAnswer, Version}
-use Rattle.bw_model.specs.declared.step.Answer.TheVariants.{Number, Content}
-use Rattle.round_model.specs.Visits.{Completes, Continues, FindsHead, Responds, Empty, Whole, Visit, VisitState, Slot, Row, wanted_step}
+use Rattle.progress.proofs.Words.{◌≡◌, ◌<◌, ◌++◌, append_assoc, ℕ, suc, List, [], ◌∷◌, length, Some, None, refl, sym, ap, ◌∙◌, inl, inr, arith, MatchOption, Limits, Answer, Memory, next_row}
+use Rattle.progress.proofs.Words.{Record, IsChainFrom, IsChainOf, IsAnswer, Version, Number, Content, Empty, Whole, Visit, VisitState, Slot, Row}
+use Rattle.round_model.specs.Visits.{Completes, Continues, FindsHead, Responds, wanted_step}
 
 module _ (memory : Memory) where
   -- what is still to be read of the page's chain, and how many steps that takes
