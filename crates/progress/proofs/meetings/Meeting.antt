@@ -248,7 +248,7 @@ module _ (w : Standing) where
     at_left : (pid : ℕ) → IsAtLeft old version pid → IsOnWay (Left pid) old.key old.floor old.parent old.left level (live version) rest × Clear w (precedes old.key) level (live version)
         × ((IsHeld w pid old.key level × (17 ≤ rest + level)) ⊎ (19 ≤ rest)) × StaysLeft (precedes old.key) version.chain
     at_left pid l =
-        let here : At (Left pid) old.key old.floor old.parent old.left level (live version) rest = rw l.goal at at in
+        let here = rw l.goal at at in
         let stays : StaysLeft (precedes old.key) version.chain = rw l.goal at l.here.stays in
         let same : old.floor ≡ level = sym l.level ∙ stands.level_is in
         elim here.is [
@@ -285,13 +285,10 @@ module _ (w : Standing) where
         )
         (one_less rest rest (owed (is_removed r.0.chain) false) some (omega arith) (owed_one (is_removed r.0.chain) false)))
 
-    over_of : (goal : WriteGoal) (parent : Version) → IsAbove (write_way goal old.key) level old.parent → old.parent ≡ Some parent → IsOver (write_way goal old.key) level parent
-    over_of goal parent above e = rw e at above
-
     to_unterm : (new : WriteRound) → GoesToUnterm old version new → MeetsFew new rest
     to_unterm new g =
         let l = at_left g.pid g.left in
-        let over = over_of (Left g.pid) g.parent l.0.over g.above in
+        let over = rw g.above at l.0.over in
         let c = w.tree.child level g.pid (live g.parent) old.key true over.on g.term in
         let some = some_left (elim l.2 [ inl held ↦ inl held.1 | inr spare ↦ inr spare ]) in
         rw g.goes
@@ -308,7 +305,7 @@ module _ (w : Standing) where
     -- no round to the left of a page that has its held term ends below that one's level, or without a change
     too_low : EndsBelow old version → 18 ≤ rest
     too_low g =
-        let here : At (Left g.pid) old.key old.floor old.parent old.left level (live version) rest = rw g.goal at at in
+        let here = rw g.goal at at in
         elim here.is [
           | inl clear ↦ elim clear.1 [
             | inl held ↦ absurd (let low = g.below in let is : level_in version.chain ≡ level = stands.level_is in let up = held.1 in omega (arith, low, is, up))
@@ -332,18 +329,18 @@ module _ (w : Standing) where
             let under = w.tree.below (suc level) held.above held.on in
             omega (arith, top, under)
         by_above (Some parent) e above lacks held =
-            let over = over_of (Left g.pid) parent above e in
+            let over = rw e at above in
             let none : content_in parent.chain old.key ≢ Some (Child g.pid true) = rw e at lacks in
             none (term_in w g.pid old.key level held (live parent) over.on over.stays over.passing)
 
     unmerged : EndsUnmerged old version → 18 ≤ rest
     unmerged g =
-        let here : At (Merge g.left) old.key old.floor old.parent old.left level (live version) rest = rw g.goal at at in
+        let here = rw g.goal at at in
         elim here.1 [ inl can ↦ absurd (g.none (can version refl)) | inr spare ↦ spare ]
 
     uncut : EndsUncut old version → 18 ≤ rest
     uncut g =
-        let here : At (Unterm g.parent g.left) old.key old.floor old.parent old.left level (live version) rest = rw g.goal at at in
+        let here = rw g.goal at at in
         elim here.1 [ inl can ↦ absurd (g.none (can version refl)) | inr spare ↦ spare ]
 
     -- a removed page has its held term
@@ -360,23 +357,17 @@ module _ (w : Standing) where
         ]
 
     -- what is due is due over pages as they were read
-    as_over : (page : Version) → page ≡ version → IsAsRead page
-    as_over page e = subst IsAsRead (sym e) as_read
-
     parent_read : (parent : Version) → SeeksLeaf old.goal → old.parent ≡ Some parent → IsAsRead parent
     parent_read parent seeks e =
         let a = on_way old.goal old.key old.floor old.parent old.left level (live version) rest seeks at in
-        (over_of old.goal parent a.over e).as_read
-
-    by_plan : (plan other : Plan) → plan ≡ other → IsFresh other → IsFresh plan
-    by_plan plan other e is = subst IsFresh (sym e) is
+        (rw e at a.over).as_read
 
     due_is : (change : DueChange) (plan : Plan) (after : After) → IsPlanned change plan after → EndsBy old version change → IsFresh plan
-    due_is (end.Consolidate page base) plan after planned due = by_plan plan _ planned.0 (as_over page due.is, inr page.is_row.0)
+    due_is (end.Consolidate page base) plan after planned due = rw planned.0 (rw due.is as_read, inr page.is_row.0)
     due_is (end.Split page split) plan after planned due =
-        by_plan plan _ planned.0 (ap (λ (v : Version). w.memory.slots v.pid) due.is ∙ as_read ∙ sym due.plan_due.over, inr (rw due.plan_due.over version.is_row.0))
-    due_is (end.Term parent term) plan after planned due = by_plan plan _ planned.0 (parent_read parent due.seeks due.above, inr parent.is_row.0)
-    due_is (end.Root left root) plan after planned due = by_plan plan _ planned.0 (root_read left due.seeks due.above due.aside due.plan.can.lowest, inl refl)
+        rw planned.0 (ap (λ (v : Version). w.memory.slots v.pid) due.is ∙ as_read ∙ sym due.plan_due.over, inr (rw due.plan_due.over version.is_row.0))
+    due_is (end.Term parent term) plan after planned due = rw planned.0 (parent_read parent due.seeks due.above, inr parent.is_row.0)
+    due_is (end.Root left root) plan after planned due = rw planned.0 (root_read left due.seeks due.above due.aside due.plan.can.lowest, inl refl)
       where
         root_read : (left : Version) → SeeksLeaf old.goal → old.parent ≡ None → old.left ≡ Some left → low_in left.chain ≡ [] → w.memory.slots 0 ≡ left.pid
         root_read left seeks above aside_is lowest =
@@ -391,21 +382,21 @@ module _ (w : Standing) where
             let same = w.tree.one w.tree.top w.tree.root.0 (live left) [] w.tree.root.1 on root first in
             sym w.tree.root.2 ∙ ap (λ (p : LivePage). p.pid) same
     due_is (end.Tend parent page upkeep) plan after planned due = elim due.due.due [
-      | inl removes ↦ by_plan plan _ (planned.0 ∙ removes.is) (as_read, inr version.is_row.0)
-      | inr holds ↦ by_plan plan _ (planned.0 ∙ holds.is) (parent_read parent due.here.seeks due.tended.above, inr parent.is_row.0)
+      | inl removes ↦ rw (planned.0 ∙ removes.is) (as_read, inr version.is_row.0)
+      | inr holds ↦ rw (planned.0 ∙ holds.is) (parent_read parent due.here.seeks due.tended.above, inr parent.is_row.0)
     ]
     due_is (end.Merge left removed merge) plan after planned due =
-        let here : At (Merge left) old.key old.floor old.parent old.left level (live version) rest = rw due.goal at at in
-        by_plan plan _ planned.0 (here.0, inr left.is_row.0)
+        let here = rw due.goal at at in
+        rw planned.0 (here.0, inr left.is_row.0)
     due_is (end.Unterm parent left removed unterm) plan after planned due =
-        let here : At (Unterm parent left) old.key old.floor old.parent old.left level (live version) rest = rw due.goal at at in
-        by_plan plan _ planned.0 (here.0, inr parent.is_row.0)
+        let here = rw due.goal at at in
+        rw planned.0 (here.0, inr parent.is_row.0)
 
     at_leaf : (parent : Option Version) (leaf : Version) → EndsFine old version parent leaf → (18 ≤ rest) × IsAsRead leaf × IfSome parent IsAsRead
     at_leaf parent leaf g =
-        let here : At Seek old.key old.floor old.parent old.left level (live version) rest = rw g.seeks at at in
+        let here = rw g.seeks at at in
         elim here.is [
-          | inl clear ↦ (clear.1, as_over leaf g.is, by_above parent g.above)
+          | inl clear ↦ (clear.1, rw g.is as_read, by_above parent g.above)
           | inr under ↦ absurd (clash (is_removed version.chain) under.0.gone g.here.alive)
         ]
       where

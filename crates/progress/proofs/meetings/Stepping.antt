@@ -224,9 +224,6 @@ module _ (w : Standing) (memory : Memory) where
   KeptStale old told new result = (most : ℕ) → IsStale w old.state most → FitsRound memory old.state → IsAnswer memory (wanted_step old) told
       → (left : ℕ) × (left + meets_now (wanted_step old) told ≤ most) × StaleThen w new result left
 
-  at_row : (visit : Visit) (head row : ℕ) → visit.state ≡ Row head row → FitsAt memory visit visit.state → (rest : List Record) × IsChainFrom memory.rows row rest × IsPageChain (visit.part ++ rest)
-  at_row visit head row e f = rw e at f
-
   stale_reads : (old : WriteRound) (visit next : Visit) (told : Answer Record) → page.Responds visit told next None → KeptStale (at old (Page visit)) told (at old (Page next)) None
   stale_reads old visit next told r most few fits answer = elim r [
     | inl f ↦
@@ -236,7 +233,7 @@ module _ (w : Standing) (memory : Memory) where
         let none : meets_now (page.wanted_step visit) told ≡ 0 = rw f.asked (meets_none visit.pid f.row told f.is f.some) in
         (most, omega (arith, none), omega (arith, before, after, few))
     | inr c ↦
-        let rest = at_row visit c.head c.row c.asked fits in
+        let rest = rw c.asked at fits in
         let part : next.part ≡ visit.part ++ c.content ∷ [] = rw c.goes in
         let asked : IsAnswer memory (page.wanted_at visit.pid (Row c.head c.row)) told = rw c.asked at answer in
         let g = goes_on memory visit.limits visit.pid visit.part (visit.part ++ rest.0) (Row c.head c.row) (length rest.0) told next (rest.0, refl, rest.1, refl) asked
@@ -269,7 +266,7 @@ module _ (w : Standing) (memory : Memory) where
       some : 18 ≤ 19
       some = omega arith
   stale_found old visit next (Whole version) new result told r sees most few fits answer =
-      let rest = at_row visit version.head r.row r.asked fits in
+      let rest = rw r.asked at fits in
       let f = finds memory visit next (visit.part ++ rest.0) (length rest.0) told version
       (subst (λ (s : VisitState). IsLeft memory (visit.part ++ rest.0) visit.part s (length rest.0)) (sym r.asked) (rest.0, refl, rest.1, refl)) answer r in
       let none : meets_now (page.wanted_step visit) told ≡ 0 =
@@ -284,19 +281,16 @@ module _ (w : Standing) (memory : Memory) where
           (λ read. absurd (let both : true ≡ false = sym (gone read) ∙ alive in cc))
           (λ unread. ap (λ (b : Bool). cond {A = ℕ} b 1 0) unread)
 
-      on : (new : WriteRound) (goes : WriteRound) (most : ℕ) → new ≡ goes → IsStale w goes.state most → IsStale w new.state most
-      on new goes most e s = rw e s
-
       treated : (old : WriteRound) (visit : Visit) (version : Version) (new : WriteRound) (result : Option WriteEnd) (most : ℕ)
           → 21 ≤ most + cond (has_removal visit.part) 1 0 → IsPageChain version.chain
           → (has_removal visit.part ≡ true → is_removed version.chain ≡ true) → TreatsWrite (at old (Page visit)) version new result → StaleThen w new result most
       treated old visit version new None most few fitted gone t = elim t [
-        | inl g ↦ let none = none_read visit.part version.chain gone g.alive in let le : 21 ≤ most + 0 = omega (arith, few, none) in on new _ most g.goes le
+        | inl g ↦ let none = none_read visit.part version.chain gone g.alive in let le : 21 ≤ most + 0 = omega (arith, few, none) in rw g.goes le
         | inr more ↦ elim more [
-          | inl g ↦ let none = none_read visit.part version.chain gone g.here.alive in let le : 21 ≤ most + 0 = omega (arith, few, none) in on new _ most g.goes le
+          | inl g ↦ let none = none_read visit.part version.chain gone g.here.alive in let le : 21 ≤ most + 0 = omega (arith, few, none) in rw g.goes le
           | inr last ↦ elim last [
-            | inl g ↦ let none = none_read visit.part version.chain gone g.left.here.alive in let le : 21 ≤ most + 0 = omega (arith, few, none) in on new _ most g.goes le
-            | inr g ↦ let none = none_read visit.part version.chain gone g.left.here.alive in let le : 21 ≤ most + 0 = omega (arith, few, none) in on new _ most g.goes le
+            | inl g ↦ let none = none_read visit.part version.chain gone g.left.here.alive in let le : 21 ≤ most + 0 = omega (arith, few, none) in rw g.goes le
+            | inr g ↦ let none = none_read visit.part version.chain gone g.left.here.alive in let le : 21 ≤ most + 0 = omega (arith, few, none) in rw g.goes le
           ]
         ]
       ]

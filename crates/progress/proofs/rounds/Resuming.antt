@@ -128,9 +128,6 @@ module _ (w : Standing) where
   numbers_same : (told : Answer Record) (a b : ℕ) → told ≡ Number a → told ≡ Number b → a ≡ b
   numbers_same told a b e f = let both : Number a ≡ Number b = sym e ∙ f in cc
 
-  slot_answer : (visit : Visit) (told : Answer Record) → visit.state ≡ seen.Slot → IsAnswer w.memory (seen.wanted_step visit) told → told ≡ Number (w.memory.slots visit.pid)
-  slot_answer visit told e answer = rw e at answer
-
   chain_at : (leg : Leg) (goal : ReadGoal) (visit : Visit) (steps : ℕ) → (v : LooseVisit leg goal visit steps) → IsChainOf w.memory visit.pid v.page.chain
   chain_at leg goal visit steps v = rw (← v.is_pid) v.loose.stands.stands
 
@@ -155,7 +152,7 @@ module _ (w : Standing) where
           }),
         )
     | inr v ↦ elim r [
-      | inl f ↦ let zeroth = numbers_same told (w.memory.slots visit.pid) f.row (slot_answer visit told v.at_slot answer) f.is in let some = f.some in let empty
+      | inl f ↦ let zeroth = numbers_same told (w.memory.slots visit.pid) f.row (rw v.at_slot at answer) f.is in let some = f.some in let empty
           = v.empty in absurd (omega (arith, zeroth, some, empty))
       | inr c ↦ not_slot visit.state c.head c.row c.asked v.at_slot
     ]
