@@ -237,7 +237,7 @@ module _ (limits : Limits) (entries : List Entry) (a : ℕ) (s : StepOf Record) 
   recollects_stepped op latest = elim (last_cases entries next op latest) [
     | inl before ↦ rw (recalls-push entries next) (at_place (Recollects limits grown op) a (recall (recalls entries a) s x) (recalls entries) op.actor
         (λ same. recollects_own limits entries next op s x reply before (of_actor op same) (recalls entries a)
-        (subst (λ b. Recollects limits entries op (recalls entries b)) same (kept.recollects op before)))
+        (rw (← same) (kept.recollects op before)))
         (λ ne. recollects_other limits entries next op (recalls entries op.actor) (λ step answer r is. ne (let e : op.actor ≡ a = cc in e)) (kept.recollects op before)))
     | inr at ↦ let e = at.1 in absurd (cc)
   ]
@@ -249,7 +249,7 @@ module _ (limits : Limits) (entries : List Entry) (a : ℕ) (s : StepOf Record) 
         | inl before ↦
             rw (recalls-push entries next) (rw (knows-push entries next) (by_equal op.actor a
             (λ same t. rw t (walks_own limits entries next op s x reply before (of_actor op same) (knows entries a) (recalls entries a) (memory_of limits entries) is_answer
-            (subst (λ b. (recalls entries b).walk.rooted ≡ true → Walks limits entries op (knows entries b).read.seen (recalls entries b).walk) same (kept.walks op before))))
+            (rw (← same) (kept.walks op before))))
             (λ ne t. rw t λ rooted. walks_kept limits entries next op (knows entries op.actor).read.seen (recalls entries op.actor).walk
             (λ step answer r is. absurd (ne (let e : op.actor ≡ a = cc in e))) (kept.walks op before rooted))))
         | inr at ↦ let e = at.1 in absurd (cc)
@@ -303,8 +303,8 @@ module _ (limits : Limits) (entries : List Entry) (a : ℕ) (s : StepOf Record) 
           (λ slot old new is_step is_won. (changes op.actor slot old new reply (λ i. Step (same' same i) (is_step i) (is_won i) reply)).0)
           (λ page head base e f. kept.foreign a page head base e (rw same at f))
           read_again
-          (subst (λ b. Recollects limits entries op (recalls entries b)) same (kept.recollects op latest))
-          (subst (λ b. (recalls entries b).walk.rooted ≡ true → Walks limits entries op (knows entries b).read.seen (recalls entries b).walk) same (kept.walks op latest))
+          (rw (← same) (kept.recollects op latest))
+          (rw (← same) (kept.walks op latest))
           h.0)
           h.1
           few

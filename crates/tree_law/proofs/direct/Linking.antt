@@ -89,7 +89,7 @@ module _ (limits : Limits) (entries : List Entry) (a : ℕ) where
           | inl out ↦ absurd (cc out.0)
           | inr off ↦
               let newest = removed_newest m.rows off.row off.chain off.is_chain (state.fitted off.row off.linked off.chain off.is_chain).fitted off.flagged in
-              (newest.0, subst (λ r. m.rows r ≡ Some newest.0) (same_Some off.row (suc x) (sym off.head ∙ ap row_in at)) newest.1, λ never. newest.2)
+              (newest.0, rw (← (same_Some off.row (suc x) (sym off.head ∙ ap row_in at))) newest.1, λ never. newest.2)
         ]
 
     -- an update is linked where none was linked before, and is known then

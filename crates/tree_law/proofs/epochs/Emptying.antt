@@ -132,7 +132,7 @@ module _ {limits : Limits} {m : Memory} {log : List Update} {o : Owners} {knows 
         was = rw own at (g.owns_pages a (suc p))
 
         reached : Reached 0 was.0 was.1 (o.page (suc p))
-        reached = subst (λ (v : PageOwner). Reached 0 was.0 was.1 v) (sym was.2) (refl, refl)
+        reached = rw was.2 (refl, refl)
 
         old : (o.row x ≡ Linked) × (t.home x ≡ suc p) × (t.row_out x ≡ None)
         old = let b = T.slots (suc p) x was.0 was.1 reached f.held in (slot_linked g T a (suc p) x was.0 was.1 reached f.held, b.0, b.1)
@@ -178,7 +178,7 @@ module _ {limits : Limits} {m : Memory} {log : List Update} {o : Owners} {knows 
       slots_rooted q z l s h e = elim (f.reached q l s h) [
         | inl old ↦ let b = T.slots q z l s old e in (rw (slot_linked g T a q z l s old e) b.0, b.1)
         | inr i ↦ let same : f.base ≡ z = same_Some f.base z (sym held ∙ ap (slot_in m.slots) (sym i) ∙ e) in
-            subst (λ j. (t3.home j ≡ q) × (t3.row_out j ≡ None)) same (rw (spare_of g T a a f.base own) (sym i), T.own_rows a f.base own)
+            rw (← same) (rw (spare_of g T a a f.base own) (sym i), T.own_rows a f.base own)
       ]
 
       together_rooted : (j n : ℕ) (w : Record) → o'.row j ≡ Linked → m.rows j ≡ Some w → next_row w ≡ Some n → (t3.home n ≡ t3.home j) × (t3.row_out n ≡ t3.row_out j)

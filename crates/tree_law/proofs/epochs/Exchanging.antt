@@ -104,7 +104,7 @@ module _ {limits : Limits} {m : Memory} {log : List Update} {o : Owners} {knows 
 
       slots_after : (q z l : ℕ) (s : Key) → Reached 0 l s (o'.page q) → put (slot_in m.slots) (suc p) (Some (suc y)) q ≡ Some z → (t1.home z ≡ q) × (t1.row_out z ≡ None)
       slots_after q z l s r = by_equal q (suc p)
-          (λ i t. rw t λ e. subst (λ j. (t1.home j ≡ q) × (t1.row_out j ≡ None)) (same_Some (suc y) z e) (home_new ∙ sym i, in_own a (suc y) f.own))
+          (λ i t. rw t λ e. rw (← same_Some (suc y) z e) (home_new ∙ sym i, in_own a (suc y) f.own))
           (λ ne t. rw t λ e. elim (f.reached q l s r) [
             | inl old ↦ let b = T.slots q z l s old e in (home_linked z (slot_linked q z l s old e) ∙ b.0, in_beside z b.1 (λ i. ne (sym b.0 ∙ i)))
             | inr new ↦ let b = new z e in (home_split z b.0 b.1 ∙ sym b.2, in_own a z b.0)

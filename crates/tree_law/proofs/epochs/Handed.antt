@@ -196,7 +196,7 @@ module _ (limits : Limits) (entries : List Entry) (a : ℕ) (step : StepOf Recor
 
         reached : (l : ℕ) × (s : Key) × Reached 0 l s (state.owners.page (suc h.page))
         reached = elim h.whose [
-          | inl u ↦ let w = rw u.0 at (state.is_tree.owns_pages a (suc h.page)) in (w.0, w.1, subst (λ (v : PageOwner). Reached 0 w.0 w.1 v) (sym w.2) (refl, refl))
+          | inl u ↦ let w = rw u.0 at (state.is_tree.owns_pages a (suc h.page)) in (w.0, w.1, rw w.2 (refl, refl))
           | inr u ↦ by_link h.old u.1.0 u.0 (rw u.1.1 at may)
         ]
           where

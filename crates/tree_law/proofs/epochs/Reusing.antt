@@ -67,7 +67,7 @@ module _ {m : Shared} {log : List Update} {o : Owners} {knows : ℕ → Knowledg
       where
         off_reached : (w : PageOwner) → IsOff w l s → Reached 0 l s w
         off_reached w (inl e) = placed_reached l s Merged w e
-        off_reached w (inr e) = subst (λ (v : PageOwner). Reached 0 l s v) (sym e.1) (refl, refl)
+        off_reached w (inr e) = rw e.1 (refl, refl)
 
     abbrev spells_loose : (x : ℕ) (l : List Update) → row x ≡ o.row x → SpellsLog o m x l → SpellsLog o1 m1 x l
     spells_loose x l same s = record { linked = same ∙ s.linked; chain = s.chain; is_chain = s.is_chain; same = s.same }

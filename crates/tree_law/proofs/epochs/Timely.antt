@@ -149,7 +149,7 @@ module _ {limits : Limits} {m : Memory} {log : List Update} {o : Owners} {knows 
         roots_inside = h.roots_inside;
         roots_since = h.roots_since;
         heads_since = λ q y. by_equal q p
-            (λ e is. rw (is, e) λ i. subst (λ j. HeldHead m.rows t.page_out (t.entered a) (put (knows a).read.learnt x true) p j) (same_Some x y i) here)
+            (λ e is. rw (is, e) λ i. rw (← same_Some x y i) here)
             (λ ne is. rw is λ i. head_more (put_true (knows a).read.learnt x) (h.heads_since q y i));
         before_since = λ q f y. by_equal q p
             (λ e is. rw is λ i. head_more (put_true (knows a).read.learnt x) (h.heads_since f y i))

@@ -300,7 +300,7 @@ module _ {limits : Limits} {m : Memory} {log : List Update} {o : Owners} {knows 
   loses : (p x y : ℕ) (r : Option Reply) → (m' : Memory) → m' ≡ m → times_after a m o now (Exchange p x y) (answer.Whether false) t ≡ t
       → ((row : ℕ) → IsHomed (shared_part m) (Exchange p x y) (answer.Whether false) row → ⊥) → After m' (Exchange p x y) (answer.Whether false) r
   loses p x y r m' e same homed =
-      subst (λ (v : Memory). After v (Exchange p x y) (answer.Whether false) r) (sym e)
+      rw e
       (λ n. rw same (still_timed (after_reply (knows a) r) (calm_pages m n refl homed n.phased (omega arith) (λ b ne. refl)) refl refl refl refl refl refl))
 
   exchange : (p x y : ℕ) (r : Option Reply) → MayExchange a (knows a) p x y → After (memory_after a (Exchange p x y) m) (Exchange p x y) (answer.Whether (eqb (m.slots p) x)) r
@@ -328,17 +328,17 @@ module _ {limits : Limits} {m : Memory} {log : List Update} {o : Owners} {knows 
   -- each allowed step but a reuse
   pub timed_step : (s : StepOf Record) → (IsReuse s → ⊥) → (x : Answer Record) (r : Option Reply) → May a (knows a) s → IsAnswer m s x → a < limits.actors → After (memory_after a s m) s x r
   timed_step (Slot zero) calm x r may is actor =
-      subst (λ v. After m (Slot 0) v r) (sym is) (λ n. read_timed (after_reply (learn (knows a) (Slot 0) (answer.Number (m.slots 0))) r)
+      rw is (λ n. read_timed (after_reply (learn (knows a) (Slot 0) (answer.Number (m.slots 0))) r)
       (calm_pages m n refl (λ row i. i) n.phased (omega arith) (λ b ne. refl)) refl refl (root_holds g T a may) refl refl)
   timed_step (Slot (suc p)) calm x r may is actor = rw is (reads p (m.slots (suc p)) r may refl)
   timed_step (Row q) calm x r may is actor =
-      subst (λ v. After m (Row q) v r) (sym is.2) (λ n. read_timed (after_reply (learn (knows a) (Row q) (answer.Content is.0)) r)
+      rw is.2 (λ n. read_timed (after_reply (learn (knows a) (Row q) (answer.Content is.0)) r)
       (calm_pages m n refl (λ row i. i) n.phased (omega arith) (λ b ne. refl)) refl refl (row_holds g T a q is.0 may.1 is.1) refl refl)
-  timed_step Epoch calm x r may is actor = subst (λ v. After m Epoch v r) (sym is) (λ n. epoch_timed g T a r n.owners (calm_pages m n refl (λ row i. i) n.phased (omega arith) (λ b ne. refl)))
+  timed_step Epoch calm x r may is actor = rw is (λ n. epoch_timed g T a r n.owners (calm_pages m n refl (λ row i. i) n.phased (omega arith) (λ b ne. refl)))
   timed_step (Announce c) calm x r may is actor =
-      subst (λ v. After m (Announce c) v r) (sym is) (λ n. announce_timed g T a c r n.owners (calm_pages m n refl (λ row i. i) n.phased (omega arith) (λ b ne. refl)))
+      rw is (λ n. announce_timed g T a c r n.owners (calm_pages m n refl (λ row i. i) n.phased (omega arith) (λ b ne. refl)))
   timed_step (Place q w) calm x r may is actor =
-      subst (λ v. After (memory_after a (Place q w) m) (Place q w) v r) (sym is)
+      rw is
       (λ n. place_timed g T a q w r n.owners (calm_pages (memory_after a (Place q w) m) n refl (λ row i. i) n.phased (omega arith) (λ b ne. refl)) may.1 may.2)
   timed_step (Exchange p old new) calm x r may is actor = rw is (exchange p old new r may.1)
   timed_step (TakePid q) calm x r may is actor = rw is (takes_pid q r (m.free_pids q) refl)
@@ -346,7 +346,7 @@ module _ {limits : Limits} {m : Memory} {log : List Update} {o : Owners} {knows 
   timed_step (Enter e) calm x r may is actor =
       λ n. enter_timed g T a e x r n.owners (calm_pages (memory_after a (Enter e) m) n refl (λ row i. i) n.phased (omega arith) (λ b ne. put_other m.announced a e b ne)) may.0 may.1 may.2 actor
   timed_step Leave calm x r may is actor =
-      subst (λ v. After (memory_after a Leave m) Leave v r) (sym is)
+      rw is
       (λ n. leave_timed g T a r n.owners (calm_pages (memory_after a Leave m) n refl (λ row i. i) n.phased (omega arith) (λ b ne. put_other m.announced a 0 b ne)))
   timed_step (Retire e) calm x r may is actor =
       let retired : (e : ℕ) → m.epoch ≤ (memory_after a (Retire e) m).epoch = λ e. by_equal m.epoch e (λ i t. rw t (omega arith)) (λ ne t. rw t (omega arith)) in
@@ -354,5 +354,5 @@ module _ {limits : Limits} {m : Memory} {log : List Update} {o : Owners} {knows 
   timed_step (ReusePids w b) calm x r may is actor = absurd (calm tt)
   timed_step (ReuseRows w b) calm x r may is actor = absurd (calm tt)
   timed_step s calm x r may is actor =
-      subst (λ v. After m s v r) (sym is.2)
+      rw is.2
       (λ n. still_timed (after_reply (learn (knows a) s (answer.Number is.0)) r) (calm_pages m n refl (λ row i. i) n.phased (omega arith) (λ b ne. refl)) refl refl refl refl refl refl)

@@ -73,7 +73,7 @@ module _ {m : Shared} {log : List Update} {o : Owners} {knows : ℕ → Knowledg
       (λ l' s' st' e. let i = placed_level to st' lv l' sep s' e in let j : to ≡ st' = cc in (i.0, i.1, ap (λ z. mark z q) (sym j) ∙ marks))
       (λ i e. (to, ap child_of (sym (same_Some v i e)) ∙ mark_number to q v marks, refl, marks ∙ e))
       (λ b l' s' e. absurd (cc))
-      (λ i e. subst (λ (u : ContentOf). Reached (rank_of u) lv sep (Placed to lv sep)) (same_Some v i e) (refl, refl, high))
+      (λ i e. rw (← same_Some v i e) (refl, refl, high))
       next wl wlow wright whigh wrem finds
       (handed_over y (knows a)) learned refl (λ n. n) refl refl r
 

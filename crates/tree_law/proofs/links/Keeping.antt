@@ -24,10 +24,10 @@ on_or_merged st = inl (omega arith)
 -- a page is as far as its term says
 marked_rank : (st : Stage) (q : ℕ) (i : ContentOf) → mark st q ≡ Some i → rank_of i ≤ rank st
 marked_rank Fresh q i e = absurd (cc)
-marked_rank Indexed q i e = subst (λ (c : ContentOf). rank_of c ≤ 1) (same_Some (Child q false) i e) (omega arith)
-marked_rank Held q i e = subst (λ (c : ContentOf). rank_of c ≤ 2) (same_Some (Child q true) i e) (omega arith)
-marked_rank Removed q i e = subst (λ (c : ContentOf). rank_of c ≤ 3) (same_Some (Child q true) i e) (omega arith)
-marked_rank Merged q i e = subst (λ (c : ContentOf). rank_of c ≤ 4) (same_Some (Child q true) i e) (omega arith)
+marked_rank Indexed q i e = rw (← same_Some (Child q false) i e) (omega arith)
+marked_rank Held q i e = rw (← same_Some (Child q true) i e) (omega arith)
+marked_rank Removed q i e = rw (← same_Some (Child q true) i e) (omega arith)
+marked_rank Merged q i e = rw (← same_Some (Child q true) i e) (omega arith)
 
 module _ {m : Shared} {log : List Update} {o : Owners} {knows : ℕ → Knowledge} {point : ℕ → Option (List Update)} {logs : ℕ → List (List Update)} (g : IsTree m log o knows point logs) (a : ℕ) where
   -- what a step of the actor leaves
@@ -169,7 +169,7 @@ module _ {m : Shared} {log : List Update} {o : Owners} {knows : ℕ → Knowledg
         (low_in n.0.chain, n.2, placed_reached (level_in p.chain) (low_in n.0.chain) n.3.stage (o.page q) (ap o.page (sym n.1) ∙ n.3.placed));
     items = λ l s i at v d.
         let n = (g.tree.exact.named l s i (sym (e.is_page.same s v ∙ ap (λ n. spec log o.index n s) at) ∙ d)).1 in
-        subst (λ (w : PageOwner). Reached (rank_of i) l s w) (sym n.1) (refl, refl, marked_rank n.0 (child_of i) i n.2);
+        rw n.1 (refl, refl, marked_rank n.0 (child_of i) i n.2);
   }
 
   -- a removed page that was read and stands right of a page is on its side chain, with the chain that was read
@@ -194,7 +194,7 @@ module _ {m : Shared} {log : List Update} {o : Owners} {knows : ℕ → Knowledg
 
   -- a page that was met is in the tree
   pub lower : (r l : ℕ) (s : Key) (w : PageOwner) → Reached r l s w → Reached 0 l s w
-  lower r l s w h = elim (reached_placed r l s w h) [ inl u ↦ placed_reached l s u.0 w u.1 | inr u ↦ subst (λ (v : PageOwner). Reached 0 l s v) (sym u.1) (refl, refl) ]
+  lower r l s w h = elim (reached_placed r l s w h) [ inl u ↦ placed_reached l s u.0 w u.1 | inr u ↦ rw u.1 (refl, refl) ]
 
   pub met_placed : (p : ℕ) → ((knows a).read.roots p ≡ true) ⊎ IsMet (knows a) p → (l : ℕ) × (s : Key) × Reached 0 l s (o.page p)
   met_placed p (inl e) = let i = mine.roots_fit p e in (i.0, [], i.1)

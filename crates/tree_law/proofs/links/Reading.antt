@@ -74,9 +74,9 @@ module _ {m : Shared} {log : List Update} {o : Owners} {knows : ℕ → Knowledg
                 | inl on ↦ absurd (
                     let b = no_gap (g.tree.levels (level_in d) (g.tree.exact.below q (level_in d) k u.0 u.1)) (record { page = p; row = x; chain = d }) w q k u.0 u.1 on lo hi in
                     ne b.0 b.1)
-                | inr e ↦ subst (λ (v : PageOwner). Reached 4 (level_in d) k v) (sym (u.1 ∙ ap (λ st. Placed st (level_in d) k) e)) (refl, refl, (let z : 4 ≤ 4 = omega arith in z))
+                | inr e ↦ rw (u.1 ∙ ap (λ st. Placed st (level_in d) k) e) (refl, refl, (let z : 4 ≤ 4 = omega arith in z))
               ]
-              | inr u ↦ subst (λ (v : PageOwner). Reached 4 (level_in d) k v) (sym u.1) (refl, refl)
+              | inr u ↦ rw u.1 (refl, refl)
             ];
       }
 

@@ -79,7 +79,7 @@ module _ (limits : Limits) (entries : List Entry) (state : IsState limits entrie
       let within : IsTrue (covers a.place.chain key) = in_own_range a.place.chain (state.fitted a.place.row a.here.linked a.place.chain a.here.is_page.is_chain).fitted key (Child pid held) content in
       let inside : Covers a.place.chain key = covers_from a.place.chain key within in
       let named = (state.is_tree.tree.exact.named l key (Child pid held) (sym (a.here.is_page.same key inside) ∙ content)).1 in
-      (subst (λ c. IsTrue (covers c key)) chain within, child_at l pid key held named.0 named.1 named.2)
+      (rw (← chain) within, child_at l pid key held named.0 named.1 named.2)
 
   -- a removed page is below the root's level
   below_root : (q l : ℕ) (s : Key) → state.owners.page q ≡ Placed Removed l s → l ≤ state.is_tree.tree.top → l < state.is_tree.tree.top

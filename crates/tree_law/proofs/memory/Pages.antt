@@ -78,7 +78,7 @@ module _ (limits : Limits) (entries : List Entry) (state : IsState limits entrie
           record {
             place = f.0;
             is = f.1;
-            contains = subst (λ d. Contains (pages_by l d) (live f.0)) (sym is) f.2;
+            contains = rw is f.2;
             here = f.3;
             begins = let w : Placed f.3.stage l (low_in f.0.chain) ≡ Placed st l s = sym f.3.placed ∙ ap owners.page f.1 ∙ e in cc;
           }
@@ -141,7 +141,7 @@ module _ (limits : Limits) (entries : List Entry) (state : IsState limits entrie
       sym a.is ∙ same ∙ b.is
 
   pub spans : (l : ℕ) (page : LivePage) → Contains (pages l) page → IsUnder (low_in page.chain) (high_in page.chain)
-  spans l page has = let o = on_level l page has in subst (λ (p : LivePage). IsUnder (low_in p.chain) (high_in p.chain)) o.is o.here.is_page.some
+  spans l page has = let o = on_level l page has in rw (← o.is) o.here.is_page.some
 
   pub right : (l : ℕ) (page : LivePage) (next : ℕ) → Contains (pages l) page → right_in page.chain ≡ Some next
       → (after : LivePage) × Contains (pages l) after × (after.pid ≡ next) × (high_in page.chain ≡ Some (low_in after.chain))

@@ -37,4 +37,4 @@ unheld limits entries state l page has gone =
     let below : IsUnheld under = state.unheld a.place.row remove under a.here.linked stands.0 stands.1 in
     let whole : IsUnheld (Remove remove ∷ under) = below in
     let here : IsUnheld a.place.chain = subst IsUnheld (sym is) whole in
-    subst (λ (p : LivePage). IsUnheld p.chain) a.is here
+    rw (← a.is) here

@@ -23,7 +23,7 @@ pub upto_refl : (a : Key) → IsUpTo a a
 upto_refl a = ap is_lt (tied_itself nat_list_cmp_total a)
 
 pub upto_same : (a b : Key) → a ≡ b → IsUpTo a b
-upto_same a b e = subst (λ (k : Key). IsUpTo a k) e (upto_refl a)
+upto_same a b e = rw (← e) (upto_refl a)
 
 -- not below is at or above
 pub not_below : (a b : Key) → IsBelow a b → IsUpTo b a → ⊥

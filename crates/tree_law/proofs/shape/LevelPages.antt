@@ -22,7 +22,7 @@ first_child level low (item ∷ items) above kinds first = go item.content kinds
   where
     go : (content : ContentOf) → IsOfLevel level content → is_held content ≡ false → item.content ≡ content → (child : ℕ) × (content_at (item ∷ items) low ≡ Some (Child child false))
     go (Value value) kind free e = absurd (omega (arith, above, kind))
-    go (Child page held) kind free e = (page, subst (λ (k : Key). content_at (item ∷ items) k ≡ Some (Child page false)) first.0 (found_first item items ∙ ap Some (e ∙ ap (λ h. Child page h) free)))
+    go (Child page held) kind free e = (page, rw (← first.0) (found_first item items ∙ ap Some (e ∙ ap (λ h. Child page h) free)))
 
 -- a term that isn't held is that of an indexed page
 pub indexed_mark : (st : Stage) (q : ℕ) → mark st q ≡ Some (Child q false) → st ≡ Indexed

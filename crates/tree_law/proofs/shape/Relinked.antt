@@ -127,7 +127,7 @@ same_page {o} {m} {lv} {mp} {first} t g f hg hf k cg cf =
         let l = locate o m lv mp gs p low None None e.page part has in
         let u = from_located l in
         let c : IsUpTo (low_in l.page.chain) k = (moved l.page e l.here ie l.is ce).low in
-        absurd (let i = under_start k (low_in l.page.chain) (high_in h.chain) ch.high (subst (λ (b : Option Key). StartsFrom b (low_in l.page.chain)) j u) in not_below k (low_in l.page.chain) i c)
+        absurd (let i = under_start k (low_in l.page.chain) (high_in h.chain) ch.high (rw (← j) u) in not_below k (low_in l.page.chain) i c)
       where
         from_located : (l : Located o m lv mp gs p low None None e.page) → StartsFrom low (low_in l.page.chain)
         from_located l = middle l.before p low l.first

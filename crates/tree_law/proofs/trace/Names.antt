@@ -370,7 +370,7 @@ module _ {limits : Limits} {entries : List Entry} {o : Owners} {m : Memory} {kno
       let i = h.1 in
       let ab : a ≡ b = cc in
       let st : s ≡ t = cc in
-      subst (λ u. IsFalse (touches_pages u)) st (elim (touches_inside a (knows a) s may) [
+      rw (← st) (elim (touches_inside a (knows a) s may) [
         | inl inside ↦ let lt : 0 < m.announced a = old.announced a inside in let z' : m.announced a ≡ 0 = rw ab z in absurd (omega arith)
         | inr no_touch ↦ no_touch
       ])

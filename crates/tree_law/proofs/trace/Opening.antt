@@ -56,7 +56,7 @@ module _ (free free_pages : ℕ → Bool) (taken : free 1 ≡ false) (taken_page
       first = λ l. 1;
       leaf = refl;
       root = refl;
-      levels = λ l le. let z : 0 ≡ l = omega arith in subst (λ (n : ℕ). Level o start n (spec [] o.index n) 1) z leaves;
+      levels = λ l le. let z : 0 ≡ l = omega arith in rw (← z) leaves;
       exact = record {
         below = λ q l s st. by_equal q 1 (λ i t. rw t λ e. (let f : 0 ≡ l = cc in omega arith)) (λ i t. rw t λ e. absurd (cc));
         posted = λ q l s st i e lt. absurd (omega arith);

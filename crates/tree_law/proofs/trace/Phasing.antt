@@ -111,13 +111,13 @@ module _ (m : Memory) {log : List Update} {o : Owners} {knows : ℕ → Knowledg
   moves_between pid from to (takes b step) = let e = step.1 in taken pid (cc) (cc)
   moves_between pid from to (splits slot split installs at) =
       let h = (installed slot (Split split) installs).2 in
-      subst (λ q. (phase_of (o.page q) ≡ owned) × (phase_of (f' q) ≡ fresh)) at (ap phase_of h.4, put_phase o.page f' split.page (Placed Fresh h.1 split.separator) h.5)
+      rw (← at) (ap phase_of h.4, put_phase o.page f' split.page (Placed Fresh h.1 split.separator) h.5)
   moves_between pid from to (becomes_root makes) =
       let h = (rooted pid makes).1 in
       (ap phase_of h.5, put_phase (put o.page h.0 (Placed Indexed h.1 h.2)) f' pid (Placed Indexed (suc h.1) []) h.6)
   moves_between pid from to (terms slot term installs at) =
       let h = (installed slot (Term term) installs).2 in
-      subst (λ q. (phase_of (o.page q) ≡ fresh) × (phase_of (f' q) ≡ indexed)) at (ap phase_of h.1, put_phase o.page f' term.child (Placed Indexed h.0 term.separator) h.2)
+      rw (← at) (ap phase_of h.1, put_phase o.page f' term.child (Placed Indexed h.0 term.separator) h.2)
   moves_between pid from to (under_root root chain key mark makes stands above said) =
       let old = (rooted root makes).0 in
       let h = (rooted root makes).1 in
@@ -125,18 +125,18 @@ module _ (m : Memory) {log : List Update} {o : Owners} {knows : ℕ → Knowledg
       let at : m.slots root ≡ base.0 = (slot_some m.slots root base.0 base.2).1 in
       let same : chain ≡ root_over base.1 old h.2 h.0 ∷ [] = IsChainFrom-unique m.rows (m.slots root) chain (root_over base.1 old h.2 h.0 ∷ []) stands.records (ap m.rows at ∙ base.3, refl) in
       let here : h.0 ≡ pid = second_child key h.2 old h.0 pid mark (rw same at above) (rw same at said) in
-      subst (λ q. (phase_of (o.page q) ≡ fresh) × (phase_of (f' q) ≡ indexed)) here (
+      rw (← here) (
         ap phase_of h.4,
         ap (λ (k : ℕ → PageOwner). phase_of (k h.0)) h.6 ∙ ap phase_of
             (put_other (put o.page h.0 (Placed Indexed h.1 h.2)) root (Placed Indexed (suc h.1) []) h.0 (λ i. absurd (cc (h.4, h.5))) ∙ put_same o.page h.0 (Placed Indexed h.1 h.2)),
       )
   moves_between pid from to (holds slot hold installs at) =
       let h = (installed slot (Hold hold) installs).2 in
-      subst (λ q. (phase_of (o.page q) ≡ indexed) × (phase_of (f' q) ≡ held)) at (ap phase_of h.1, put_phase o.page f' hold.child (Placed Held h.0 hold.separator) h.2)
+      rw (← at) (ap phase_of h.1, put_phase o.page f' hold.child (Placed Held h.0 hold.separator) h.2)
   moves_between pid from to (removes remove installs) =
       let i = installed pid (Remove remove) installs in
       let h = i.2 in
-      subst (λ q. (phase_of (o.page q) ≡ held) × (phase_of (f' q) ≡ removed)) (sym i.1) (ap phase_of h.2, put_phase o.page f' (suc i.0) (Placed Removed h.0 h.1) h.3)
+      rw i.1 (ap phase_of h.2, put_phase o.page f' (suc i.0) (Placed Removed h.0 h.1) h.3)
   moves_between pid from to (merges slot merge chain installs stood right) =
       let i = installed slot (Merge merge) installs in
       let h = i.2 in
@@ -144,10 +144,10 @@ module _ (m : Memory) {log : List Update} {o : Owners} {knows : ℕ → Knowledg
       let at : m.slots (suc i.0) ≡ side.0 = (slot_some m.slots (suc i.0) side.0 side.2).1 in
       let same : side.1 ≡ chain = IsChainFrom-unique m.rows side.0 side.1 chain side.3 (rw at at (rw i.1 at stood).records) in
       let here : h.0 ≡ pid = same_Some h.0 pid (sym side.4 ∙ ap right_in same ∙ right) in
-      subst (λ q. (phase_of (o.page q) ≡ removed) × (phase_of (f' q) ≡ merged)) here (ap phase_of h.2, put_phase o.page f' h.0 (Placed Merged h.1 merge.low) h.3)
+      rw (← here) (ap phase_of h.2, put_phase o.page f' h.0 (Placed Merged h.1 merge.low) h.3)
   moves_between pid from to (unterms slot unterm installs at) =
       let h = (installed slot (Unterm unterm) installs).2 in
-      subst (λ q. (phase_of (o.page q) ≡ merged) × (phase_of (f' q) ≡ cleared)) at (ap phase_of h.1, put_phase o.page f' unterm.child (Cleared a h.0 unterm.separator) h.2)
+      rw (← at) (ap phase_of h.1, put_phase o.page f' unterm.child (Cleared a h.0 unterm.separator) h.2)
   moves_between pid from to (reuses b word bits answer step among) =
       let e = step.1 in
       let i : s ≡ ReusePids word bits = cc in

@@ -131,7 +131,7 @@ module _ (m : Memory) {log : List Update} {o : Owners} {knows : ℕ → Knowledg
         ready = rw (put_same knows a k) (rw i (put_same (knows a).own.pages (suc n) (Ready (suc y)) ∙ ap Ready at));
         owned = owned_after a q (inr (rw at at own.0));
         base = own.1.0;
-        stands = subst (λ z. m.rows z ≡ Some (Base own.1.0)) at own.1.1;
+        stands = rw (← at) own.1.1;
       }))
       (λ ne t. let f = rw t at e in elim (held p q f) [
         | inl h ↦ inl (rw same h)
