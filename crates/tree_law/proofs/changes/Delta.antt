@@ -29,10 +29,9 @@ use Rattle.tree_law.proofs.changes.Totals.{none, one}
 
 -- a page that is on its side chain, and not removed, is alive
 alive_stage : (stage : Stage) (level : ℕ) (low : Key) → rank stage ≤ 3 → stage_removed stage ≡ false → is_alive (Placed stage level low) ≡ true
-alive_stage Fresh level low on not_removed = refl
-alive_stage Indexed level low on not_removed = refl
-alive_stage Held level low on not_removed = refl
-alive_stage stage level low on not_removed = absurd (cc)
+alive_stage Removed level low on not_removed = absurd (cc)
+alive_stage Merged level low on not_removed = absurd (cc)
+alive_stage stage level low on not_removed = refl
 
 -- each page but the free ones is one of the stated number
 pub within_limit : (n page : ℕ) (w w' : PageOwner) → (phase_of w ≡ free) ⊎ ((0 < page) × (page < n)) → w ≡ w' → (phase_of w' ≡ free → ⊥) → page < n

@@ -9,14 +9,8 @@ above_empty (byte ∷ bytes) worth ne = refl
 
 -- which row a slot holds makes no difference
 pub same_life : (w : PageOwner) (x y : ℕ) → life w (Some y) ≡ life w (Some x)
-same_life Nobody x y = refl
-same_life (Keeps actor) x y = refl
 same_life (Placed Fresh level low) x y = refl
-same_life (Placed Indexed level low) x y = refl
-same_life (Placed Held level low) x y = refl
-same_life (Placed Removed level low) x y = refl
-same_life (Placed Merged level low) x y = refl
-same_life (Cleared actor level low) x y = refl
+same_life owner x y = refl
 
 -- a page whose term is gone has one change left at most
 pub cleared_most : (actor level : ℕ) (low : Key) (slot : Option ℕ) → life (Cleared actor level low) slot ≤ 1

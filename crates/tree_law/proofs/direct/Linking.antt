@@ -23,14 +23,8 @@ not_base w e = cc
 newest_removes : (w : Record) (under : List Record) → IsFitted (w ∷ under) → is_removed (w ∷ under) ≡ true → link_without w ≡ link.Clear
 newest_removes (Remove remove) under h gone = refl
 newest_removes (Base page) under h gone = absurd (cc)
-newest_removes (Put put) (older ∷ under) h gone = absurd (cc (h.0.fits.alive, h.0.makes.removed))
-newest_removes (Delete delete) (older ∷ under) h gone = absurd (cc (h.0.fits.alive, h.0.makes.removed))
-newest_removes (Split split) (older ∷ under) h gone = absurd (cc (h.0.fits.alive, h.0.makes.removed))
-newest_removes (Term term) (older ∷ under) h gone = absurd (cc (h.0.fits.alive, h.0.makes.removed))
-newest_removes (Hold hold) (older ∷ under) h gone = absurd (cc (h.0.fits.alive, h.0.makes.removed))
-newest_removes (Merge merge) (older ∷ under) h gone = absurd (cc (h.0.fits.alive, h.0.makes.removed))
-newest_removes (Unterm unterm) (older ∷ under) h gone = absurd (cc (h.0.fits.alive, h.0.makes.removed))
-newest_removes w under h gone = absurd (cc h.1)
+newest_removes w [] h gone = absurd (cc h.1)
+newest_removes w (older ∷ under) h gone = absurd (cc (h.0.fits.alive, h.0.makes.removed))
 
 removed_newest : (rows : ℕ → Option Record) (row : ℕ) (chain : List Record) → IsChainFrom rows row chain → IsFitted chain → is_removed chain ≡ true
     → (w : Record) × (rows row ≡ Some w) × (link_without w ≡ link.Clear)

@@ -25,9 +25,7 @@ on_or_merged st = inl (omega arith)
 marked_rank : (st : Stage) (q : ℕ) (i : ContentOf) → mark st q ≡ Some i → rank_of i ≤ rank st
 marked_rank Fresh q i e = absurd (cc)
 marked_rank Indexed q i e = rw (← same_Some (Child q false) i e) (omega arith)
-marked_rank Held q i e = rw (← same_Some (Child q true) i e) (omega arith)
-marked_rank Removed q i e = rw (← same_Some (Child q true) i e) (omega arith)
-marked_rank Merged q i e = rw (← same_Some (Child q true) i e) (omega arith)
+marked_rank stage q i e = rw (← same_Some (Child q true) i e) (omega arith)
 
 module _ {m : Shared} {log : List Update} {o : Owners} {knows : ℕ → Knowledge} {point : ℕ → Option (List Update)} {logs : ℕ → List (List Update)} (g : IsTree m log o knows point logs) (a : ℕ) where
   -- what a step of the actor leaves
