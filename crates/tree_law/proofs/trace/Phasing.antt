@@ -235,9 +235,8 @@ module _ (m : Memory) {log : List Update} {o : Owners} {knows : ℕ → Knowledg
       go (TakePid q) (Whether false) i j h e ph' = same_phase pid ph'
       go (Exchange zero old new) (Whether true) i j h e ph' = by_root old new i j ph' pid
       go (Exchange (suc p) zero zero) (Whether true) i j h e ph' = absurd h.1
-      go (Exchange (suc p) zero (suc new)) (Whether true) i j h e ph' = same_phase pid ph'.0
-      go (Exchange (suc p) (suc old) zero) (Whether true) i j h e ph' = same_phase pid ph'.0
       go (Exchange (suc p) (suc old) (suc new)) (Whether true) i j h e ph' = by_link p old new ph'.0 i j ph'.1 ph'.2 pid
+      go (Exchange (suc p) old new) (Whether true) i j h e ph' = same_phase pid ph'.0
       go (Exchange p old new) (Whether false) i j h e ph' = same_phase pid ph'
       go (ReusePids word bits) y i j h e ph' = elim (decided (is_among word bits pid)) [
         | inl k ↦ let v = (ph' pid).0 k in inl (rw (ap phase_of v.3) (rw (ap phase_of v.4) (reuses a word bits y (r, λ d. Step a (i d) (j d) r) k)))
