@@ -42,13 +42,13 @@ module _ (knows : ℕ → Knowledge) (a n : ℕ) (within : a < n) where
   credits ks actor = credit (ks actor).asked
 
   others : (k : Knowledge) (actor : ℕ) → actor < n → actor ≢ a → credits (put knows a k) actor ≤ credits knows actor
-  others k actor lt ne = let same : credits (put knows a k) actor ≡ credits knows actor = ap (λ (k : Knowledge). credit k.asked) (put_other knows a k actor ne) in omega arith
+  others k actor lt ne = let same : credits (put knows a k) actor ≡ credits knows actor = rw (put_other knows a k actor ne) in omega arith
 
   -- one actor's operation goes on
   pub credits_move : (k : Knowledge) → total (credits (put knows a k)) n + credit (knows a).asked ≤ total (credits knows) n + credit k.asked
   credits_move k =
       let moved : total (credits (put knows a k)) n + credits knows a ≤ total (credits knows) n + credits (put knows a k) a = one (credits knows) (credits (put knows a k)) a n within (others k) in
-      let here : credits (put knows a k) a ≡ credit k.asked = ap (λ (k : Knowledge). credit k.asked) (put_same knows a k) in
+      let here : credits (put knows a k) a ≡ credit k.asked = rw (put_same knows a k) in
       omega arith
 
   pub step_credits : (s : StepOf Record) (x : Answer Record) (reply : Option Reply) → total (credits (put knows a (after_reply (learn (knows a) s x) reply))) n ≤ total (credits knows) n

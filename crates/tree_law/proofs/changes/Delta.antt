@@ -118,7 +118,7 @@ module _ {m : Shared} {log : List Update} {o : Owners} {knows : ℕ → Knowledg
   -- an update
   module _ (moves : o'.page ≡ o.page) where
     same_owner : (page : ℕ) → page ≢ p → o'.page page ≡ o.page page
-    same_owner page ne = ap (λ (f : ℕ → PageOwner). f page) moves
+    same_owner page ne = rw moves
 
     still_alive : is_alive (o'.page p) ≡ true → is_alive (o.page p) ≡ true
     still_alive is = alive
@@ -161,10 +161,10 @@ module _ {m : Shared} {log : List Update} {o : Owners} {knows : ℕ → Knowledg
   -- a page goes on by a delta on another page
   module _ (q : ℕ) (from to : PageOwner) (was : o.page q ≡ from) (moves : o'.page ≡ put o.page q to) where
     other_owner : (page : ℕ) → page ≢ q → o'.page page ≡ o.page page
-    other_owner page ne = ap (λ (f : ℕ → PageOwner). f page) moves ∙ put_other o.page q to page ne
+    other_owner page ne = rw moves (put_other o.page q to page ne)
 
     is_now : o'.page q ≡ to
-    is_now = ap (λ (f : ℕ → PageOwner). f q) moves ∙ put_same o.page q to
+    is_now = rw moves (put_same o.page q to)
 
     goes_on : q < n → total lives' n + life from (m.slots q) ≤ total lives n + life to (put m.slots p (Some y) q)
     goes_on lt = rw was at (rw is_now at (lives_move q lt other_owner))

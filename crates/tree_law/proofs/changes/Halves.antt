@@ -73,7 +73,7 @@ module _ {m : Shared} {log : List Update} {o : Owners} {knows : ℕ → Knowledg
           let apart : p ≢ q = λ e. absurd (let twice : Placed is_placed.stage (level_in basis.chain) (low_in basis.chain) ≡ Keeps a = sym is_placed.placed ∙ ap o.page e ∙ own in cc) in
           let q_within : q < n = within_limit n q (o.page q) (Keeps a) (below q) own (λ e. cc) in
           let others : (page : ℕ) → page ≢ q → o'.page page ≡ o.page page = λ page ne. ap (λ (f : ℕ → PageOwner). f page) moves ∙ put_other o.page q to page ne in
-          let now_is : o'.page q ≡ to = ap (λ (f : ℕ → PageOwner). f q) moves ∙ put_same o.page q to in
+          let now_is : o'.page q ≡ to = rw moves (put_same o.page q to) in
           let m' : Shared = record m { slots = put m.slots p (Some y) } in
           let stands : IsChainFrom m.rows y (w ∷ basis.chain) = (placed_row g a y w (written ∙ ap Written h.is), f.stands) in
           let lower : worths' p ≤ (suc (length basis.chain) - 1) + 6 * (length over.made.items - 7) =

@@ -188,9 +188,7 @@ module _ (limits : Limits) where
 
     others : (s : StepOf Record) (x : Answer Record) → IsOther s → UsesFew s x
     others s x other =
-        let same : had (after_reply (learn k s x) r) ≡ had k = ap
-        (λ (own : Belongings). total (λ row. row_mark (own.rows row)) limits.rows + total (λ page. page_mark (own.pages page)) limits.pids)
-        (same_own s x other) in
+        let same : had (after_reply (learn k s x) r) ≡ had k = rw (same_own s x other) in
         let none = took_none s x other in
         inl (omega (arith, same, none))
 
@@ -347,9 +345,8 @@ module _ (limits : Limits) (entries : List Entry) (a : ℕ) (within : a < limits
   had_moves : (k : Knowledge) → numbers_had limits (knows entries) + had limits k ≤ numbers_had limits (put (knows entries) a k) + had limits (knows entries a)
   had_moves k =
       let h = one (all_had (put (knows entries) a k)) (all_had (knows entries)) a limits.actors within
-      (λ actor lt ne. let same : all_had (put (knows entries) a k) actor ≡ all_had (knows entries) actor = ap
-      (λ (k : Knowledge). rows_had limits k + pids_had limits k) (put_other (knows entries) a k actor ne) in omega arith) in
-      let here : all_had (put (knows entries) a k) a ≡ had limits k = ap (λ (k : Knowledge). rows_had limits k + pids_had limits k) (put_same (knows entries) a k) in
+      (λ actor lt ne. let same : all_had (put (knows entries) a k) actor ≡ all_had (knows entries) actor = rw (put_other (knows entries) a k actor ne) in omega arith) in
+      let here : all_had (put (knows entries) a k) a ≡ had limits k = rw (put_same (knows entries) a k) in
       omega (arith, h, here)
 
   pub used_step : (s : StepOf Record) (x : Answer Record) (r : Option Reply) (state : IsState limits entries) → AreUsed limits entries

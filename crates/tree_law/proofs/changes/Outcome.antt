@@ -58,7 +58,7 @@ module _ (m : Memory) {log : List Update} {o : Owners} {knows : ℕ → Knowledg
 
   -- whose the pages are is as it was
   owned : o'.page ≡ o.page → (page : ℕ) → o'.page page ≡ o.page page
-  owned moves page = ap (λ (f : ℕ → PageOwner). f page) moves
+  owned moves page = rw moves
 
   -- the slot of an own page is set, or emptied
   own_slot : (p : ℕ) (slot : Option ℕ) (page : ℕ) → o'.page ≡ o.page → o.page (suc p) ≡ Keeps a → Rests (record (shared_part m) { slots = put (slot_in m.slots) (suc p) slot }) page
@@ -113,7 +113,7 @@ module _ (m : Memory) {log : List Update} {o : Owners} {knows : ℕ → Knowledg
       (λ ne t. inl (ap (λ (f : ℕ → PageOwner). f page) ph ∙ put_other o.page q (Keeps a) page ne, refl))) (λ c. let e = c.5.0.1 in cc)
     where
       owned_at : (page q : ℕ) (w : PageOwner) → o'.page ≡ put o.page q w → page ≡ q → o'.page page ≡ w
-      owned_at page q w moves e = ap (λ (f : ℕ → PageOwner). f page) moves ∙ ap (put o.page q w) e ∙ put_same o.page q w
+      owned_at page q w moves e = rw moves (ap (put o.page q w) e ∙ put_same o.page q w)
   outcome (ReusePids word bits) x r may useful halved is ph same each' = quiet _ _ _ r same each' (λ page. elim (decided (is_among word bits page)) [
     | inl among ↦ let now = ((ph page).0 among).4 in inr (ap is_alive now, ap (λ w. life w (slot_in m.slots page)) now)
     | inr other ↦ inl ((ph page).1 other, refl)

@@ -163,7 +163,7 @@ module _ (limits : Limits) (entries : List Entry) (a : ℕ) (s : StepOf Record) 
 
   -- the entry is the actor's
   of_actor : (op : Operation) → op.actor ≡ a → next ≡ Step op.actor s x reply
-  of_actor op same = ap (λ b. Step b s x reply) (sym same)
+  of_actor op same = rw (← same)
 
   -- what is known of the entry
   abbrev IsKnown : Entry → Type 0

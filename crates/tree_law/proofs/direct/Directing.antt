@@ -31,7 +31,7 @@ few_last limits trace op n rest whole h = (
   All-weaker (λ cause. (cause < length trace) × IsCause limits trace op cause) (λ cause. (cause ≤ n) × IsCause limits trace op cause)
       (λ cause g. let below : cause < length trace = g.0 in (omega arith, g.1)) h.causes h.each,
   (
-      let same : slice_range trace op.start (suc n) ≡ drop op.start trace = ap (λ end. take (end - op.start) (drop op.start trace)) whole ∙ take_rest trace op.start in
+      let same : slice_range trace op.start (suc n) ≡ drop op.start trace = rw whole (take_rest trace op.start) in
       let counted : count_by (is_step_of op.actor) (slice_range trace op.start (suc n)) ≡ count_by (is_step_of op.actor) (drop op.start trace) = ap (count_by (is_step_of op.actor)) same in
       let paid : count_by (is_step_of op.actor) (drop op.start trace) + rest ≤ cause_worth limits * (length h.causes + 1) = h.paid in
       omega arith
@@ -51,7 +51,7 @@ since_last limits trace op m n rest whole h = (
       (λ cause. (m ≤ cause) × (cause ≤ n) × IsCause limits trace op cause) (λ cause g. let below : cause < length trace = g.1 in (g.0, omega arith, g.2))
       h.causes h.each,
   (
-      let same : slice_range trace m (suc n) ≡ drop m trace = ap (λ end. take (end - m) (drop m trace)) whole ∙ take_rest trace m in
+      let same : slice_range trace m (suc n) ≡ drop m trace = rw whole (take_rest trace m) in
       let counted : count_by (is_step_of op.actor) (slice_range trace m (suc n)) ≡ count_by (is_step_of op.actor) (drop m trace) = ap (count_by (is_step_of op.actor)) same in
       let paid : count_by (is_step_of op.actor) (drop m trace) + rest ≤ cause_worth limits * (length h.causes + 10) = h.paid in
       omega arith

@@ -37,7 +37,7 @@ module _ {limits : Limits} {m : Memory} {log : List Update} {o : Owners} {knows 
       under : (v : Option ℕ) → next_row w ≡ v → IfSome v (λ n. o.row n ≡ Linked) → MatchOption v (c ≡ []) (λ n. IsChainFrom m.rows n c)
           → k < length (chain_rows (unwrap_or v 0) c) → slice_index_or (chain_rows (unwrap_or v 0) c) k row ≡ row
           → ((n : ℕ) → o.row n ≡ Linked → t.row_out n ≡ None → IsChainFrom m.rows n c → (row : ℕ) → Contains (chain_rows n c) row → t.row_out row ≡ None) → t.row_out row ≡ None
-      under None j i0 empty within at deeper = absurd (let none_there : length (chain_rows 0 c) ≡ 0 = ap (λ r. length (chain_rows 0 r)) empty in omega arith)
+      under None j i0 empty within at deeper = absurd (let none_there : length (chain_rows 0 c) ≡ 0 = rw empty in omega arith)
       under (Some n) j i0 below within at deeper = deeper n i0 ((T.together x n w l h.0 j).1 ∙ e) below row (k, within, at)
 
   pub off_chain : (row : ℕ) (w : Outing) → t.row_out row ≡ Some w → IsOnChain m row → ⊥
@@ -228,7 +228,7 @@ module _ (limits : Limits) (entries : List Entry) (a : ℕ) (step : StepOf Recor
           where
             whole_take : (es : List Entry) (n : ℕ) → length es ≡ n → take n es ≡ es
             whole_take [] zero e = refl
-            whole_take (x ∷ es) (suc n) e = ap (λ v. x ∷ v) (whole_take es n (omega arith))
+            whole_take (x ∷ es) (suc n) e = rw (whole_take es n (omega arith))
             whole_take es n e = absurd (omega arith)
 
     -- what the rows in limbos show afterwards

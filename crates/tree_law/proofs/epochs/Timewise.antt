@@ -63,7 +63,7 @@ put_reached f f' c l0 s0 st n was e at q l s r = go (rw e at r)
     go = by_equal q c (λ i t. rw t λ h. let v = at l s h in placed_reached l s st (f q) (ap f i ∙ was ∙ ap (λ j. Placed st j s0) v.0 ∙ ap (λ (j : Key). Placed st l j) v.1)) (λ ne t. rw t λ h. h)
 
 put_cleared : (f f' : ℕ → PageOwner) (c l0 : ℕ) (s0 : Key) (st : Stage) (n : PageOwner) → f c ≡ Placed st l0 s0 → f' ≡ put f c n → (q b l : ℕ) (s : Key) → f q ≡ Cleared b l s → f' q ≡ Cleared b l s
-put_cleared f f' c l0 s0 st n was e q b l s i = ap (λ (h : ℕ → PageOwner). h q) e ∙ put_other f c n q (λ j. absurd (cc)) ∙ i
+put_cleared f f' c l0 s0 st n was e q b l s i = rw e (put_other f c n q (λ j. absurd (cc)) ∙ i)
 
 module _ {limits : Limits} {m : Memory} {log : List Update} {o : Owners} {knows : ℕ → Knowledge} {point : ℕ → Option (List Update)}
     {logs : ℕ → List (List Update)} {now : ℕ} {t : Times} (g : IsTree (shared_part m) log o knows point logs) (T : Timed limits m o knows now t) (a : ℕ) where
@@ -138,7 +138,7 @@ module _ {limits : Limits} {m : Memory} {log : List Update} {o : Owners} {knows 
 
   same_clears : (f' : ℕ → PageOwner) → f' ≡ o.page → Clears f'
   unfolding Clears
-  same_clears f' e q b l s i = ap (λ (h : ℕ → PageOwner). h q) e ∙ i
+  same_clears f' e q b l s i = rw e i
 
   put_reach : (p y : ℕ) (f' : ℕ → PageOwner) (c l0 : ℕ) (s0 : Key) (st : Stage) (n : PageOwner) → o.page c ≡ Placed st l0 s0 → f' ≡ put o.page c n
       → ((l : ℕ) (s : Key) → Reached 0 l s n → (l0 ≡ l) × (s0 ≡ s)) → Reach p y f'
@@ -187,7 +187,7 @@ module _ {limits : Limits} {m : Memory} {log : List Update} {o : Owners} {knows 
               (λ ne t. rw t λ v. inl v)
 
       cleared : Clears f'
-      cleared q c l s e = ap (λ (f : ℕ → PageOwner). f q) h.5 ∙ put_other o.page w.page (Placed Fresh h.1 w.separator) q (λ i. absurd (cc h.4)) ∙ e
+      cleared q c l s e = rw h.5 (put_other o.page w.page (Placed Fresh h.1 w.separator) q (λ i. absurd (cc h.4)) ∙ e)
   links_pages p x y w f' st sp h = (same_reach p y f' h, same_clears f' h)
 
   no_page_out : (q : ℕ) → o.page q ≡ Keeps a → t.page_out q ≡ None
@@ -322,7 +322,7 @@ module _ {limits : Limits} {m : Memory} {log : List Update} {o : Owners} {knows 
           go = by_equal p q (λ i t. rw t λ v. absurd v) (λ ne t. rw t λ v. v)
 
       cleared : (p b l : ℕ) (k : Key) → o.page p ≡ Cleared b l k → n.owners.page p ≡ Cleared b l k
-      cleared p b l k i = ap (λ (f : ℕ → PageOwner). f p) n.phased ∙ put_other o.page q (Keeps a) p (λ j. absurd (cc (g.frees.page q e).0)) ∙ i
+      cleared p b l k i = rw n.phased (put_other o.page q (Keeps a) p (λ j. absurd (cc (g.frees.page q e).0)) ∙ i)
   takes_pid q r false e n = still_timed (after_reply (knows a) r) (calm_pages (memory_after a (TakePid q) m) n refl (λ row i. i) n.phased (omega arith) (λ b ne. refl)) refl refl refl refl refl refl
 
   -- each allowed step but a reuse

@@ -15,7 +15,7 @@ use Rattle.tree_law.proofs.shape.Relinked.{in_level_as, right_page, tree_kept}
 use Rattle.tree_law.proofs.shape.Frames.{Change, kept_change, spared_change, change_none, knows_more, chain_stands}
 
 pub spec_leaf : (log : List Update) (index : ℕ → Key → Option ContentOf) (l : ℕ) → l ≡ 0 → (k : Key) → spec log index l k ≡ leaf_map log k
-spec_leaf log index l e k = ap (λ n. spec log index n k) e
+spec_leaf log index l e k = rw e
 
 pub on_or_merged : (st : Stage) → (rank st ≤ 3) ⊎ (st ≡ Merged)
 on_or_merged Merged = inr refl

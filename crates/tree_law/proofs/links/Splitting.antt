@@ -10,7 +10,7 @@ use Rattle.tree_law.proofs.shape.Kept.{Kept}
 
 -- what a split leaves below its separator
 split_below : (split : SplitOf) (c : List Record) (k : Key) → IsBelow k split.separator → content_in (Split split ∷ c) k ≡ content_in c k
-split_below split c k h = ap (λ t. cond (not t) None (content_in c k)) h
+split_below split c k h = rw h
 
 module _ {m : Shared} {log : List Update} {o : Owners} {knows : ℕ → Knowledge} {point : ℕ → Option (List Update)} {logs : ℕ → List (List Update)} (g : IsTree m log o knows point logs) (a : ℕ) where
   pub keeps_not : (q : ℕ) → o.page q ≡ Keeps a → (l : ℕ) (s : Key) (st : Stage) → o.page q ≡ Placed st l s → ⊥

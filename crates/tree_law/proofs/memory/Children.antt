@@ -75,7 +75,7 @@ module _ (limits : Limits) (entries : List Entry) (state : IsState limits entrie
   child l pid above key held has e =
       let a = on_level limits entries state (suc l) above has in
       let chain : a.place.chain ≡ above.chain = ap (λ (p : LivePage). p.chain) a.is in
-      let content : content_in a.place.chain key ≡ Some (Child pid held) = ap (λ c. content_in c key) chain ∙ e in
+      let content : content_in a.place.chain key ≡ Some (Child pid held) = rw chain e in
       let within : IsTrue (covers a.place.chain key) = in_own_range a.place.chain (state.fitted a.place.row a.here.linked a.place.chain a.here.is_page.is_chain).fitted key (Child pid held) content in
       let inside : Covers a.place.chain key = covers_from a.place.chain key within in
       let named = (state.is_tree.tree.exact.named l key (Child pid held) (sym (a.here.is_page.same key inside) ∙ content)).1 in

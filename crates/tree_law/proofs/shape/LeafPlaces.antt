@@ -46,7 +46,7 @@ module _ (memory : Memory) {log : List Update} {o : Owners} {knows : ℕ → Kno
       }
 
 valued : (content : Option ContentOf) (value : Key) → value_of content ≡ Some value → content ≡ Some (Value value)
-valued (Some (Value v)) value e = ap (λ (w : Key). Some (Value w)) (let f : v ≡ value = cc in f)
+valued (Some (Value v)) value e = rw (let f : v ≡ value = cc in f)
 valued content value e = absurd (cc)
 
 -- the pairs of such a leaf in a range that lies within its own are those of the log

@@ -149,7 +149,7 @@ base_alone m x row base [] chain among e = absurd chain
 base_alone m x row base (v ∷ c) chain (zero, lt, at) e = at
 base_alone m x row base (v ∷ c) chain (suc k, lt, at) e =
     let none : c ≡ [] = rw (same_Some v (Base base) (sym chain.0 ∙ e)) at chain.1 in
-    let short : length (chain_rows (unwrap_or (next_row v) 0) c) ≡ 0 = ap (λ d. length (chain_rows (unwrap_or (next_row v) 0) d)) none in
+    let short : length (chain_rows (unwrap_or (next_row v) 0) c) ≡ 0 = rw none in
     absurd (omega arith)
 
 -- the slot from which a row is on a chain

@@ -43,7 +43,7 @@ not_zero n = eqb_apart (suc n) 0 (λ e. absurd (cc))
 link_page : (m : Memory) (p old new : ℕ)
     → link_of m (suc p) old new ≡ cond (eqb old 0) (Some link.Ready) (cond (eqb new 0) (option_map link_without (m.rows old)) (option_map record_link (m.rows new)))
 link_page m p old new =
-    ap (λ t. cond t (Some link.Root) (cond (eqb old 0) (Some link.Ready) (cond (eqb new 0) (option_map link_without (m.rows old)) (option_map record_link (m.rows new))))) (not_zero p)
+    rw (not_zero p)
 
 pub link_ready : (m : Memory) (p new : ℕ) → link_of m (suc p) 0 new ≡ Some link.Ready
 link_ready m p new = link_page m p 0 new
@@ -59,7 +59,7 @@ link_front m p old new =
 
 -- what is put at a place has its phase there
 put_phase : (f f' : ℕ → PageOwner) (p : ℕ) (w : PageOwner) → f' ≡ put f p w → phase_of (f' p) ≡ phase_of w
-put_phase f f' p w e = ap (λ (g : ℕ → PageOwner). phase_of (g p)) e ∙ ap phase_of (put_same f p w)
+put_phase f f' p w e = rw e (ap phase_of (put_same f p w))
 
 -- what a new root has at its second key, and above its low key at no other one
 abbrev children : List ℕ → ℕ → ℕ → List ℕ → Option ContentOf
