@@ -42,8 +42,7 @@ not_zero n = eqb_apart (suc n) 0 (λ e. absurd (cc))
 -- the link of an exchange on a page, by its numbers
 link_page : (m : Memory) (p old new : ℕ)
     → link_of m (suc p) old new ≡ cond (eqb old 0) (Some link.Ready) (cond (eqb new 0) (option_map link_without (m.rows old)) (option_map record_link (m.rows new)))
-link_page m p old new =
-    rw (not_zero p)
+link_page m p old new = rw (not_zero p)
 
 pub link_ready : (m : Memory) (p new : ℕ) → link_of m (suc p) 0 new ≡ Some link.Ready
 link_ready m p new = link_page m p 0 new
