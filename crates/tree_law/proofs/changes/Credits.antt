@@ -1,5 +1,5 @@
 -- What the operations that are under way may pay still.
-use Rattle.tree_law.proofs.Words.{ap, refl, Option, None, ◌≢◌, ◌≤◌}
+use Rattle.tree_law.proofs.Words.{refl, Option, None, ◌≢◌, ◌≤◌}
 use Rattle.tree_law.proofs.Words.{ℕ, ◌≡◌, ◌<◌, arith, Some, ◌+◌, IsSome, Command, Reply, Answer, StepOf, Record}
 use Rattle.tree_law.proofs.Words.{Knowledge, learn, after_reply, after_begin, put}
 use Rattle.traces.specs.discipline.Knowledge.{going_on}
@@ -8,7 +8,7 @@ use Rattle.tree_law.proofs.shape.Puts.{put_other, put_same}
 use Rattle.tree_law.proofs.links.Exchanged.{exchanged_alike}
 use Rattle.tree_law.proofs.links.Learning.{learning, wins}
 use Rattle.tree_law.proofs.direct.Linking.{linked_kept}
-use Rattle.tree_law.proofs.changes.Totals.{none, one}
+use Rattle.tree_law.proofs.changes.Totals.{one}
 
 command_kept : (k : Knowledge) (s : StepOf Record) (x : Answer Record) → (learn k s x).asked.command ≡ k.asked.command
 command_kept k s x = elim (learning k s x) as (λ s x k' v. k'.asked.command ≡ k.asked.command) [

@@ -6,7 +6,6 @@ use Rattle.tree_law.proofs.Words.{low_in, HasRead, FitsOn, IsFitted, Memory, Com
 use Rattle.tree_law.proofs.Words.{Knowledge, Written, learn, MayLink, MayUpdate, MayConsolidate, MaySplit}
 use Rattle.tree_law.proofs.Words.{MayAdd, update_record, base_from, AreFitted, Owners, Shared, IsTree, shared_part, slot_in}
 use Rattle.tree_law.proofs.Words.{LinkMoves, put, phase_of, free, IsUpdateLink, IsUseful}
-use Rattle.bw_model.specs.declared.step.Link.TheVariants as link
 use Rattle.linearization.specs.Halves.{IsHalved}
 use Rattle.tree_law.specs.Changes.{IsWorth, life, total}
 use Rattle.tree_law.proofs.trace.Phasing.{link_front}

@@ -7,7 +7,7 @@ use Rattle.tree_law.proofs.Words.{IsAnswer, May, Entry, Begin, Step}
 use Rattle.tree_law.proofs.Words.{after_exchange, after_emptying, OwnPage, Other, Empty, Ready, Gone, OwnRow, Written, put, shared_part, IsState, PageOwner, Keeps}
 use Rattle.bw_model.specs.declared.step.Link.TheVariants as link
 use Rattle.traces.specs.discipline.Discipline.{MayExchange}
-use Rattle.traces.specs.discipline.Knowledge.{Belongings, Foreign, Taken}
+use Rattle.traces.specs.discipline.Knowledge.{Foreign, Taken}
 use Rattle.bw_model.specs.declared.step.Step.TheVariants.{Retire}
 use Rattle.traces.specs.trace.Trace.{Happens}
 use Rattle.traces.proofs.TraceLaws.{Happens-below, Happens-kept, Happens-last}

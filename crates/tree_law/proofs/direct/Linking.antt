@@ -1,6 +1,6 @@
 -- What an exchange that won has linked, by what its actor knew: an update, once in an operation; a base over a chain that was read.
-use Rattle.tree_law.proofs.Words.{◌⊎◌, [], ap, refl, Option, suc, None, List, true, inl, ◌≢◌, length, inr, ◌∷◌, subst, sym, ℕ, ◌≡◌, zero, ◌∙◌, ◌<◌, arith, Some, same_Some, option_map, IsSome}
-use Rattle.tree_law.proofs.Words.{Limits, Answer, Whether, Link, StepOf, Exchange, Page, record_link, Memory, Record, Remove, Base, Hold, Split, Put, Delete, Merge, Term, Unterm, IsChainFrom-unique}
+use Rattle.tree_law.proofs.Words.{◌⊎◌, [], ap, refl, Option, suc, None, List, true, inl, ◌≢◌, length, inr, ◌∷◌, sym, ℕ, ◌≡◌, zero, ◌∙◌, ◌<◌, arith, Some, same_Some, option_map, IsSome}
+use Rattle.tree_law.proofs.Words.{Limits, Answer, Whether, Link, StepOf, Exchange, Page, record_link, Memory, Record, Remove, Base, IsChainFrom-unique}
 use Rattle.tree_law.proofs.Words.{IsChainOf, IsChainFrom, is_removed, MayExchange, IsFitted, knows, Knowledge, Ready, learn, Gone, Written, after_exchange, forgotten, memory_of, IsUseful, Entry}
 use Rattle.tree_law.proofs.Words.{link_without, link_of, IsUpdateLink, row_in, IsState}
 use Rattle.bw_model.specs.declared.step.Link.TheVariants as link

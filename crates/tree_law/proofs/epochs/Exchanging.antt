@@ -1,5 +1,5 @@
 -- An exchange of a page's slot to a row: what it takes out of the tree, and what actors hold afterwards.
-use Rattle.tree_law.proofs.Words.{false, ◌⊎◌, ap, refl, Option, suc, None, List, true, inl, ◌≢◌, inr, subst, sym, ℕ, ◌≡◌, Bool, ◌∙◌, arith, Some, eqb, ⊎_elim, and-false, same_Some, IfSome}
+use Rattle.tree_law.proofs.Words.{false, ◌⊎◌, ap, refl, Option, suc, None, List, true, inl, ◌≢◌, inr, sym, ℕ, ◌≡◌, Bool, ◌∙◌, arith, Some, eqb, ⊎_elim, and-false, same_Some, IfSome}
 use Rattle.tree_law.proofs.Words.{◌&&◌, Update, Limits, Exchange, Memory, replaced_at, next_row, Record, Base, IsOwn, Knowledge, is_on_walk, taken_out, next_seen, Key, IsHomed, Linked, Owners}
 use Rattle.tree_law.proofs.Words.{Reached, Spare, Owner, SeenFits, PageOwner, Cleared, put, shared_part, slot_in, Times, Timed, times_after, LimboFits, Outing}
 use Rattle.tree_law.proofs.Words.{out_after, is_linked, is_cleared, is_base}

@@ -1,12 +1,11 @@
 -- One more step: what the limbos show of it, and that what it frees is freed by the rule.
-use Rattle.tree_law.proofs.Words.{false, ◌⊎◌, ap, refl, Option, suc, None, List, true, inl, length, ◌++◌, inr, ◌∷◌, subst, sym, ℕ, ◌≡◌, zero, ◌∙◌, ◌<◌, arith, Some, take, eqb, eqb-true, same_Some}
+use Rattle.tree_law.proofs.Words.{false, ◌⊎◌, ap, refl, Option, suc, None, List, true, inl, length, ◌++◌, inr, ◌∷◌, sym, ℕ, ◌≡◌, zero, ◌∙◌, ◌<◌, arith, Some, take, eqb, eqb-true, same_Some}
 use Rattle.tree_law.proofs.Words.{Contains, IfSome, MatchOption, unwrap_or, slice_index_or, Update, is_among, Reply, Limits, Answer, StepOf, ReuseRows, ReusePids, TakePid, TakeRow, Exchange, Memory}
 use Rattle.tree_law.proofs.Words.{next_row, Record, slice_get_below, slice_get-push, take-push_whole, TakesStep-push_cases, memory_of-push, IsChainOf, IsOnChain, chain_rows, IsChainFrom, low_in}
 use Rattle.tree_law.proofs.Words.{level_in, MayExchange, IsAllowed, IsPassed, MayFree, knows, Knowledge, after_reply, learn, Other, Unstamped, LimboMark, Absent, Stamped, passed_by}
 use Rattle.tree_law.proofs.Words.{with_stamp, IsAnswer, memory_after, memory_at, memory_of, IsStep, Entry, Step, UnlinksPid, UnlinksRow, HandsPid, HandsRow}
 use Rattle.tree_law.proofs.Words.{Key, IsInLimbo, Free, Linked, Owners, Reached}
-use Rattle.tree_law.proofs.Words.{Nobody, PageOwner, put, shared_part, slot_in, IsReadyPage, IsState, IsInTree, Times, Timed, LimboFits, Outing, IsTree, []}
-use Rattle.base_page.specs.Pages as pages
+use Rattle.tree_law.proofs.Words.{Nobody, put, shared_part, slot_in, IsReadyPage, IsState, IsInTree, Times, Timed, LimboFits, Outing, IsTree, []}
 use Rattle.traces.specs.trace.Trace.{TakesStep}
 use Rattle.linearization.specs.Reuse.{IsFreedByRule}
 use Rattle.tree_law.proofs.links.Keeping.{slot_of}

@@ -1,5 +1,5 @@
 -- Rows and pages that nobody holds may be freed: the invariant stays.
-use Rattle.tree_law.proofs.Words.{false, ◌⊎◌, [], refl, Option, suc, None, List, true, inl, inr, ◌∷◌, subst, sym, ℕ, ◌≡◌, Bool, ◌∙◌, Some, IfSome, Update, ContentOf, Child, next_row, Record}
+use Rattle.tree_law.proofs.Words.{false, ◌⊎◌, [], refl, Option, suc, None, List, true, inl, inr, ◌∷◌, sym, ℕ, ◌≡◌, Bool, ◌∙◌, Some, IfSome, Update, ContentOf, Child, next_row, Record}
 use Rattle.tree_law.proofs.Words.{content_in, right_in, low_in, is_removed, level_in, high_in, IsOwn, Knowledge, Foreign, OwnPage, Taken, Other, Gone, Written, OwnRow, Key, Covers, Free, Linked}
 use Rattle.tree_law.proofs.Words.{Owners, Reached, IsOut, Owner, OwnFits, LinkFits, HeadFits, OrderFits, PageFits, IsChain, IsCleared, SpellsLog, SeenFits, Nobody, Placed, Indexed, PageOwner, Cleared}
 use Rattle.tree_law.proofs.Words.{Keeps, Merged, Stage, child_of, Shared, IsTree, spec, IsOff, Off, SidePage, InPlace, IsPart, Exact, KnowsBy}

@@ -1,5 +1,5 @@
 -- Links on an index page that change one term: a term is posted, held, or taken away.
-use Rattle.tree_law.proofs.Words.{false, ap, refl, cond, Option, suc, None, List, true, inl, ◌≢◌, ◌≤◌, ◌∷◌, subst, sym, ℕ, ◌≡◌, zero, ◌∙◌, ◌<◌, arith, Some, same_Some, is_eq, IsSome, key_cmp, Update}
+use Rattle.tree_law.proofs.Words.{false, ap, refl, cond, Option, suc, None, List, true, inl, ◌≢◌, ◌≤◌, ◌∷◌, sym, ℕ, ◌≡◌, zero, ◌∙◌, ◌<◌, arith, Some, same_Some, is_eq, IsSome, key_cmp, Update}
 use Rattle.tree_law.proofs.Words.{Reply, ContentOf, Child, next_row, Record, Hold, Term, Unterm, content_in, right_in, low_in, is_removed, level_in, high_in, HasRead, MayPost, MayUnterm, MayHold}
 use Rattle.tree_law.proofs.Words.{Knowledge, Foreign, Gone, Written, linked_over, handed_page, handed_over, Key, Covers, put_key, Linked, Owners, Reached, stage_removed, InOrder}
 use Rattle.tree_law.proofs.Words.{IsChain, OwnsPages, Placed, Indexed, PageOwner, Cleared, Fresh, rank, Held, Merged, Stage, rank_of, child_of, mark, put, Shared, IsTree, spec, inr}

@@ -1,9 +1,9 @@
 -- What a step leaves, and what the tree says of a slot.
-use Rattle.tree_law.proofs.Words.{false, ◌⊎◌, ap, refl, Option, None, List, true, inl, ◌≤◌, inr, ◌∷◌, subst, sym, ℕ, ◌≡◌, ◌∙◌, arith, Some, same_Some, Update, Command, Reply, Answer, []}
+use Rattle.tree_law.proofs.Words.{false, ◌⊎◌, ap, refl, Option, None, List, true, inl, ◌≤◌, inr, ◌∷◌, sym, ℕ, ◌≡◌, ◌∙◌, arith, Some, same_Some, Update, Command, Reply, Answer, []}
 use Rattle.tree_law.proofs.Words.{Done, Leave, Enter, ContentOf, Child, Record, right_in, low_in, is_removed, level_in, HasRead, IsMet, NamesChild, after_begin}
 use Rattle.tree_law.proofs.Words.{Knowledge, after_reply, learn, forgotten, Key}
 use Rattle.tree_law.proofs.Words.{Owners, Reached, IsOut, Owner, LinkFits, InOrder, IsChain, IsClosed, SpellsLog, leaf_map, ChainNames, OwnsPages, Owns, Placed, Indexed}
-use Rattle.tree_law.proofs.Words.{PageOwner, Fresh, rank, Removed, Held, Merged, Stage, rank_of, child_of, mark, put, Shared, IsTree, spec, IsOff, Off, SidePage, InPlace, HasLevels, KnowsBy}
+use Rattle.tree_law.proofs.Words.{PageOwner, Fresh, rank, Merged, Stage, rank_of, child_of, mark, put, Shared, IsTree, spec, IsOff, Off, SidePage, InPlace, HasLevels, KnowsBy}
 use Rattle.traces.specs.discipline.Discipline.{IsBeyond}
 use Rattle.tree_law.specs.Tree.{FreeAreUnowned}
 use Rattle.tree_law.proofs.shape.KeyOrder.{covers_from}

@@ -1,5 +1,5 @@
 -- The exchange that links a split: the new page comes between the old one and its right.
-use Rattle.tree_law.proofs.Words.{ap, refl, cond, Option, None, List, inl, ◌≢◌, inr, ◌∷◌, sym, ℕ, ◌≡◌, ◌∙◌, arith, Some, not, Update, Reply, Record, Split, SplitOf, content_in, low_in}
+use Rattle.tree_law.proofs.Words.{ap, refl, Option, List, inl, ◌≢◌, inr, ◌∷◌, sym, ℕ, ◌≡◌, ◌∙◌, arith, Some, Update, Reply, Record, Split, SplitOf, content_in, low_in}
 use Rattle.tree_law.proofs.Words.{level_in, high_in, base_from, HasRead, MaySplit, Knowledge, after_reply, Other, Written, after_filling, handed_page, handed_over, Key, IsBelow, Covers, Linked}
 use Rattle.tree_law.proofs.Words.{Owners, Spare, Placed, Keeps, Fresh, Stage, put, Shared, IsTree, []}
 use Rattle.tree_law.proofs.shape.{under_trans, upto_trans, below_not, covers_to, by_equal, put_same, put_other, tree_relinked, placed_level, exact_fresh, row_own, row_same}

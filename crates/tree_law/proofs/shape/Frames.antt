@@ -1,5 +1,5 @@
 -- What a step touches was free or its actor's own: so all else stays.
-use Rattle.tree_law.proofs.Words.{false, ◌⊎◌, ap, refl, Option, suc, None, List, true, inl, ◌≢◌, ◌≤◌, inr, ◌∷◌, subst, sym, ℕ, ◌≡◌, Bool, ◌∙◌, arith, Some, same_Some, IfSome, Update}
+use Rattle.tree_law.proofs.Words.{false, ◌⊎◌, ap, refl, Option, suc, None, List, true, inl, ◌≢◌, ◌≤◌, inr, ◌∷◌, sym, ℕ, ◌≡◌, Bool, ◌∙◌, arith, Some, same_Some, IfSome, Update}
 use Rattle.tree_law.proofs.Words.{next_row, Record, content_in, low_in, is_removed, level_in, Key, Covers, Free, Linked, Owners, Reached, Spare, IsOut, IsLinked, Owner, HeadFits, OrderFits, IsChain}
 use Rattle.tree_law.proofs.Words.{IsClosed, IsCleared, SpellsLog, Knows, leaf_map, SeenFits, Forward, Nobody, Placed, PageOwner, Cleared, Keeps, rank, Merged, Stage, put, Shared, []}
 use Rattle.tree_law.proofs.shape.Puts.{by_equal}

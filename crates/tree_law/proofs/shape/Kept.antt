@@ -1,5 +1,5 @@
 -- What stays of what actors know: linked rows stay, and pages go forward.
-use Rattle.tree_law.proofs.Words.{false, ◌⊎◌, [], refl, Option, suc, None, List, true, inl, ◌≤◌, inr, ◌∷◌, subst, sym, ℕ, ◌≡◌, Bool, ◌∙◌, ◌<◌, arith, Some, same_Some, IfSome, Update}
+use Rattle.tree_law.proofs.Words.{false, ◌⊎◌, [], refl, Option, suc, None, List, true, inl, ◌≤◌, inr, ◌∷◌, sym, ℕ, ◌≡◌, Bool, ◌∙◌, ◌<◌, arith, Some, same_Some, IfSome, Update}
 use Rattle.tree_law.proofs.Words.{next_row, Record, low_in, is_removed, level_in, Foreign, OwnPage, Taken, Other, Gone, Written, OwnRow, Key, Covers, Linked, Owners, Reached, Spare, IsOut, OwnFits}
 use Rattle.tree_law.proofs.Words.{LinkFits, HeadFits, OrderFits, InOrder, PageFits, IsChain, IsClosed, IsCleared, SpellsLog, Knows, SeenFits, ChainNames, OwnsPages, Forward, Owns, Placed, PageOwner}
 use Rattle.tree_law.proofs.Words.{Cleared, Keeps, Fresh, rank, Stage, rank_of, child_of, Shared}

@@ -1,5 +1,5 @@
 -- The order of keys is total, and the empty key is lowest.
-use Rattle.tree_law.proofs.Words.{false, [], ap, refl, Option, None, List, true, inl, ◌≢◌, inr, ◌∷◌, subst, ◌≡◌, Bool, ◌∙◌, Some, is_eq, IsTrue, ◌&&◌, not, key_cmp, is_under, is_in_range}
+use Rattle.tree_law.proofs.Words.{false, [], ap, refl, Option, None, List, true, inl, ◌≢◌, inr, ◌∷◌, ◌≡◌, Bool, ◌∙◌, Some, is_eq, IsTrue, ◌&&◌, not, key_cmp, is_under, is_in_range}
 use Rattle.tree_law.proofs.Words.{is_below, Record, low_in, high_in, covers, Key, IsBelow, IsUpTo, Covers, IsUnder, put_key}
 use Rattle.std.specs.declared.cmp.Ordering.TheVariants.{Less, Equal, Greater}
 use Rattle.std.specs.Ordering.{is_lt, ordering_reverse}

@@ -1,5 +1,5 @@
 -- Levels and the tree: where their slots stay, and where pages stand in one's place, or one in the place of two.
-use Rattle.tree_law.proofs.Words.{◌⊎◌, ap, refl, Option, None, List, inl, ◌≢◌, ◌++◌, ◌≤◌, inr, ◌∷◌, subst, sym, ℕ, ◌≡◌, ◌∙◌, Some, same_Some, ⊤, Update, ContentOf, Record, right_in}
+use Rattle.tree_law.proofs.Words.{◌⊎◌, ap, refl, Option, None, List, inl, ◌≢◌, ◌++◌, ◌≤◌, inr, ◌∷◌, sym, ℕ, ◌≡◌, ◌∙◌, Some, same_Some, ⊤, Update, ContentOf, Record, right_in}
 use Rattle.tree_law.proofs.Words.{low_in, high_in, Key, IsBelow, IsUpTo, Covers, Owners, IsOut, IsChain, IsClosed, Placed, rank, Stage, Shared, spec, HasSidePage}
 use Rattle.tree_law.proofs.Words.{Level, IsOff, Off, SidePage, InPlace, IsPart, Exact, HasLevels, []}
 use Rattle.tree_law.specs.Keys.{IsWithinEnd}

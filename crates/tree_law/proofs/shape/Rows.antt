@@ -1,5 +1,5 @@
 -- The rows of a chain from a linked row are linked.
-use Rattle.tree_law.proofs.Words.{[], ap, Option, suc, None, List, length, ◌∷◌, subst, sym, ℕ, ◌≡◌, zero, ◌∙◌, ◌<◌, arith, Some, same_Some, Contains, IfSome, MatchOption, unwrap_or, slice_index_or}
+use Rattle.tree_law.proofs.Words.{[], Option, suc, None, List, length, ◌∷◌, subst, sym, ℕ, ◌≡◌, zero, ◌∙◌, ◌<◌, arith, Some, same_Some, Contains, IfSome, MatchOption, unwrap_or, slice_index_or}
 use Rattle.tree_law.proofs.Words.{next_row, Record, IsChainFrom-unique, chain_rows, IsChainFrom, Linked, Owners, IsClosed, Shared}
 
 -- the record of a linked row has a linked row under it

@@ -1,5 +1,5 @@
 -- One more entry: what the names that actors have learnt are, and what is read.
-use Rattle.tree_law.proofs.Words.{false, ◌⊎◌, ap, refl, cond, Option, suc, None, List, true, inl, ◌≢◌, length, ◌++◌, ◌≤◌, inr, ◌∷◌, subst, sym, ℕ, ◌≡◌, Bool, zero, ◌∙◌, ◌<◌, arith, Some, ◌+◌, ◌^◌}
+use Rattle.tree_law.proofs.Words.{false, ◌⊎◌, ap, refl, cond, Option, suc, None, List, true, inl, ◌≢◌, length, ◌++◌, ◌≤◌, inr, ◌∷◌, subst, sym, ℕ, ◌≡◌, Bool, zero, ◌∙◌, ◌<◌, arith, Some, ◌^◌}
 use Rattle.tree_law.proofs.Words.{eqb, same_Some, Contains, unwrap_or, IsFalse, Update, Command, Reply, Limits, Answer, Whether, Content, Number, StepOf, ReuseRows, ReusePids, Leave}
 use Rattle.tree_law.proofs.Words.{TakePid, Row, Place, TakeRow, Slot, Enter, Exchange, Retire, Memory, next_row, Record, Base, slice_get_below, slice_get-push, take-push_whole, TakesStep-push_cases}
 use Rattle.tree_law.proofs.Words.{memory_at-push, IsOnChain, chain_rows, IsChainFrom, May, Knowledge, knows_after, after_reply, Ready, learn, learnt_next, ShowsRow, IsAnswer, memory_after}

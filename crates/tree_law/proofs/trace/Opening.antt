@@ -1,5 +1,5 @@
 -- The opening memory meets the invariant: one empty leaf, which is the root.
-use Rattle.tree_law.proofs.Words.{false, ap, refl, cond, Option, suc, None, inl, inr, ◌∷◌, subst, sym, ℕ, ◌≡◌, Bool, arith, Some, nat_tests, Limits, empty_leaf, opening, Base, nothing, Key, Free}
+use Rattle.tree_law.proofs.Words.{false, ap, refl, cond, Option, suc, None, inl, inr, ◌∷◌, sym, ℕ, ◌≡◌, Bool, arith, Some, nat_tests, Limits, empty_leaf, opening, Base, nothing, Key, Free}
 use Rattle.tree_law.proofs.Words.{Linked, Owners, Nobody, Placed, Indexed, put, shared_part, slot_in, row_in, Shared, IsTree, spec, Level, IsOff, SidePage, []}
 use Rattle.std.specs.Prelude.{nat_le}
 use Rattle.tree_law.proofs.shape.Puts.{by_equal}

@@ -1,8 +1,8 @@
 -- A step moves each PID from the phase that its owner says to the one that it says afterwards.
-use Rattle.tree_law.proofs.Words.{false, ◌⊎◌, ap, refl, cond, Option, suc, None, List, true, inl, inr, ◌∷◌, subst, sym, ℕ, ◌≡◌, Bool, zero, ◌∙◌, Some, eqb, same_Some, option_map, is_eq}
+use Rattle.tree_law.proofs.Words.{false, ◌⊎◌, ap, refl, cond, Option, suc, None, List, true, inl, inr, ◌∷◌, sym, ℕ, ◌≡◌, Bool, zero, ◌∙◌, Some, eqb, same_Some, option_map, is_eq}
 use Rattle.tree_law.proofs.Words.{if◌then◌else◌, key_cmp, Update, is_among, Reply, Answer, Whether, Link, StepOf, ReusePids, TakePid, Exchange, ContentOf, Child, record_link, Memory, Record, Remove}
 use Rattle.tree_law.proofs.Words.{Base, Hold, Split, Merge, Term, Unterm, RemoveOf, IsChainFrom-unique, IsChainOf, right_in, May, root_over, Knowledge, IsAnswer}
-use Rattle.tree_law.proofs.Words.{IsUnheld, Entry, Step, link_without, link_of, Wins, Installs, indexed, free, MovesPhase, removes, Phase, cleared, held, removed, merged, splits, merges, becomes_root}
+use Rattle.tree_law.proofs.Words.{IsUnheld, Entry, Step, link_without, link_of, Wins, Installs, indexed, free, MovesPhase, removes, Phase, cleared, splits, merges, becomes_root}
 use Rattle.tree_law.proofs.Words.{reuses, under_root, terms, holds, unterms, IsBelow, Owners, Nobody, Placed, Indexed, PageOwner, Cleared, Keeps, Fresh, Removed, Held, Merged, Phased, LinkMoves, put}
 use Rattle.tree_law.proofs.Words.{shared_part, slot_in, row_in, IsReadyPage, phase_of, IsInTree, IsTree, []}
 use Rattle.tree_law.proofs.shape.{by_key, not_self, slot_some, eqb_true, eqb_apart, by_equal, put_same, put_other, decided}
