@@ -1,9 +1,8 @@
 -- What the operations that are under way may pay still.
-use Rattle.tree_law.proofs.Words.{refl, Option, None, ◌≢◌, ◌≤◌}
-use Rattle.tree_law.proofs.Words.{ℕ, ◌≡◌, ◌<◌, arith, Some, ◌+◌, IsSome, Command, Reply, Answer, StepOf, Record}
-use Rattle.tree_law.proofs.Words.{Knowledge, learn, after_reply, after_begin, put}
+use Rattle.tree_law.proofs.Words.{refl, Option, None, ◌≢◌, ◌≤◌, ℕ, ◌≡◌, ◌<◌, arith, Some, ◌+◌, IsSome, Command, Reply, Answer, StepOf, Record, Knowledge, learn, after_reply, after_begin, put}
+use Rattle.tree_law.proofs.Words.{total}
 use Rattle.traces.specs.discipline.Knowledge.{going_on}
-use Rattle.tree_law.specs.Changes.{credit, credit_of, total}
+use Rattle.tree_law.specs.Changes.{credit, credit_of}
 use Rattle.tree_law.proofs.shape.Puts.{put_other, put_same}
 use Rattle.tree_law.proofs.links.Exchanged.{exchanged_alike}
 use Rattle.tree_law.proofs.links.Learning.{learning, wins}

@@ -1,20 +1,14 @@
 -- What is in store after a record was linked over a page's chain, where one page at most goes on.
-use Rattle.tree_law.proofs.Words.{false, ◌⊎◌, [], ap, refl, Option, suc, List, true, inl, ◌≢◌, length, ◌≤◌, inr}
-use Rattle.tree_law.proofs.Words.{◌∷◌, sym, ℕ, ◌≡◌, ◌∙◌, ◌<◌, arith, Some, ◌+◌, ◌*◌, ◌-◌, Update, Item, next_row, Key}
-use Rattle.tree_law.proofs.Words.{Record, IsChainFrom, level_in, low_in, HasRead, FitsOver, Knowledge, Written}
-use Rattle.tree_law.proofs.Words.{Owners, Shared, IsTree, Placed, PageOwner, Stage, rank}
-use Rattle.tree_law.proofs.Words.{Fresh, Indexed, Held, Removed, Merged, Cleared, stage_removed, put, phase_of, free}
-use Rattle.tree_law.proofs.Words.{IsSome, is_eq, key_cmp, content_at, content_in, ContentOf, Value, Child, IsFitted, base_from, LinkMoves}
-use Rattle.tree_law.proofs.Words.{Put, Delete, Term, Hold, Remove, Merge, Unterm, RemoveOf, UntermOf}
-use Rattle.base_page.proofs.KeyLaws.{same}
+use Rattle.tree_law.proofs.Words.{false, ◌⊎◌, [], ap, refl, Option, suc, List, true, inl, ◌≢◌, length, ◌≤◌, inr, ◌∷◌, sym, ℕ, ◌≡◌, ◌∙◌, ◌<◌, arith, Some, ◌+◌, ◌*◌, ◌-◌, Update, Item, next_row}
+use Rattle.tree_law.proofs.Words.{Key, Record, IsChainFrom, level_in, low_in, HasRead, FitsOver, Knowledge, Written, Owners, Shared, IsTree, Placed, PageOwner, Stage, rank, Fresh, Indexed}
+use Rattle.tree_law.proofs.Words.{Held, Removed, Merged, Cleared, stage_removed, put, phase_of, free, IsSome, is_eq, key_cmp, content_at, content_in, ContentOf, Value, Child, IsFitted}
+use Rattle.tree_law.proofs.Words.{base_from, LinkMoves, Put, Delete, Term, Hold, Remove, Merge, Unterm, RemoveOf, UntermOf, same, IsItemsOf, IsWorth, from_low, is_alive, life, total}
 use Rattle.deltas.specs.declared.record.Put.{Put as PutOf}
 use Rattle.deltas.specs.declared.record.Delete.{Delete as DeleteOf}
 use Rattle.deltas.specs.declared.record.Term.{Term as TermOf}
 use Rattle.deltas.specs.declared.record.Hold.{Hold as HoldOf}
 use Rattle.deltas.specs.declared.record.Merge.{Merge as MergeOf}
 use Rattle.traces.specs.discipline.Discipline.{AreAlike}
-use Rattle.traces.specs.chain.Chains.{IsItemsOf}
-use Rattle.tree_law.specs.Changes.{IsWorth, from_low, is_alive, life, total}
 use Rattle.tree_law.proofs.shape.Puts.{by_equal, put_other, put_same}
 use Rattle.tree_law.proofs.links.Keeping.{OnSide}
 use Rattle.tree_law.proofs.links.Relinking.{Found, found, place_of, placed_row}

@@ -1,13 +1,9 @@
 -- What is in store after a split: each side has 7 items at least.
-use Rattle.tree_law.proofs.Words.{◌⊎◌, [], ap, refl, Option, suc, None, List, ◌≢◌, length, ◌≤◌}
-use Rattle.tree_law.proofs.Words.{◌∷◌, sym, ℕ, ◌≡◌, ◌∙◌, ◌<◌, arith, Some, ◌+◌, ◌*◌, ◌-◌, Update, Key}
-use Rattle.tree_law.proofs.Words.{Record, Split, SplitOf, IsChainFrom, level_in, low_in, content_in, content_at, is_below, covers}
-use Rattle.tree_law.proofs.Words.{HasRead, FitsOver, Knowledge, Written, Owners, Shared, IsTree, Placed, PageOwner, Keeps, Fresh}
-use Rattle.tree_law.proofs.Words.{put, phase_of, free, IsSome, IsFalse, IsTrue, IsFitted, base_from, MaySplit, Covers, ContentOf, Page, Makes}
-use Rattle.base_page.proofs.PageLaws.{belongs}
-use Rattle.traces.proofs.FittedLaws.{ruled}
+use Rattle.tree_law.proofs.Words.{◌⊎◌, [], ap, refl, Option, suc, None, List, ◌≢◌, length, ◌≤◌, ◌∷◌, sym, ℕ, ◌≡◌, ◌∙◌, ◌<◌, arith, Some, ◌+◌, ◌*◌, ◌-◌, Update, Key, Record, Split, SplitOf}
+use Rattle.tree_law.proofs.Words.{IsChainFrom, level_in, low_in, content_in, content_at, is_below, covers, HasRead, FitsOver, Knowledge, Written, Owners, Shared, IsTree, Placed, PageOwner}
+use Rattle.tree_law.proofs.Words.{Keeps, Fresh, put, phase_of, free, IsSome, IsFalse, IsTrue, IsFitted, base_from, MaySplit, Covers, ContentOf, Page, Makes, belongs, ruled, IsWorth, from_low}
+use Rattle.tree_law.proofs.Words.{is_alive, total}
 use Rattle.linearization.specs.Halves.{AreHalves}
-use Rattle.tree_law.specs.Changes.{IsWorth, from_low, is_alive, total}
 use Rattle.tree_law.proofs.shape.KeyOrder.{below_not, covers_from, covers_to, upto_trans}
 use Rattle.tree_law.proofs.shape.Puts.{put_other, put_same}
 use Rattle.tree_law.proofs.links.Relinking.{Found, placed_row}

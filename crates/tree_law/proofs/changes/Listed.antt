@@ -1,14 +1,11 @@
 -- Changes listed in order, in a trace with one entry more.
-use Rattle.tree_law.proofs.Words.{[], ap, refl, cond, suc, List, inl, length, ◌++◌, ◌≤◌, inr}
-use Rattle.tree_law.proofs.Words.{◌∷◌, ℕ, ◌≡◌, ◌∙◌, ◌<◌, arith, take, drop, zero, ◌+◌, ◌*◌, ◌-◌, cases_lt, All-weaker}
-use Rattle.tree_law.proofs.Words.{All, count_by, slice_range, IsStrictlyIncreasing, Limits, Entry, memory_of, Happens-push_cases, take-push, take-push_whole}
+use Rattle.tree_law.proofs.Words.{[], ap, refl, cond, suc, List, inl, length, ◌++◌, ◌≤◌, inr, ◌∷◌, ℕ, ◌≡◌, ◌∙◌, ◌<◌, arith, take, drop, zero, ◌+◌, ◌*◌, ◌-◌, cases_lt, All-weaker, All, count_by}
+use Rattle.tree_law.proofs.Words.{slice_range, IsStrictlyIncreasing, Limits, Entry, memory_of, Happens-push_cases, take-push, take-push_whole, Happens-below, Happens, ChangesTree, takes_number}
 use Rattle.std.proofs.lemmas.List.{drop-append-le, get_or-take, length-take-le, take_all}
 use Rattle.std.proofs.Common.{length-drop}
 use Rattle.std.proofs.lemmas.List.Kept.{AllPairs-from_increasing}
-use Rattle.traces.proofs.TraceLaws.{Happens-below}
-use Rattle.traces.specs.trace.Trace.{Happens}
 use Rattle.linearization.specs.Changes.{HasFewChanges}
-use Rattle.linearization.specs.Progress.{AreAmong, ChangesTree, is_begin, takes_number}
+use Rattle.linearization.specs.Progress.{AreAmong, is_begin}
 use Rattle.tree_law.proofs.trace.Owned.{pushed_length}
 use Rattle.tree_law.specs.Changes.{most_in_store}
 use Rattle.tree_law.proofs.direct.Counting.{count_push, range_kept}

@@ -1,7 +1,5 @@
 -- What lives are worth, of pages that go on.
-use Rattle.tree_law.proofs.Words.{[], refl, ◌≢◌, ◌∷◌, ℕ, ◌≡◌, Some, Option, ◌≤◌, arith, None}
-use Rattle.tree_law.proofs.Words.{Key, PageOwner, Placed, Cleared, Fresh, Indexed, Held}
-use Rattle.tree_law.specs.Changes.{from_low, life}
+use Rattle.tree_law.proofs.Words.{[], refl, ◌≢◌, ◌∷◌, ℕ, ◌≡◌, Some, Option, ◌≤◌, arith, None, Key, PageOwner, Placed, Cleared, Fresh, Indexed, Held, from_low, life}
 
 pub above_empty : (low : Key) (worth : ℕ) → low ≢ [] → from_low low worth ≡ worth
 above_empty [] worth ne = absurd (ne refl)

@@ -1,20 +1,13 @@
 -- Numbers that are taken and not in the tree: who has them, and what a step makes of them.
-use Rattle.tree_law.proofs.Words.{◌⊎◌, [], ap, refl, cond, Option, List, inl, ◌≢◌, length, ◌++◌, ◌≤◌, inr, suc, zero}
-use Rattle.tree_law.proofs.Words.{◌∷◌, ℕ, ◌≡◌, ◌∙◌, ◌<◌, arith, ◌+◌, true, cases_lt, All, All-weaker, count_by, eqb_tells, ◌==◌}
-use Rattle.tree_law.proofs.Words.{Limits, Command, Reply, Answer, Whether, StepOf, TakePid, TakeRow, Place, Exchange, Slot, Row, Epoch, Announce, PidBits}
-use Rattle.tree_law.proofs.Words.{RowBits, Enter, Leave, ReusePids, ReuseRows, Number, Content, Record, memory_of, knows, Knowledge, learn, after_reply, after_begin}
-use Rattle.tree_law.proofs.Words.{IsAnswer, May, Entry, Begin, Step}
-use Rattle.tree_law.proofs.Words.{after_exchange, after_emptying, OwnPage, Other, Empty, Ready, Gone, OwnRow, Written, put, shared_part, IsState, PageOwner, Keeps}
+use Rattle.tree_law.proofs.Words.{◌⊎◌, [], ap, refl, cond, Option, List, inl, ◌≢◌, length, ◌++◌, ◌≤◌, inr, suc, zero, ◌∷◌, ℕ, ◌≡◌, ◌∙◌, ◌<◌, arith, ◌+◌, true, cases_lt, All, All-weaker}
+use Rattle.tree_law.proofs.Words.{count_by, eqb_tells, ◌==◌, Limits, Command, Reply, Answer, Whether, StepOf, TakePid, TakeRow, Place, Exchange, Slot, Row, Epoch, Announce, PidBits, RowBits}
+use Rattle.tree_law.proofs.Words.{Enter, Leave, ReusePids, ReuseRows, Number, Content, Record, memory_of, knows, Knowledge, learn, after_reply, after_begin, IsAnswer, May, Entry, Begin, Step}
+use Rattle.tree_law.proofs.Words.{after_exchange, after_emptying, OwnPage, Other, Empty, Ready, Gone, OwnRow, Written, put, shared_part, IsState, PageOwner, Keeps, MayExchange, Foreign, Taken}
+use Rattle.tree_law.proofs.Words.{Retire, Happens, Happens-below, Happens-kept, ChangesTree, takes_number, total, Owner, Free, Spare, Linked, OwnFits, PageFits}
 use Rattle.bw_model.specs.declared.step.Link.TheVariants as link
-use Rattle.traces.specs.discipline.Discipline.{MayExchange}
-use Rattle.traces.specs.discipline.Knowledge.{Foreign, Taken}
-use Rattle.bw_model.specs.declared.step.Step.TheVariants.{Retire}
-use Rattle.traces.specs.trace.Trace.{Happens}
-use Rattle.traces.proofs.TraceLaws.{Happens-below, Happens-kept, Happens-last}
+use Rattle.traces.proofs.TraceLaws.{Happens-last}
 use Rattle.std.proofs.lemmas.List.Elements.{All-push}
-use Rattle.linearization.specs.Progress.{ChangesTree, takes_number}
-use Rattle.tree_law.specs.Changes.{AreUsed, numbers_had, page_mark, pids_had, row_mark, rows_had, total}
-use Rattle.tree_law.specs.Owners.{Owner, Free, Spare, Linked, OwnFits, PageFits}
+use Rattle.tree_law.specs.Changes.{AreUsed, numbers_had, page_mark, pids_had, row_mark, rows_had}
 use Rattle.tree_law.proofs.shape.Puts.{by_equal, put_other, put_same}
 use Rattle.tree_law.proofs.trace.Beginning.{knows-push}
 use Rattle.tree_law.proofs.trace.Owned.{pushed_length}

@@ -1,14 +1,9 @@
 -- What each step makes of what is in store.
-use Rattle.tree_law.proofs.Words.{false, ◌⊎◌, [], ap, refl, Option, suc, None, List, true, inl, ◌≢◌, ◌≤◌, inr}
-use Rattle.tree_law.proofs.Words.{subst, sym, ℕ, ◌≡◌, zero, ◌∙◌, ◌<◌, arith, Some, ◌+◌, Update, Reply, same_Some, option_map}
-use Rattle.tree_law.proofs.Words.{Record, Memory, Answer, Whether, StepOf, Exchange, TakePid, ReusePids, Link, Step, is_among}
-use Rattle.tree_law.proofs.Words.{Knowledge, learn, May, AreFitted, Owners, Linked, Shared, IsTree, shared_part, slot_in, row_in}
-use Rattle.tree_law.proofs.Words.{Placed, PageOwner, Fresh, Keeps, Cleared, Phased, put, phase_of}
-use Rattle.tree_law.proofs.Words.{free, eqb, IsAnswer, memory_after, IsUseful, IsInTree, IsReadyPage, link_of, link_without}
+use Rattle.tree_law.proofs.Words.{false, ◌⊎◌, [], ap, refl, Option, suc, None, List, true, inl, ◌≢◌, ◌≤◌, inr, subst, sym, ℕ, ◌≡◌, zero, ◌∙◌, ◌<◌, arith, Some, ◌+◌, Update, Reply, same_Some}
+use Rattle.tree_law.proofs.Words.{option_map, Record, Memory, Answer, Whether, StepOf, Exchange, TakePid, ReusePids, Link, Step, is_among, Knowledge, learn, May, AreFitted, Owners, Linked}
+use Rattle.tree_law.proofs.Words.{Shared, IsTree, shared_part, slot_in, row_in, Placed, PageOwner, Fresh, Keeps, Cleared, Phased, put, phase_of, free, eqb, IsAnswer, memory_after, IsUseful}
+use Rattle.tree_law.proofs.Words.{IsInTree, IsReadyPage, link_of, link_without, IsHalved, ChangesTree, IsWorth, is_alive, life}
 use Rattle.bw_model.specs.declared.step.Link.TheVariants as link
-use Rattle.linearization.specs.Halves.{IsHalved}
-use Rattle.linearization.specs.Progress.{ChangesTree}
-use Rattle.tree_law.specs.Changes.{IsWorth, is_alive, life}
 use Rattle.tree_law.proofs.shape.Puts.{by_equal, decided, eqb_true, put_other, put_same}
 use Rattle.tree_law.proofs.shape.KeyOrder.{not_self}
 use Rattle.tree_law.proofs.trace.Phasing.{link_empty, link_ready}

@@ -1,24 +1,17 @@
 -- A begin keeps a trace direct, and so does a step that its operation can afford.
-use Rattle.tree_law.proofs.Words.{false, ap, refl, Option, List, true, inl, ◌≢◌, length, ◌++◌, ◌≤◌, inr, ◌∷◌, subst, sym, ℕ, ◌≡◌, ◌∙◌, ◌<◌, ◌*◌, arith, Some, ◌==◌, eqb_tells, same_Some}
-use Rattle.tree_law.proofs.Words.{IsSome, Command, Reply, Limits, Answer, Whether, Content, Link, StepOf, Row, Exchange, replaced_at, Record, May, after_begin, knows, Knowledge, after_reply, Ready}
-use Rattle.tree_law.proofs.Words.{learn, recall, Recalled, blank, recalls, IsAnswer, memory_of, IsUseful, IsOfUse, IsReading, IsInPhase, cleared, Slot, Number}
-use Rattle.tree_law.proofs.Words.{None, zero, suc, slice_get, Placed, Indexed, phase_of, slot_in, row_in, Entry, Begin, Step, is_step_of, Links, Operation}
-use Rattle.tree_law.proofs.Words.{IsUpdateLink, Accounts}
-use Rattle.tree_law.proofs.Words.{IsLast, Affords, IsDirectState, Recollects, Walks, StaysDirect, IsState, Opens, []}
-use Rattle.traces.specs.discipline.Recalled.{IsStepSpent, cause_worth}
+use Rattle.tree_law.proofs.Words.{false, ap, refl, Option, List, true, inl, ◌≢◌, length, ◌++◌, ◌≤◌, inr, ◌∷◌, subst, sym, ℕ, ◌≡◌, ◌∙◌, ◌<◌, ◌*◌, arith, Some, ◌==◌, eqb_tells, same_Some, IsSome}
+use Rattle.tree_law.proofs.Words.{Command, Reply, Limits, Answer, Whether, Content, Link, StepOf, Row, Exchange, replaced_at, Record, May, after_begin, knows, Knowledge, after_reply, Ready}
+use Rattle.tree_law.proofs.Words.{learn, recall, Recalled, blank, recalls, IsAnswer, memory_of, IsUseful, IsOfUse, IsReading, IsInPhase, cleared, Slot, Number, None, zero, suc, slice_get}
+use Rattle.tree_law.proofs.Words.{Placed, Indexed, phase_of, slot_in, row_in, Entry, Begin, Step, is_step_of, Links, Operation, IsUpdateLink, Accounts, IsLast, Affords, IsDirectState}
+use Rattle.tree_law.proofs.Words.{Recollects, Walks, StaysDirect, IsState, Opens, [], cause_worth, MayExchange, OwnPage, link_of, owned, Reached, Key, PageOwner, Nobody, Keeps, Cleared, Fresh}
+use Rattle.tree_law.proofs.Words.{Held, Removed, Merged}
+use Rattle.traces.specs.discipline.Recalled.{IsStepSpent}
 use Rattle.bw_model.specs.Replies.{is_writer}
 use Rattle.tree_law.proofs.answering.Fitted.{fits}
 use Rattle.std.specs.Prelude.{◌⊎◌}
 use Rattle.bw_model.specs.declared.step.Link.TheVariants as link
-use Rattle.traces.specs.discipline.Discipline.{MayExchange}
-use Rattle.traces.specs.discipline.Knowledge.{OwnPage}
 use Rattle.linearization.specs.Direct.{IsOfTree}
-use Rattle.linearization.specs.Links.{link_of}
 use Rattle.linearization.specs.Phases as phase
-use Rattle.linearization.specs.Phases.{owned}
-use Rattle.tree_law.specs.Owners.{Reached}
-use Rattle.tree_law.specs.Keys.{Key}
-use Rattle.tree_law.specs.Phase.{PageOwner, Nobody, Keeps, Cleared, Fresh, Held, Removed, Merged}
 use Rattle.tree_law.proofs.links.Keeping.{met_placed, slot_of}
 use Rattle.tree_law.proofs.trace.Owned.{same_start}
 use Rattle.tree_law.proofs.shape.Puts.{at_place, by_equal}

@@ -1,10 +1,9 @@
 -- The causes of an operation pay for one step more: by those that were left, or by being one more cause.
 use Rattle.tree_law.proofs.Words.{false, [], ap, cond, suc, List, true, inl, length, ◌++◌, ◌≤◌, inr, ◌∷◌, sym, ℕ, ◌≡◌, Bool, ◌∙◌, ◌<◌, arith, take, ◌+◌, drop, ◌*◌, ◌-◌, cases_lt, All-weaker}
-use Rattle.tree_law.proofs.Words.{fold-append, All, count_by, slice_range, Limits, Entry, is_step_of, IsCause, IsOperation, Operation, Affords}
-use Rattle.std.proofs.Common.{length-drop, refl}
+use Rattle.tree_law.proofs.Words.{fold-append, All, count_by, slice_range, Limits, Entry, is_step_of, IsCause, IsOperation, Operation, Affords, refl, cause_worth}
+use Rattle.std.proofs.Common.{length-drop}
 use Rattle.tree_law.specs.Direct.{AffordsFrom}
 use Rattle.std.proofs.Math.Nat.{mul-one, mul-suc}
-use Rattle.traces.specs.discipline.Recalled.{cause_worth}
 use Rattle.std.proofs.lemmas.List.{drop-append-le, drop_all, drop_at, take-append-le}
 use Rattle.std.proofs.lemmas.List.Elements.{All-head, All-push}
 use Rattle.std.proofs.lemmas.Option.{slice_get_within}

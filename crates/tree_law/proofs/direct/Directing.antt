@@ -1,15 +1,13 @@
 -- A direct trace stays direct with one entry more, where its operation can afford it.
-use Rattle.tree_law.proofs.Words.{[], ap, Option, suc, None, List, true, inl, length, ◌++◌, ◌≤◌, inr, ◌∷◌, sym, ℕ, ◌≡◌, ◌∙◌, ◌<◌, arith, Some, ◌+◌, drop, ◌*◌, All-weaker, same_Some}
-use Rattle.tree_law.proofs.Words.{All, count_by, IsStrictlyIncreasing, IsSome, slice_range, Reply, Limits, Answer, Whether, Link, StepOf, Exchange, Record, IsChainOf, knows, memory_at, memory_of}
-use Rattle.tree_law.proofs.Words.{IsUseful, IsReading, IsInPhase, cleared, Slot, Number, false, Entry, Step, is_step_of, Links, IsCause, IsDirect, link_of}
-use Rattle.tree_law.proofs.Words.{IsOperation, Operation, IsOwnStep, TakesOwnStep, IsUpdateLink, IsLast, Affords, IsDirectState}
+use Rattle.tree_law.proofs.Words.{[], ap, Option, suc, None, List, true, inl, length, ◌++◌, ◌≤◌, inr, ◌∷◌, sym, ℕ, ◌≡◌, ◌∙◌, ◌<◌, arith, Some, ◌+◌, drop, ◌*◌, All-weaker, same_Some, All}
+use Rattle.tree_law.proofs.Words.{count_by, IsStrictlyIncreasing, IsSome, slice_range, Reply, Limits, Answer, Whether, Link, StepOf, Exchange, Record, IsChainOf, knows, memory_at, memory_of}
+use Rattle.tree_law.proofs.Words.{IsUseful, IsReading, IsInPhase, cleared, Slot, Number, false, Entry, Step, is_step_of, Links, IsCause, IsDirect, link_of, IsOperation, Operation, IsOwnStep}
+use Rattle.tree_law.proofs.Words.{TakesOwnStep, IsUpdateLink, IsLast, Affords, IsDirectState, cause_worth, owned}
 use Rattle.std.proofs.lemmas.List.{take_rest}
 use Rattle.tree_law.specs.Direct.{AffordsFrom}
-use Rattle.traces.specs.discipline.Recalled.{cause_worth}
 use Rattle.bw_model.specs.Replies.{is_writer}
 use Rattle.bw_model.specs.declared.step.Link.TheVariants as link
 use Rattle.linearization.specs.Direct.{IsOfTree}
-use Rattle.linearization.specs.Phases.{owned}
 use Rattle.std.specs.Prelude.{◌⊎◌}
 use Rattle.linearization.proofs.PhaseLaws.{IsInPhase-kept}
 use Rattle.tree_law.proofs.trace.Owned.{pushed_length}

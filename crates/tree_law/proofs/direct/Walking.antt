@@ -1,9 +1,9 @@
 -- What an actor recalls of its reads since it last read slot 0, its last operation has read since then.
-use Rattle.tree_law.proofs.Words.{false, ap, refl, Option, suc, List, true, inl, ◌≢◌, length, ◌++◌, inr, ◌∷◌, subst, sym, ℕ, ◌≡◌, Bool, zero, ◌∙◌, ◌<◌, arith, Some, ◌||◌, Reply, Limits}
-use Rattle.tree_law.proofs.Words.{Answer, Content, Number, StepOf, Leave, Row, Slot, PidBits, RowBits, Memory, replaced_at, Record, Knowledge, learn, recall, Recalled, is_removal, IsAnswer, Entry}
-use Rattle.tree_law.proofs.Words.{Step, TakesNone, IsTheStep, Operation, TakesOwnStep, IsLast, Walks, []}
-use Rattle.std.specs.Prelude.{◌≤◌, ◌&&◌, ltb, not, if◌then◌else◌}
-use Rattle.std.proofs.lemmas.Bool.{ltb-false, ltb-true}
+use Rattle.tree_law.proofs.Words.{false, ap, refl, Option, suc, List, true, inl, ◌≢◌, length, ◌++◌, inr, ◌∷◌, subst, sym, ℕ, ◌≡◌, Bool, zero, ◌∙◌, ◌<◌, arith, Some, ◌||◌, Reply, Limits, Answer}
+use Rattle.tree_law.proofs.Words.{Content, Number, StepOf, Leave, Row, Slot, PidBits, RowBits, Memory, replaced_at, Record, Knowledge, learn, recall, Recalled, is_removal, IsAnswer, Entry}
+use Rattle.tree_law.proofs.Words.{Step, TakesNone, IsTheStep, Operation, TakesOwnStep, IsLast, Walks, [], ◌&&◌, not, if◌then◌else◌, ltb-true}
+use Rattle.std.specs.Prelude.{◌≤◌, ltb}
+use Rattle.std.proofs.lemmas.Bool.{ltb-false}
 use Rattle.traces.specs.discipline.Recalled.{Walk, is_lower, note, removal_level, visit}
 use Rattle.tree_law.proofs.links.Exchanged.{exchanged_alike}
 use Rattle.tree_law.proofs.trace.Owned.{pushed_length}

@@ -1,10 +1,9 @@
 -- An exchange of a page's slot to 0, and one of slot 0: what they take out of the tree, and what actors hold afterwards.
-use Rattle.tree_law.proofs.Words.{false, ◌⊎◌, ap, refl, cond, Option, suc, None, List, true, inl, inr, sym, ℕ, ◌≡◌, Bool, ◌∙◌, arith, Some, eqb, and-false, same_Some, ◌&&◌}
-use Rattle.tree_law.proofs.Words.{Update, Reply, Limits, Exchange, Memory, replaced_at, next_row, Record, Base, IsOwn, Knowledge, after_reply, Ready, Foreign, Empty, Other, Gone}
-use Rattle.tree_law.proofs.Words.{Unstamped, handed_page, is_on_walk, set_page, Key, IsHomed, Linked, Owners, Reached, Spare, PageFits, PageOwner, Cleared, Keeps, put, shared_part, slot_in, Times}
-use Rattle.tree_law.proofs.Words.{Timed, times_after, LimboFits, Outing, is_linked, is_cleared, IsTree}
+use Rattle.tree_law.proofs.Words.{false, ◌⊎◌, ap, refl, cond, Option, suc, None, List, true, inl, inr, sym, ℕ, ◌≡◌, Bool, ◌∙◌, arith, Some, eqb, and-false, same_Some, ◌&&◌, Update, Reply}
+use Rattle.tree_law.proofs.Words.{Limits, Exchange, Memory, replaced_at, next_row, Record, Base, IsOwn, Knowledge, after_reply, Ready, Foreign, Empty, Other, Gone, Unstamped, handed_page}
+use Rattle.tree_law.proofs.Words.{is_on_walk, set_page, Key, IsHomed, Linked, Owners, Reached, Spare, PageFits, PageOwner, Cleared, Keeps, put, shared_part, slot_in, Times, Timed, times_after}
+use Rattle.tree_law.proofs.Words.{LimboFits, Outing, is_linked, is_cleared, IsTree, after_clear}
 use Rattle.bw_model.specs.declared.step.Answer.TheVariants as answer
-use Rattle.traces.specs.discipline.Knowledge.{after_clear}
 use Rattle.tree_law.proofs.shape.{by_equal, eqb_same, eqb_true, eqb_apart, put_other, put_was, put_all, next_linked, own_base}
 use Rattle.tree_law.proofs.links.Stepping.{slot_put, root_apart}
 use Rattle.tree_law.proofs.epochs.Timing.{Turn, limbo_row, limbo_pid, held_later, announced_still, put_timed}

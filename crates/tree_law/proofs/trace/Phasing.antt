@@ -1,14 +1,14 @@
 -- A step moves each PID from the phase that its owner says to the one that it says afterwards.
-use Rattle.tree_law.proofs.Words.{false, ◌⊎◌, ap, refl, cond, Option, suc, None, List, true, inl, inr, ◌∷◌, sym, ℕ, ◌≡◌, Bool, zero, ◌∙◌, Some, eqb, same_Some, option_map, is_eq}
-use Rattle.tree_law.proofs.Words.{if◌then◌else◌, key_cmp, Update, is_among, Reply, Answer, Whether, Link, StepOf, ReusePids, TakePid, Exchange, ContentOf, Child, record_link, Memory, Record, Remove}
-use Rattle.tree_law.proofs.Words.{Base, Hold, Split, Merge, Term, Unterm, RemoveOf, IsChainFrom-unique, IsChainOf, right_in, May, root_over, Knowledge, IsAnswer}
-use Rattle.tree_law.proofs.Words.{IsUnheld, Entry, Step, link_without, link_of, Wins, Installs, indexed, free, MovesPhase, removes, Phase, cleared, splits, merges, becomes_root}
-use Rattle.tree_law.proofs.Words.{reuses, under_root, terms, holds, unterms, IsBelow, Owners, Nobody, Placed, Indexed, PageOwner, Cleared, Keeps, Fresh, Removed, Held, Merged, Phased, LinkMoves, put}
-use Rattle.tree_law.proofs.Words.{shared_part, slot_in, row_in, IsReadyPage, phase_of, IsInTree, IsTree, []}
+use Rattle.tree_law.proofs.Words.{false, ◌⊎◌, ap, refl, cond, Option, suc, None, List, true, inl, inr, ◌∷◌, sym, ℕ, ◌≡◌, Bool, zero, ◌∙◌, Some, eqb, same_Some, option_map, is_eq, if◌then◌else◌}
+use Rattle.tree_law.proofs.Words.{key_cmp, Update, is_among, Reply, Answer, Whether, Link, StepOf, ReusePids, TakePid, Exchange, ContentOf, Child, record_link, Memory, Record, Remove, Base}
+use Rattle.tree_law.proofs.Words.{Hold, Split, Merge, Term, Unterm, RemoveOf, IsChainFrom-unique, IsChainOf, right_in, May, root_over, Knowledge, IsAnswer, IsUnheld, Entry, Step, link_without}
+use Rattle.tree_law.proofs.Words.{link_of, Wins, Installs, indexed, free, MovesPhase, removes, Phase, cleared, splits, merges, becomes_root, reuses, under_root, terms, holds, unterms, IsBelow}
+use Rattle.tree_law.proofs.Words.{Owners, Nobody, Placed, Indexed, PageOwner, Cleared, Keeps, Fresh, Removed, Held, Merged, Phased, LinkMoves, put, shared_part, slot_in, row_in, IsReadyPage}
+use Rattle.tree_law.proofs.Words.{phase_of, IsInTree, IsTree, [], owned}
 use Rattle.tree_law.proofs.shape.{by_key, not_self, slot_some, eqb_true, eqb_apart, by_equal, put_same, put_other, decided}
 use Rattle.bw_model.specs.declared.step.Link.TheVariants as link
 use Rattle.base_page.specs.Pages as pages
-use Rattle.linearization.specs.Phases.{owned, fresh, MakesRoot, takes}
+use Rattle.linearization.specs.Phases.{fresh, MakesRoot, takes}
 
 -- whether it is the link of a record in front of a chain
 abbrev is_front : Link → Bool
