@@ -11,7 +11,7 @@ use Rattle.tree_law.proofs.shape.Puts.{by_equal}
 use Rattle.tree_law.proofs.shape.Chains.{chain_unique}
 use Rattle.tree_law.proofs.shape.Kept.{Kept, cleared_forward, reached_placed, placed_reached, chain_kept, knows_kept, owns_spared, pages_spared}
 use Rattle.tree_law.proofs.shape.Sides.{locate}
-use Rattle.tree_law.proofs.shape.Relinked.{in_level_as, right_page, tree_kept}
+use Rattle.tree_law.proofs.shape.Relinked.{in_level_as, off_as, right_page, tree_kept}
 use Rattle.tree_law.proofs.shape.Frames.{Change, kept_change, spared_change, change_none, knows_more, chain_stands}
 
 pub spec_leaf : (log : List Update) (index : ℕ → Key → Option ContentOf) (l : ℕ) → l ≡ 0 → (k : Key) → spec log index l k ≡ leaf_map log k
@@ -218,17 +218,7 @@ module _ {m : Shared} {log : List Update} {o : Owners} {knows : ℕ → Knowledg
       → IsOut (o'.page q) (m'.slots q) ⊎ Off o' m' q l k
   off_still o' m' kept q l k s (inl e) = inl (s ∙ e.0, cleared_forward (o.page q) (o'.page q) (kept.page q) e.1)
   off_still o' m' kept q l k s (inr w) =
-      inr (record {
-        row = w.row;
-        chain = w.chain;
-        head = s ∙ w.head;
-        linked = (kept.row w.row w.linked).0;
-        is_chain = chain_kept g.closed kept w.chain
-            (Some w.row) w.linked w.is_chain;
-        flagged = w.flagged;
-        level = w.level;
-        low = w.low;
-      })
+      inr (off_as w s (kept.row w.row w.linked).0 (chain_kept g.closed kept w.chain (Some w.row) w.linked w.is_chain))
 
   -- at a step that touches no slot and no page
   pub tree_at : (row : ℕ → Owner) (m' : Shared) → Kept o (record o { row = row }) m m' → m'.slots ≡ m.slots → m'.root ≡ m.root → HasLevels (record o { row = row }) m' log
