@@ -104,7 +104,7 @@ lone_end limits entries run keeps direct changes = record {
   whole = λ op n begun own alone none.
       let start : op.start < n = own.2.1.begun in
       let same : 0 + 154 * limits.pids + 8 * limits.actors + 1 ≡ 154 * limits.pids + 8 * limits.actors + 1 = omega arith in
-      subst (λ k. steps_from entries op.actor op.start n ≤ cause_worth limits * k) same
+      rw (← same)
       (lone_pays limits entries changes (cause_worth limits) op.actor op.start (suc op.start) n (steps_from entries op.actor op.start n) 0 (omega arith) (omega arith) alone
       (none_first limits entries op.actor op.start op.command begun)
       (paid_by_hinder limits entries run keeps direct op begun n none own));

@@ -30,7 +30,7 @@ begins_here entries a n c at = record { start = n; command = c; begins = at; low
 
 -- the commands that are under way after one entry more
 pub command_next : (entries : List Entry) (a n : ℕ) (e : Entry) → slice_get entries n ≡ Some e → command_of (take (suc n) entries) a ≡ commands_after (command_of (take n entries)) e a
-command_next entries a n e at = ap (λ es. command_of es a) (take-one entries n e at) ∙ ap (λ (f : ℕ → Option Command). f a) (command_of-push (take n entries) e)
+command_next entries a n e at = rw (take-one entries n e at) (ap (λ (f : ℕ → Option Command). f a) (command_of-push (take n entries) e))
 
 -- an actor that has an operation under way has begun it
 pub last_begin : (entries : List Entry) (a n : ℕ) → IsSome (command_of (take n entries) a) → LastBegin entries a n

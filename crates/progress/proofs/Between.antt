@@ -88,7 +88,7 @@ module _ (limits : Limits) (entries : List Entry) (run : IsRun limits entries) w
           let step : s ≡ Exchange slot old new = is ∙ ap (λ n. Exchange slot n new) has in
           let says : x ≡ Whether ((memory_at limits entries k).slots slot == old) = rw step at told in
           let yes : x ≡ Whether true = says ∙ ap Whether (elim (eqb_tells ((memory_at limits entries k).slots slot) old) [ inl same ↦ same.0 | inr apart ↦ absurd (apart.1 has) ]) in
-          subst (λ y. TakesStep entries k a (Exchange slot old new) y) yes (subst (λ t. TakesStep entries k a t x) step took)
+          rw (← yes) (rw (← step) took)
 
   -- a number that was free and is so no more was taken in between
   pub was_taken : (pids : Bool) (number m n : ℕ) → m ≤ n → freedom pids (memory_at limits entries m) number ≡ 1 → freedom pids (memory_at limits entries n) number ≢ 1
@@ -113,7 +113,7 @@ module _ (limits : Limits) (entries : List Entry) (run : IsRun limits entries) w
           → TakesStep entries k a s x → IsAnswer (memory_at limits entries k) s x → TakesStep entries k a (take_of pids number) (Whether true)
       got true a s x k free is took told =
           let says : x ≡ Whether ((memory_at limits entries k).free_pids number) = rw is at told in
-          subst (λ y. TakesStep entries k a (TakePid number) y) (says ∙ ap Whether (yes ((memory_at limits entries k).free_pids number) free)) (subst (λ t. TakesStep entries k a t x) is took)
+          rw (← (says ∙ ap Whether (yes ((memory_at limits entries k).free_pids number) free))) (rw (← is) took)
       got false a s x k free is took told =
           let says : x ≡ Whether ((memory_at limits entries k).free_rows number) = rw is at told in
-          subst (λ y. TakesStep entries k a (TakeRow number) y) (says ∙ ap Whether (yes ((memory_at limits entries k).free_rows number) free)) (subst (λ t. TakesStep entries k a t x) is took)
+          rw (← (says ∙ ap Whether (yes ((memory_at limits entries k).free_rows number) free))) (rw (← is) took)

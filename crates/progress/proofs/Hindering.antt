@@ -139,7 +139,7 @@ module _ (limits : Limits) (entries : List Entry) where
     pub pays_hinder : (k c : ℕ) → k ≤ n → Pays limits entries run op k c → hinder op.actor k ≡ true
     pays_hinder k c le (low, high, inl p) =
         or_left (is_change k) (beside op.actor k)
-        (subst (λ j. is_change j ≡ true) (sym p.same) (changes_by c op.actor p.slot p.old p.new p.kind (p.took.0, p.took.1.entry) p.links p.no_ready p.no_undo))
+        (rw p.same (changes_by c op.actor p.slot p.old p.new p.kind (p.took.0, p.took.1.entry) p.links p.no_ready p.no_undo))
     pays_hinder k c le (low, high, inr (inl p)) = let since = p.low in or_left (is_change k) (beside op.actor k) (beats p.since k p.beside.0 p.slot p.old p.beside.1 (omega arith) le p.read p.beside.3)
     pays_hinder k c le (low, high, inr (inr p)) = or_right (is_change k) (beside op.actor k) (beside_by k op.actor p.beside.0 p.number p.pids p.beside.1 p.beside.2)
 

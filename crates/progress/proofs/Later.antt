@@ -65,7 +65,7 @@ module _ (limits : Limits) (entries : List Entry) (run : IsRun limits entries) (
   same_number j c d (low, high, inr (inr p)) (low', high', inr (inl q)) = absurd (beyond j p.0 q.0 p.2)
   same_number j c d (low, high, inr (inr (k, le, e, p))) (low', high', inr (inr (i, le', e', q))) =
       let same : i ≡ k = omega arith in
-      same_cause limits entries run op k c d p (subst (λ x. Pays limits entries run op x d) same q)
+      same_cause limits entries run op k c d p (rw (← same) q)
 
   -- a slot that was read is that of a page that there may be
   there : (slot old since : ℕ) → since ≤ n → TakesOwnStep entries op since (Slot slot) (Number old) → slot < limits.pids

@@ -36,7 +36,7 @@ module _ (limits : Limits) (entries : List Entry) (row : ℕ) (content : Record)
   placed_since : (n : ℕ) → ((memory_at limits entries n).rows row ≡ Some content → ((opening limits).rows row ≡ Some content) ⊎ WasPlaced n) → (o : Option Entry) → slice_get entries n ≡ o
       → Stands (suc n)
       → ((opening limits).rows row ≡ Some content) ⊎ WasPlaced (suc n)
-  placed_since n before None at e = later n (before (subst (λ es. (memory_of limits es).rows row ≡ Some content) (take_past entries n at) e))
+  placed_since n before None at e = later n (before (rw (← take_past entries n at) e))
   placed_since n before (Some (Begin a c)) at e = later n (before (rw (memory_next limits entries n (Begin a c) at) at e))
   placed_since n before (Some (Step a s x r)) at e = elim (row_cases a s (memory_at limits entries n) row content (rw (memory_next limits entries n (Step a s x r) at) at e)) [
     | inl stood ↦ later n (before stood)

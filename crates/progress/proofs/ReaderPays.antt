@@ -26,7 +26,7 @@ change_enough : (worth changes more before own left rest steps : ℕ) → steps 
     → before + left ≤ worth * (changes + 1) + 3 → steps + rest ≤ worth * (more + 1) + 3
 change_enough worth changes more before own left rest steps same none one less paid =
     let place : more + 1 ≡ suc (changes + 1) = omega (arith, one) in
-    let grown : worth * (more + 1) ≡ worth * (changes + 1) + worth = ap (λ (n : ℕ). worth * n) place ∙ mul-suc worth (changes + 1) in
+    let grown : worth * (more + 1) ≡ worth * (changes + 1) + worth = rw place (mul-suc worth (changes + 1)) in
     omega (arith, same, none, grown, less, paid)
 
 pub count_push : {X : Type 0} (p : X → Bool) (xs : List X) (x : X) → count_by p (xs ++ x ∷ []) ≡ count_by p xs + cond (p x) 1 0

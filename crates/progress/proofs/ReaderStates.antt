@@ -34,7 +34,7 @@ since_last limits entries actor m n left whole h = (
         (λ place g. let below : place < length entries = g.1 in (g.0, omega arith, g.2)) h.changes h.each;
   },
   (
-      let same : slice_range entries m (suc n) ≡ drop m entries = ap (λ end. take (end - m) (drop m entries)) whole ∙ take_rest entries m in
+      let same : slice_range entries m (suc n) ≡ drop m entries = rw whole (take_rest entries m) in
       let counted : steps_from entries actor m n ≡ count_by (is_step_of actor) (drop m entries) = ap (count_by (is_step_of actor)) same in
       less (steps_from entries actor m n) (count_by (is_step_of actor) (drop m entries)) left (one_memory limits * (length h.changes + 1) + 3) counted h.paid
       ),
@@ -80,7 +80,7 @@ module _ (limits : Limits) (entries : List Entry) where
       let c = p.2.holds in
       let both : Some (Step op.actor a.0 a.1 a.2.0) ≡ Some (Step c.0 (Exchange c.1 c.2 c.3) (Whether true) c.5.0.0) = sym a.2.1 ∙ p.2.at ∙ ap Some c.5.0.1 in
       let same : a.0 ≡ Exchange c.1 c.2 c.3 = cc in
-      let none : IsReading (Exchange c.1 c.2 c.3) = subst (λ (s : StepOf Record). IsReading s) same reads in
+      let none : IsReading (Exchange c.1 c.2 c.3) = rw (← same) reads in
       absurd none
 
   -- where the changes since each later entry pay, all is so
@@ -99,7 +99,7 @@ module _ (limits : Limits) (entries : List Entry) where
                 (λ place. (op.start ≤ place) × (place ≤ n) × Happens limits entries place ChangesTree)
                 (λ place g. let low : suc op.start ≤ place = g.0 in (omega (arith, low), g.1, g.2)) h.0 h.1.each;
           },
-          subst (λ (steps : ℕ). steps ≤ one_memory limits * (length h.0 + 1) + 3) (sym (from_begin op n begun after)) h.2,
+          rw (from_begin op n begun after) h.2,
         );
     since = since;
     alone = λ op m n begun reader after le own alone. let h = since op m n begun reader after le own in none_alone direct op m n begun reader after own alone h.0 h.1 h.2;
@@ -120,8 +120,7 @@ module _ (limits : Limits) (entries : List Entry) (last : Entry) (kept : IsReade
           each = All-weaker (λ place. (m ≤ place) × (place ≤ n) × Happens limits entries place ChangesTree) (λ place. (m ≤ place) × (place ≤ n) × Happens limits longer place ChangesTree)
               (λ place g. (g.0, g.1, Happens-kept (last ∷ []) g.2)) h.0 h.1.each;
         },
-        subst (λ (steps : ℕ). steps ≤ one_memory limits * (length h.0 + 1) + 3)
-            (sym (ap (count_by (is_step_of op.actor)) (range_kept entries last m (suc n) (omega (arith, le)) (omega (arith, below))))) h.2,
+        rw (ap (count_by (is_step_of op.actor)) (range_kept entries last m (suc n) (omega (arith, le)) (omega (arith, below)))) h.2,
       )
 
   -- where the last entry is paid for
@@ -180,7 +179,7 @@ steps_keep limits entries actor step answer reply old kept pays wants later dire
     by_running None pays wants op s x given m latest reader is after within = absurd (cc wants)
     by_running (Some running) pays wants op s x given m latest reader is after within =
         let mine : actor ≡ op.actor = cc in
-        let theirs : PaysReader limits entries op.actor (Some running) = subst (λ (a : ℕ). PaysReader limits entries a (Some running)) mine pays in
+        let theirs : PaysReader limits entries op.actor (Some running) = rw (← mine) pays in
         let h = some_left limits entries (reader_task limits op.actor op.command) m running.op.state (theirs op.start m op.command latest reader after within) in
         let one = one_at_most (is_step_of op.actor (Step actor step answer reply)) in
         let some = h.1 in

@@ -20,13 +20,11 @@ use Rattle.progress.proofs.rounds.Among.{is_read, read_no_change}
 
 -- the command that an operation shows
 pub going : (task : Task) (hand : Hand) (k : Knowledge) (r : Recalled) (s : State) → ShowsState task hand.spares k r s → k.asked.command ≡ Some task.command
-going task hand k r Begun h = h.asked.going
-going task hand k r Epoch h = h.asked.going
 going task hand k r (Enter epoch) h = h.0.asked.going
 going task hand k r (Read round) h = h.seeks.asked.going
 going task hand k r (Write round) h = h.seeks.asked.going
-going task hand k r (Change now next) h = h.asked.going
 going task hand k r (Leave reply lacks) h = h.0.going
+going task hand k r state h = h.asked.going
 
 -- it is the one that the actor's last operation was asked
 pub asked_last : (limits : Limits) (entries : List Entry) → IsState limits entries → (start actor : ℕ) (command shown : Command)
@@ -77,7 +75,7 @@ module _ (limits : Limits) (entries : List Entry) (actor : ℕ) (step : StepOf R
   one = one_at_most (is_step_of actor entry)
 
   own : cond {A = ℕ} (is_step_of actor entry) 1 0 ≡ 1
-  own = ap (λ (b : Bool). cond {A = ℕ} b 1 0) (elim (eqb_tells actor actor) [ inl same ↦ same.0 | inr apart ↦ absurd (apart.1 refl) ])
+  own = rw (elim (eqb_tells actor actor) [ inl same ↦ same.0 | inr apart ↦ absurd (apart.1 refl) ])
 
   -- what was paid for from an earlier entry on, and from the end on
   from_each : (left rest m : ℕ) → m ≤ length longer → rest < left → rest ≤ one_memory limits + 3 → (m ≤ length entries → PaysFrom limits entries actor m left) → PaysFrom limits longer actor m rest
@@ -114,7 +112,7 @@ module _ (limits : Limits) (entries : List Entry) (actor : ℕ) (step : StepOf R
         goes =
             inl (record {
               answer = answer;
-              entry_is = ap (λ (s : StepOf Record). Step actor s answer None) (sym wants);
+              entry_is = rw (← wants);
               steps = same_steps old task round answer
                   (Read next) (same_first limits actor command old same_limits same_command) steps;
             });
@@ -122,7 +120,7 @@ module _ (limits : Limits) (entries : List Entry) (actor : ℕ) (step : StepOf R
 
       none : ◌≡◌ {A = ℕ} (if changes_tree (memory_of limits entries) entry then 1 else 0) 0
       none =
-          ap (λ (b : Bool). if◌then◌else◌ {A = ℕ} b 1 0) (ap (λ (s : StepOf Record). changes_tree (memory_of limits entries) (Step actor s answer None))
+          rw (ap (λ (s : StepOf Record). changes_tree (memory_of limits entries) (Step actor s answer None))
           (sym wants) ∙ read_no_change (memory_of limits entries) actor (wanted_step round) answer (is_read round.state))
 
   -- by what the round makes of the answer
@@ -152,7 +150,7 @@ module _ (limits : Limits) (entries : List Entry) (actor : ℕ) (step : StepOf R
 
   from_enter : (t : State) → t ≡ Read (first_read old) → ((m : ℕ) → start < m → m ≤ length entries → PaysFrom limits entries actor m (one_memory limits + 2))
       → (m : ℕ) → start < m → m ≤ length longer → PaysAt limits longer task m t
-  from_enter t is pays m after within = subst (λ (s : State). PaysAt limits longer task m s) (sym is) (record {
+  from_enter t is pays m after within = rw is (record {
     left = one_memory limits;
     few = few_fresh limits actor task longer (first_read old) later;
     pays = from_each (one_memory limits + 2) (one_memory limits + 1) m within (omega arith) (omega arith) (pays m after);

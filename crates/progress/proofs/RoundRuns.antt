@@ -206,7 +206,7 @@ left_whole =
     }) refl refl refl
   where
     off : (high : List ℕ) → Some (codes "m") ≡ Some high → left_of removed_read high ≡ false
-    off high e = let same : codes "m" ≡ high = cc in subst (λ (key : List ℕ). left_of removed_read key ≡ false) same refl
+    off high e = let same : codes "m" ≡ high = cc in rw (← same) refl
 
     none : (high : List ℕ) → high_in removed_read.chain ≡ Some high → reaches (codes "x") high ≡ false
     none high e = let absent : None ≡ Some high = e in absurd (cc)

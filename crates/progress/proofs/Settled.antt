@@ -37,7 +37,7 @@ module _ (limits : Limits) (entries : List Entry) (keeps : KeepsPhases limits en
         let took = is_taken from owned two.holds refl in
         let e : Some one.entry ≡ Some two.entry = sym one.at ∙ ap (slice_get entries) same ∙ two.at in
         let entry : two.entry ≡ one.entry = cc in
-        not_owned (taken_only before phase one.holds took.0 (subst (λ x. IsStep x took.0 (TakePid pid) (Whether true)) entry took.1))
+        not_owned (taken_only before phase one.holds took.0 (rw (← entry) took.1))
 
     free_none : (j : ℕ) → m ≤ j → j ≤ n → IsInPhase limits entries j pid free → ⊥
     free_none j le within (inl (i, from, lt, moves, rests)) = cleared_none i pid (omega arith) (came_from limits entries keeps pid i from free cleared (λ memory entry. came_by from free) moves)

@@ -110,7 +110,7 @@ module _ (limits : Limits) (entries : List Entry) (run : IsRun limits entries) (
       span (suc k) le unended = elim (mine (start + k)) [
         | inl isnt ↦
             let rest = span k (omega arith) (λ later d after before. unended later d after (omega arith)) in
-            let here : cond {A = ℕ} (steps (start + k)) 1 0 ≡ 0 = ap (λ (b : Bool). cond {A = ℕ} b 1 0) isnt in
+            let here : cond {A = ℕ} (steps (start + k)) 1 0 ≡ 0 = rw isnt in
             let more = tally_grows (hinder limits entries a) start k (suc k) (omega arith) in
             let grown : worth * (tally (hinder limits entries a) start k + 1) ≤ worth * (tally (hinder limits entries a) start (suc k) + 1) = mul-le-mul_left
             (worth) (omega (arith, more)) in
@@ -192,7 +192,7 @@ module _ (limits : Limits) (entries : List Entry) (run : IsRun limits entries) (
             let zeroed : 0 + start ≡ start = omega arith in
             let split_steps : tally steps 0 n ≡ tally steps 0 start + tally steps start (n - start) = parts steps in
             let split_hinder : tally (hinder limits entries a) 0 n ≡ tally (hinder limits entries a) 0 start + tally (hinder limits entries a) start (n - start) = parts (hinder limits entries a) in
-            let next : tally begins 0 (suc start) ≡ tally begins 0 start + 1 = ap (λ k. tally begins 0 start + cond {A = ℕ} (begins k) 1 0) zeroed ∙ ap
+            let next : tally begins 0 (suc start) ≡ tally begins 0 start + 1 = rw zeroed ap
             (λ (b : Bool). tally begins 0 start + cond {A = ℕ} b 1 0) (ap (passes (begin_of a)) begun ∙ is_mine) in
             let more : tally begins 0 (suc start) ≤ tally begins 0 n = tally_grows begins 0 (suc start) n (omega arith) in
             let joined : worth * ((tally begins 0 start + tally (hinder limits entries a) 0 start) + (tally (hinder limits entries a) start (n - start) + 1))
@@ -270,14 +270,14 @@ module _ (limits : Limits) (entries : List Entry) (run : IsRun limits entries) w
       zeroed = omega arith
 
       mark : (p : Entry → Bool) (o : Option Entry) → slice_get entries n ≡ o → cond {A = ℕ} (passes_in p entries (0 + n)) 1 0 ≡ cond (passes p o) 1 0
-      mark p o at = ap (λ (x : Option Entry). cond {A = ℕ} (passes p x) 1 0) (ap (slice_get entries) zeroed ∙ at)
+      mark p o at = rw (ap (slice_get entries) zeroed ∙ at)
 
       by_entry : tally (passes_in (begin_of a) entries) 0 n ≤ tally (passes_in (end_of a) entries) 0 n + under_way (command_of (take n entries) a) → (o : Option Entry) → slice_get entries n ≡ o
           → tally (passes_in (begin_of a) entries) 0 n + cond (passes_in (begin_of a) entries (0 + n)) 1 0 ≤ tally (passes_in (end_of a) entries) 0 n + cond
           (passes_in (end_of a) entries (0 + n)) 1 0 + under_way (command_of (take (suc n) entries) a)
       by_entry before None at =
           let begins : cond {A = ℕ} (passes_in (begin_of a) entries (0 + n)) 1 0 ≡ 0 = mark (begin_of a) None at in
-          let now : under_way (command_of (take (suc n) entries) a) ≡ under_way (command_of (take n entries) a) = ap (λ es. under_way (command_of es a)) (take_past entries n at) in
+          let now : under_way (command_of (take (suc n) entries) a) ≡ under_way (command_of (take n entries) a) = rw (take_past entries n at) in
           omega (arith, before, begins, now)
       by_entry before (Some (Begin b c)) at = elim (eqb_tells a b) [
         | inl same ↦

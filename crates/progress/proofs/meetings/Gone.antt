@@ -23,14 +23,7 @@ use Rattle.structure_changes.specs.Sizes.{HasItems, HasNoneHeld}
 -- nothing fits over a removed page
 none_over : (newest : Record) (under : List Record) → FitsOver under newest → is_removed under ≡ true → ⊥
 none_over (kind.Base page) under f e = let d = f.delta in cc
-none_over (kind.Put put) under f e = let alive = f.fits.alive in let is = f.makes.removed in cc
-none_over (kind.Delete delete) under f e = let alive = f.fits.alive in let is = f.makes.removed in cc
-none_over (kind.Split split) under f e = let alive = f.fits.alive in let is = f.makes.removed in cc
-none_over (kind.Term term) under f e = let alive = f.fits.alive in let is = f.makes.removed in cc
-none_over (kind.Hold hold) under f e = let alive = f.fits.alive in let is = f.makes.removed in cc
-none_over (kind.Remove remove) under f e = let alive = f.fits.alive in let is = f.makes.removed in cc
-none_over (kind.Merge merge) under f e = let alive = f.fits.alive in let is = f.makes.removed in cc
-none_over (kind.Unterm unterm) under f e = let alive = f.fits.alive in let is = f.makes.removed in cc
+none_over other under f e = let alive = f.fits.alive in let is = f.makes.removed in cc
 
 over_gone : (newest : Record) (under : List Record) → IsFitted (newest ∷ under) → is_removed under ≡ true → ⊥
 over_gone newest [] fitted e = cc
@@ -69,7 +62,7 @@ has_pushed [] content = by_bool (is_removal content)
     by_bool : (b : Bool) → (b || false) ≡ (false || b)
     by_bool true = refl
     by_bool false = refl
-has_pushed (newest ∷ part) content = ap (λ (b : Bool). is_removal newest || b) (has_pushed part content) ∙ assoc (is_removal newest) (has_removal part) (is_removal content)
+has_pushed (newest ∷ part) content = rw (has_pushed part content) (assoc (is_removal newest) (has_removal part) (is_removal content))
   where
     assoc : (a b c : Bool) → (a || (b || c)) ≡ ((a || b) || c)
     assoc true b c = refl
@@ -101,7 +94,7 @@ owed_next part rest content fitted = either (is_removal content) removal other
     removal : is_removal content ≡ true → Goal
     removal e =
         let none = removal_newest part rest content fitted e in
-        let gone : is_removed (part ++ content ∷ rest) ≡ true = ap (λ (p : List Record). is_removed (p ++ content ∷ rest)) none ∙ removed_by content (is_removed rest) e in
+        let gone : is_removed (part ++ content ∷ rest) ≡ true = rw none (removed_by content (is_removed rest) e) in
         let before : has_removal part ≡ false = ap has_removal none in
         let after : has_removal (part ++ content ∷ []) ≡ true = has_pushed part content ∙ (rw (before, e) refl) in
         let le : 0 + 1 ≤ 1 = omega arith in

@@ -51,7 +51,7 @@ module _ (w : Standing) where
   pub term_in : (pid : ℕ) (key : Key) (level : ℕ) → IsHeld pid key level → (over : LivePage) → On w (suc level) over → StaysLeft (precedes key) over.chain
       → precedes key (low_of over) ≡ true → content_in over.chain key ≡ Some (Child pid true)
   term_in pid key level h over on stays pass =
-      subst (λ (p : LivePage). content_in p.chain key ≡ Some (Child pid true)) (sym (above_same pid key level h over on stays pass)) h.term
+      rw (above_same pid key level h over on stays pass) h.term
 
   -- on its level no removed page is on the way to the left of it
   pub none_under : (pid : ℕ) (key : Key) (level : ℕ) → IsHeld pid key level → (page : LivePage) (above : Option Version) → Under w (precedes key) above level page
@@ -62,8 +62,8 @@ module _ (w : Standing) where
       let in_above = (w.tree.child level l.1 h.above l.0 false h.on l.2.has).0 in
       let here = (w.tree.child level pid h.above key true h.on h.term).0 in
       let same : live u.over ≡ h.above = joint (suc level) (low_of page) l.0 key (live u.over) h.above u.on h.on pass l.2.passing in_over u.stays in_above here in
-      let term : content_in h.above.chain (low_of page) ≡ Some (Child page.pid true) = subst (λ (p : LivePage). content_in p.chain (low_of page) ≡ Some (Child page.pid true)) same u.term in
-      let left : content_in u.over.chain l.0 ≡ Some (Child l.1 false) = subst (λ (p : LivePage). content_in p.chain l.0 ≡ Some (Child l.1 false)) (sym same) l.2.has in
+      let term : content_in h.above.chain (low_of page) ≡ Some (Child page.pid true) = rw (← same) u.term in
+      let left : content_in u.over.chain l.0 ≡ Some (Child l.1 false) = rw same l.2.has in
       let one = l.2.greatest (low_of page) pass (some_of _ _ term) in
       let two = u.greatest l.0 l.2.passing (some_of _ _ left) in
       let is : low_of page ≡ l.0 = upto_both (low_of page) l.0 one two in
@@ -82,8 +82,8 @@ module _ (w : Standing) where
       let r = w.tree.right level (live left) pid on is_right in
       let here : live removed ≡ h.page = same_page_as pid key level h (live removed) level stands is in
       let next : r.0 ≡ live removed = same_pid w r.0 (live removed) (chain_on w level r.0 r.1) stands.stands (r.2 ∙ sym is) in
-      let on_removed : On w level (live removed) = subst (λ (p : LivePage). On w level p) next r.1 in
-      let gone : is_removed removed.chain ≡ true = ap (λ (p : LivePage). is_removed p.chain) here ∙ h.gone in
+      let on_removed : On w level (live removed) = rw (← next) r.1 in
+      let gone : is_removed removed.chain ≡ true = rw here h.gone in
       record {
         alive = alive;
         next_to = record { right = is_right ∙ ap Some (sym is); high = r.3 ∙ ap (λ (p : LivePage). Some (low_in p.chain)) next };
@@ -110,7 +110,7 @@ module _ (w : Standing) where
         apart = λ next. apart (next.right ∙ ap Some is);
         held = ap (content_in parent.chain) low ∙ term ∙ ap (λ (n : ℕ). Some (Child n true)) (sym is);
         short = short;
-        gone = ap (λ (p : LivePage). is_removed p.chain) here ∙ h.gone;
+        gone = rw here h.gone;
       }
     where
       inner : (end : Option Key) → low_in removed.chain ≡ key → ((high : Key) → end ≡ Some high → precedes key high ≡ false) → IfSome end (λ high. IsFalse (is_below high (low_in removed.chain)))

@@ -108,8 +108,7 @@ both_false false b e f = cc
 
 pub other_false : (a b : Bool) → b ≡ true → (a || b) ≡ false → ⊥
 other_false true b e f = cc
-other_false false true e f = cc
-other_false false false e f = cc
+other_false false b e f = cc
 
 -- a writer's causes, and a reader's changes, by hindrances
 pub writer_scaled : (limits : Limits) (command : Command) (steps causes hinders : ℕ) → is_writer command ≡ true → causes ≤ (most_meets + 1) * hinders → steps ≤ cause_worth limits * causes
@@ -207,7 +206,7 @@ module _ (limits : Limits) (entries : List Entry) where
       let parts = tally_either (told a) (is_change limits entries) (gone a) m (suc n - m) (λ k. at_most_both (is_change limits entries k) (gone a k)) in
       let both = two_tallies a m (suc n - m) in
       enough causes (tally (told a) m (suc n - m)) (tally (beside limits entries a) m (suc n - m)) (tally (is_change limits entries) m (suc n - m)) (tally (gone a) m (suc n - m))
-      (tally (hinder limits entries a) m (suc n - m)) (length changes) extra all parts both changed (subst (λ (x : ℕ). x ≤ (1 + length changes) * most_meets) counts few)
+      (tally (hinder limits entries a) m (suc n - m)) (length changes) extra all parts both changed (rw (← counts) few)
     where
       at_most_both : (b c : Bool) → cond (b || c) 1 0 ≤ cond b 1 0 + cond c 1 0
       at_most_both true true = omega arith

@@ -164,7 +164,7 @@ goes_on limits entries actor writer moment m lawful within pays = either (change
 
     same : changes_tree (memory_of limits entries) moment.entry ≡ false → PaysForWriter limits (entries ++ moment.entry ∷ []) actor moment.state m
     same off =
-        let zeroth : ◌≡◌ {A = ℕ} (if changes_tree (memory_of limits entries) moment.entry then 1 else 0) 0 = ap (λ (b : Bool). if◌then◌else◌ {A = ℕ} b 1 0) off in
+        let zeroth : ◌≡◌ {A = ℕ} (if changes_tree (memory_of limits entries) moment.entry then 1 else 0) 0 = rw off in
         let some = few_some limits actor entries writer moment 0 pays.left lawful zeroth pays.few in
         record {
           left = pays.left - cond (meets_at actor moment.entry) 1 0;

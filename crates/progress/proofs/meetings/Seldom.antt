@@ -54,7 +54,7 @@ since_last limits entries actor m n whole h = (
         (λ place g. let below : place < length entries = g.1 in (g.0, omega arith, g.2)) h.changes h.each;
   },
   (
-      let same : slice_range entries m (suc n) ≡ drop m entries = ap (λ end. take (end - m) (drop m entries)) whole ∙ take_rest entries m in
+      let same : slice_range entries m (suc n) ≡ drop m entries = rw whole (take_rest entries m) in
       let counted : meets_from entries actor m n ≡ count_by (meets_at actor) (drop m entries) = ap (count_by (meets_at actor)) same in
       less (meets_from entries actor m n) (count_by (meets_at actor) (drop m entries)) (length h.changes) counted h.met
       ),
@@ -92,7 +92,7 @@ module _ (limits : Limits) (entries : List Entry) where
           (λ place. (op.start ≤ place) × (place ≤ n) × Happens limits entries place ChangesTree)
           (λ place g. let low : suc op.start ≤ place = g.0 in (omega (arith, low), g.1, g.2)) h.0 h.1.each;
     },
-    subst (λ (met : ℕ). met ≤ (1 + length h.0) * most_meets) (sym (from_begin op n begun after)) h.2,
+    rw (from_begin op n begun after) h.2,
   )
 
   -- where the changes since each later entry pay, all is so
@@ -120,8 +120,7 @@ module _ (limits : Limits) (entries : List Entry) (last : Entry) (kept : IsWrite
           each = All-weaker (λ place. (m ≤ place) × (place ≤ n) × Happens limits entries place ChangesTree) (λ place. (m ≤ place) × (place ≤ n) × Happens limits longer place ChangesTree)
               (λ place g. (g.0, g.1, Happens-kept (last ∷ []) g.2)) h.0 h.1.each;
         },
-        subst (λ (met : ℕ). met ≤ (1 + length h.0) * most_meets)
-            (sym (ap (count_by (meets_at op.actor)) (range_kept entries last m (suc n) (omega (arith, le)) (omega (arith, below))))) h.2,
+        rw (ap (count_by (meets_at op.actor)) (range_kept entries last m (suc n) (omega (arith, le)) (omega (arith, below)))) h.2,
       )
 
   -- where the last entry is paid for
@@ -170,5 +169,5 @@ steps_keep limits entries actor step answer reply old kept pays wants later dire
     by_running None pays wants op s x given m latest writer is after within = absurd (cc wants)
     by_running (Some running) pays wants op s x given m latest writer is after within =
         let mine : actor ≡ op.actor = cc in
-        let theirs : PaysWriter limits entries op.actor (Some running) = subst (λ (a : ℕ). PaysWriter limits entries a (Some running)) mine pays in
+        let theirs : PaysWriter limits entries op.actor (Some running) = rw (← mine) pays in
         met_once limits entries (Step actor step answer reply) op.actor m within (paid_some limits entries op.actor m running.op.state (theirs op.start m op.command latest writer after within))

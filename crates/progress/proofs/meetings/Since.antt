@@ -33,7 +33,7 @@ module _ (limits : Limits) (entries : List Entry) (run : IsRun limits entries) (
   same_number j c d (is, inr (k, low, e, p)) (is', inl q) = absurd (let none : j ≡ 0 = q.0 in omega (arith, none, e))
   same_number j c d (is, inr (k, low, e, p)) (is', inr (i, low', e', q)) =
       let same : i ≡ k = omega (arith, low, low', e, e') in
-      same_cause limits entries run op k c d p (subst (λ x. Pays limits entries run op x d) same q)
+      same_cause limits entries run op k c d p (rw (← same) q)
 
   number_of : (c : ℕ) → IsMissed c → (j : ℕ) × HasNumber j c
   number_of c is =

@@ -51,15 +51,15 @@ module _ (limits : Limits) (entries : List Entry) (state : IsState limits entrie
       → IsChainOf w.memory visit.pid chain → IsLeft w.memory chain visit.part (Row head row) left → head ≡ w.memory.slots visit.pid
       → (content : Record) → memory.rows row ≡ Some content → w.memory.rows row ≡ Some content
   row_same within r visit head row left chain o at is_chain is_left at_head content there =
-      let reads : seen.Reads k visit.pid head visit.part row = subst (λ (s : VisitState). seen.ShowsState k visit.pid visit.part s) at o.on_way.shows.stands in
+      let reads : seen.Reads k visit.pid head visit.part row = rw (← at) o.on_way.shows.stands in
       let f = read_front limits entries state actor visit.pid head row visit.part reads.in_slot reads.seen in
       let in_tree : IsInTree (state.owners.page visit.pid) = reached_in 0 (level_in (visit.part ++ f.0)) (low_in (visit.part ++ f.0)) (state.owners.page visit.pid) f.2.reached in
       let here = same.chains visit.pid chain in_tree is_chain in
       let slot : memory.slots visit.pid ≡ head = same.slots visit.pid is_chain.page in_tree ∙ sym at_head in
-      let from : IsChainFrom memory.rows head chain = subst (λ (n : ℕ). IsChainFrom memory.rows n chain) slot here.records in
+      let from : IsChainFrom memory.rows head chain = rw (← slot) here.records in
       let whole : chain ≡ visit.part ++ f.0 = IsChainFrom-unique memory.rows head chain (visit.part ++ f.0) from f.2.is_chain in
       let rest : is_left.0 ≡ f.0 = cancel visit.part is_left.0 f.0 (is_left.3 ∙ whole) in
-      first_same memory.rows w.memory.rows row is_left.0 content (subst (λ (c : List Record). IsChainFrom memory.rows row c) (sym rest) f.1) is_left.2 there
+      first_same memory.rows w.memory.rows row is_left.0 content (rw rest f.1) is_left.2 there
 
   -- a page that is being read
   pub record Reading (visit : Visit) : Type 0 where
@@ -72,9 +72,9 @@ module _ (limits : Limits) (entries : List Entry) (state : IsState limits entrie
   at_visit : (leg : Leg) (goal : ReadGoal) (key : Key) (visit : Visit) (steps : ℕ)
       → StandsAt w leg goal key (Page visit) steps ⊎ SettledAt w leg goal (Page visit) steps → (visit.state ≡ Slot) ⊎ Reading visit
   at_visit leg goal key visit steps (inl v) =
-      inr (record { chain = v.page.chain; left = v.left; is_chain = subst (λ (n : ℕ). IsChainOf w.memory n v.page.chain) v.is_pid v.stands.stands; is_left = v.is_left; at_head = v.at_head })
+      inr (record { chain = v.page.chain; left = v.left; is_chain = rw (← v.is_pid) v.stands.stands; is_left = v.is_left; at_head = v.at_head })
   at_visit leg goal key visit steps (inr (inl v)) =
-      inr (record { chain = v.page.chain; left = v.left; is_chain = subst (λ (n : ℕ). IsChainOf w.memory n v.page.chain) v.is_pid v.loose.stands.stands; is_left = v.is_left; at_head = v.at_head })
+      inr (record { chain = v.page.chain; left = v.left; is_chain = rw (← v.is_pid) v.loose.stands.stands; is_left = v.is_left; at_head = v.at_head })
   at_visit leg goal key visit steps (inr (inr v)) = inl v.at_slot
 
   pub visit_same : (within : Limits) (r : Recalled) (visit : Visit) → OnItsWay within r visit → (visit.state ≡ Slot) ⊎ Reading visit → (answer : Answer Record)
@@ -85,8 +85,8 @@ module _ (limits : Limits) (entries : List Entry) (state : IsState limits entrie
     | inl at_slot ↦ absurd (let both : Slot ≡ Row head row = sym at_slot ∙ e in cc)
     | inr v ↦ (
       content,
-      row_same within r visit head row v.left v.chain o e v.is_chain (subst (λ (s : VisitState). IsLeft w.memory v.chain visit.part s v.left) e v.is_left)
-          (subst (λ (s : VisitState). IsAtHead w.memory visit.pid s) e v.at_head) content there,
+      row_same within r visit head row v.left v.chain o e v.is_chain (rw (← e) v.is_left)
+          (rw (← e) v.at_head) content there,
       is,
     )
   ]

@@ -117,8 +117,7 @@ module _ (limits : Limits) (actor : ℕ) (task : Task) where
         → IsVisitIn (tree limits entries state actor) round.goal round.leg visit.pid visit.part visit.state → price ≤ steps + length visit.part
         → StaleVisit now round.leg round.goal visit steps × (length visit.part ≤ 13)
     stale_visit steps visit head row at_row is few =
-        let reads : IsReadIn (tree limits entries state actor) round.goal round.leg visit.pid visit.part row = subst
-        (λ (s : VisitState). IsVisitIn (tree limits entries state actor) round.goal round.leg visit.pid visit.part s) at_row is in
+        let reads : IsReadIn (tree limits entries state actor) round.goal round.leg visit.pid visit.part row = rw (← at_row) is in
         let short = reads.fits.short in
         let all = length-append visit.part reads.rest in
         let enough_here = placed in (
@@ -127,7 +126,7 @@ module _ (limits : Limits) (actor : ℕ) (task : Task) where
             is_pid = refl;
             stale = record { fits = reads.fits; names = reads.names; kept = reads.kept; left = reads.left; round = reads.round; leg_is = is_in.leg; goal_is = is_in.goal };
             left = length reads.rest;
-            is_left = subst (λ (s : VisitState). IsLeft (memory_of limits entries) (visit.part ++ reads.rest) visit.part s (length reads.rest)) (sym at_row) (reads.rest, refl, reads.stands, refl);
+            is_left = rw at_row (reads.rest, refl, reads.stands, refl);
             head = head;
             row = row;
             at_row = at_row;
@@ -146,16 +145,16 @@ module _ (limits : Limits) (actor : ℕ) (task : Task) where
         by_visit visit (seen.Row head row) e is v any =
             let s = stale_visit price visit head row e v (omega arith) in
             inr (record { visit = visit; head = head; row = row; at_page = is; at_row = e; few = omega arith; short = s.1 })
-        by_visit visit seen.Slot e is v (inl settled) = inl (now, same_now, inr (subst (λ (s : WayState). SettledAt now round.leg round.goal s price) (sym is) settled))
+        by_visit visit seen.Slot e is v (inl settled) = inl (now, same_now, inr (rw is settled))
         by_visit visit seen.Slot e is v (inr stale) = absurd (let both : seen.Slot ≡ seen.Row stale.head stale.row = sym e ∙ stale.at_row in cc)
 
         by_state : (state_at : WayState) → round.state ≡ state_at → IsStateIn (tree limits entries state actor) round.goal round.leg round.state
             → AnyAt now round.leg round.goal round.state price → Here entries state round price
         by_state Root is v any =
-            inl (now, same_now, inr (subst (λ (s : WayState). SettledAt now round.leg round.goal s price) (sym is) (subst (λ (s : WayState). AnyAt now round.leg round.goal s price) is any)))
+            inl (now, same_now, inr (rw is (rw (← is) any)))
         by_state (Page visit) is v any =
-            by_visit visit visit.state refl is (subst (λ (s : WayState). IsStateIn (tree limits entries state actor) round.goal round.leg s) is v)
-            (subst (λ (s : WayState). AnyAt now round.leg round.goal s price) is any)
+            by_visit visit visit.state refl is (rw (← is) v)
+            (rw (← is) any)
 
     -- a page is read on
     abbrev StaleState : Leg → ReadGoal → WayState → ℕ → Type 0
@@ -179,8 +178,7 @@ module _ (limits : Limits) (actor : ℕ) (task : Task) where
 
         short : length next.part ≤ 13
         short =
-            let left : IsLeft (memory_of limits entries) o.2.page.chain next.part (seen.Row o.2.head o.2.row) o.2.left = subst
-            (λ (t : VisitState). IsLeft (memory_of limits entries) o.2.page.chain next.part t o.2.left) o.2.at_row o.2.is_left in
+            let left : IsLeft (memory_of limits entries) o.2.page.chain next.part (seen.Row o.2.head o.2.row) o.2.left = rw (← o.2.at_row) o.2.is_left in
             let all = length-append next.part left.0 in
             let whole = ap length left.3 in
             let fits = o.2.stale.fits.short in
@@ -224,10 +222,10 @@ module _ (limits : Limits) (actor : ℕ) (task : Task) where
     stale_step new steps s reads = by_end reads.steps.end (stale_responds round reads.steps.next reads.answer reads.steps.end reads.steps.responds steps stale reads.told) reads.steps.goes
       where
         v : IsVisitIn (tree limits entries state actor) round.goal round.leg s.visit.pid s.visit.part s.visit.state
-        v = subst (λ (t : WayState). IsStateIn (tree limits entries state actor) round.goal round.leg t) s.at_page is_in.state
+        v = rw (← s.at_page) is_in.state
 
         stale : StaleState round.leg round.goal round.state steps
-        stale = subst (λ (t : WayState). StaleState round.leg round.goal t steps) (sym s.at_page) ((stale_visit steps s.visit s.head s.row s.at_row v s.few).0, s.few)
+        stale = rw s.at_page ((stale_visit steps s.visit s.head s.row s.at_row v s.few).0, s.few)
 
         by_end : (end : Option ReadEnd) → StaleEnds round reads.steps.next end steps → AfterReading task reads.steps.next end new → FoundHere new steps
         by_end None e goes = inr (reads.steps.next, e.0, goes, e.1, elim e.2 [ inl settled ↦ inl (now, same_now, inr settled) | inr on ↦ inr on ])
@@ -278,19 +276,19 @@ module _ (limits : Limits) (actor : ℕ) (task : Task) where
         rest (entries ++ moment.entry ∷ []) m.later moment.round left are
         (stays_here entries moment.entry state m.later moment.round left
         (λ w same. same_next limits w entries moment.entry state m.next m.later m.direct off same)
-        (subst (λ (o : ReadRound). Here entries state o left) (sym is) found))
+        (rw is found))
 
     none_more : changes_tree (memory_of limits entries) moment.entry ≡ false → all_changes limits entries (moment ∷ moments) ≡ changes
-    none_more off = let zeroth : ◌≡◌ {A = ℕ} (if changes_tree (memory_of limits entries) moment.entry then 1 else 0) 0 = ap (λ (b : Bool). if◌then◌else◌ {A = ℕ} b 1 0) off in omega (arith, zeroth)
+    none_more off = let zeroth : ◌≡◌ {A = ℕ} (if changes_tree (memory_of limits entries) moment.entry then 1 else 0) 0 = rw off in omega (arith, zeroth)
 
     one_more : changes_tree (memory_of limits entries) moment.entry ≡ true → all_changes limits entries (moment ∷ moments) ≡ 1 + changes
-    one_more on = let one : ◌≡◌ {A = ℕ} (if changes_tree (memory_of limits entries) moment.entry then 1 else 0) 1 = ap (λ (b : Bool). if◌then◌else◌ {A = ℕ} b 1 0) on in omega (arith, one)
+    one_more on = let one : ◌≡◌ {A = ℕ} (if changes_tree (memory_of limits entries) moment.entry then 1 else 0) 1 = rw on in omega (arith, one)
 
     own_case : IsOwnMoment actor task round moment → Goal
     own_case own = by_found (own_step entries state round m.r m.shows (Read moment.round) steps here (record { answer = own.answer; told = told; steps = own.steps }))
       where
         next : IsNext limits entries (Step actor (wanted_step round) own.answer None)
-        next = subst (λ (e : Entry). IsNext limits entries e) own.entry_is m.next
+        next = rw (← own.entry_is) m.next
 
         told : IsAnswer (memory_of limits entries) (wanted_step round) own.answer
         told = next.2
@@ -311,7 +309,7 @@ module _ (limits : Limits) (actor : ℕ) (task : Task) where
     other_case other = either (changes_tree (memory_of limits entries) moment.entry) changed same_tree
       where
         not_own : cond {A = ℕ} (is_own moment) 1 0 ≡ 0
-        not_own = ap (λ (b : Bool). cond {A = ℕ} b 1 0) (others_no_step actor moment.entry other.others)
+        not_own = rw (others_no_step actor moment.entry other.others)
 
         changed : changes_tree (memory_of limits entries) moment.entry ≡ true → Goal
         changed on =

@@ -74,7 +74,7 @@ module _ (limits : Limits) (memory : Memory) (tree : HasWholeTree limits memory)
       let product = add-mul 1 (removed_leaves tree) (one_walk limits) in
       let few : one_round standing + times standing (all_removed standing) ≤ (1 + removed_leaves tree) * one_walk limits = omega (arith, one, all, same, product) in
       let rounds : 1 + (1 + removed_leaves tree) ≡ 2 + removed_leaves tree = omega arith in
-      subst (λ (n : ℕ). EndsWithin memory task (read_left_of leaf round) (n * one_walk limits) × FindsEach memory task (read_left_of leaf round)) rounds
+      rw (← rounds)
       (begin_left task leaf round (1 + removed_leaves tree) (inr (removed, few)))
 
   pub standing_round_ends : (task : Task) (round : ReadRound) → IsRoundIn tree round → EndsWithin memory task round ((4 + removed_leaves tree) * one_walk limits + 14)

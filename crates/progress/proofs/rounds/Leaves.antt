@@ -40,8 +40,8 @@ module _ (w : Standing) where
       let in_above = (w.tree.child 0 l.1 r.above l.0 false r.on l.2.has).0 in
       let here = (w.tree.child 0 leaf.pid r.above (low_of leaf) true r.on r.term).0 in
       let same : live u.over ≡ r.above = joint (low_of page) l.0 (low_of leaf) (live u.over) r.above u.on r.on pass l.2.passing in_over u.stays in_above here in
-      let term : content_in r.above.chain (low_of page) ≡ Some (Child page.pid true) = subst (λ (p : LivePage). content_in p.chain (low_of page) ≡ Some (Child page.pid true)) same u.term in
-      let left : content_in u.over.chain l.0 ≡ Some (Child l.1 false) = subst (λ (p : LivePage). content_in p.chain l.0 ≡ Some (Child l.1 false)) (sym same) l.2.has in
+      let term : content_in r.above.chain (low_of page) ≡ Some (Child page.pid true) = rw (← same) u.term in
+      let left : content_in u.over.chain l.0 ≡ Some (Child l.1 false) = rw same l.2.has in
       let one = l.2.greatest (low_of page) pass (some_of _ _ term) in
       let two = u.greatest l.0 l.2.passing (some_of _ _ left) in
       let is : low_of page ≡ l.0 = upto_both (low_of page) l.0 one two in
@@ -69,7 +69,7 @@ module _ (w : Standing) where
       → (other : LivePage) × (other.pid ≡ next) × (reaches key (low_of other) ≡ true) × IsBelow (low_of leaf) (low_of other) × IsBeyond (low_of leaf) other
   beside_right key next leaf page r on is_right leads =
       let b = w.tree.right 0 page leaf.pid on is_right in
-      let on_leaf : On w 0 leaf = subst (λ (p : LivePage). On w 0 p) (same_pid w b.0 leaf (chain_on w 0 b.0 b.1) r.stands.stands b.2) b.1 in
+      let on_leaf : On w 0 leaf = rw (← same_pid w b.0 leaf (chain_on w 0 b.0 b.1) r.stands.stands b.2) b.1 in
       let q = right w (reaches key) 0 next leaf on_leaf leads in
       (q.0, q.1, q.3, q.4, record { on = q.2; up = below_not (low_of leaf) (low_of q.0) q.4; after = λ gone. q.4 })
 

@@ -79,7 +79,7 @@ module _ (w : Standing) where
       let pids = and_left (f.0.pid == page.pid) (not (is_below (low_of f.0) low)) f.2 in
       let up = not_true (is_below (low_of f.0) low) (and_right (f.0.pid == page.pid) (not (is_below (low_of f.0) low)) f.2) in
       let same : f.0 ≡ page = same_pid w f.0 page (chain_on w level f.0 f.1) (chain_on w level page on) (equal f.0.pid page.pid pids) in
-      absurd (not_below (low_of page) low less (subst (λ (q : LivePage). IsUpTo low (low_of q)) same up)))
+      absurd (not_below (low_of page) low less (rw (← same) up)))
       (λ off. off)
 
   ahead_itself : (level : ℕ) (page : LivePage) → On w level page → is_ahead level (low_of page) page.pid ≡ true

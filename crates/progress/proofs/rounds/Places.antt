@@ -108,8 +108,8 @@ module _ (w : Standing) where
   few_above other over level page cost e few = absurd (cc)
 
   pub names_above : (leg : Leg) (over : Version) → above_of leg ≡ Some over → IsLegIn w.tree leg → NamesPlaces w.tree over.chain
-  names_above (Down (Some above)) over e names = let same : above ≡ over = cc in subst (λ (v : Version). NamesPlaces w.tree v.chain) same names
-  names_above (Past (Some above)) over e names = let same : above ≡ over = cc in subst (λ (v : Version). NamesPlaces w.tree v.chain) same names
+  names_above (Down (Some above)) over e names = let same : above ≡ over = cc in rw (← same) names
+  names_above (Past (Some above)) over e names = let same : above ≡ over = cc in rw (← same) names
   names_above other over e names = absurd (cc)
 
   -- a page of a level is a place
@@ -120,7 +120,7 @@ module _ (w : Standing) where
   pub kept_here : (page : LivePage) → IsChainOf w.memory page.pid page.chain → KeepsItsPlace w.tree page
   kept_here page stands level other on is_right =
       let r = w.tree.right level other page.pid on is_right in
-      subst (λ (p : LivePage). On w level p) (same_pid w r.0 page (chain_on w level r.0 r.1) stands r.2) r.1
+      rw (← same_pid w r.0 page (chain_on w level r.0 r.1) stands r.2) r.1
 
   -- what a term of a page of a level names
   pub child_of : (level next : ℕ) (above : LivePage) (key : Key) (held : Bool) → On w (suc level) above → content_in above.chain key ≡ Some (Child next held)

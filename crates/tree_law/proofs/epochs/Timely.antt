@@ -74,8 +74,8 @@ module _ {limits : Limits} {m : Memory} {log : List Update} {o : Owners} {knows 
       (rw limbo λ e i. let j = T.epochs a e i in let l = c.epoch in omega arith)
       (rw own (T.own_rows a))
       (rw own (T.gone_pages a))
-      (λ n r. subst (λ (l : Limbos). LimboFits a (λ b. (put knows a k' b).inside) t.entered (t.row_out r) (l.rows r)) (sym limbo) (limbo_row n a r))
-      (λ n p. subst (λ (l : Limbos). LimboFits a (λ b. (put knows a k' b).inside) t.entered (t.page_out p) (l.pids p)) (sym limbo) (limbo_pid n a p))
+      (λ n r. rw (← limbo) at (limbo_row n a r))
+      (λ n p. rw (← limbo) at (limbo_pid n a p))
       (rw own (T.ready a))
       (rw own (T.apart a))
 

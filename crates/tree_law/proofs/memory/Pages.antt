@@ -133,8 +133,8 @@ module _ (limits : Limits) (entries : List Entry) (state : IsState limits entrie
   one l page other key has had inside within =
       let a = on_level l page has in
       let b = on_level l other had in
-      let first : Covers a.place.chain key = covers_from a.place.chain key (subst (λ (p : LivePage). IsTrue (covers p.chain key)) (sym a.is) inside) in
-      let second : Covers b.place.chain key = covers_from b.place.chain key (subst (λ (p : LivePage). IsTrue (covers p.chain key)) (sym b.is) within) in
+      let first : Covers a.place.chain key = covers_from a.place.chain key (rw (← a.is) at inside) in
+      let second : Covers b.place.chain key = covers_from b.place.chain key (rw (← b.is) at within) in
       let pid : a.place.page ≡ b.place.page = same_page (state.is_tree.tree.levels l a.le) a.place b.place a.here b.here key first second in
       let chain : a.place.chain ≡ b.place.chain = one_chain owners (shared_part memory) l (decides l) (decides l) b.place a.place b.here a.here pid in
       let same : live a.place ≡ live b.place = (λ i. record { pid = pid i; chain = chain i }) in

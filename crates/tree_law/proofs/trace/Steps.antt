@@ -173,7 +173,7 @@ module _ (limits : Limits) (entries : List Entry) (a : ℕ) (step : StepOf Recor
   searches_after : (op : Operation) → IsOperation longer op → IsUnended longer op.start op.actor → command_of longer op.actor ≡ Some op.command
       → IsSearch longer op (knows longer op.actor)
   searches_after = unfinished_after (IsSearch longer)
-      (λ start c begun unended asks no_reply. subst (λ o. IsSearch longer (operation_from start a c) (after_reply (learn (knows entries a) step answer) o)) (sym no_reply)
+      (λ start c begun unended asks no_reply. rw (← no_reply) at
       (search_own entries last start a c step answer (knows entries a) begun unended (λ d. Step a step answer (no_reply d)) (state.searches (operation_from start a c) begun unended asks)))
       (λ op ne begun unended asks. search_other entries last op (knows entries op.actor) (state.searches op begun unended asks) (λ s x y e. ne (let j : a ≡ op.actor = cc in sym j)))
 
