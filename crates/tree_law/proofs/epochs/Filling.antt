@@ -1,6 +1,6 @@
 -- After its exchange of a page's slot to a row won: what the actor itself holds.
 use Rattle.tree_law.proofs.Words.{ap, refl, Option, suc, None, List, true, subst, sym, ℕ, ◌≡◌, ◌∙◌, Some, same_Some, Update, Reply, Limits, Memory, Record, Base, Split, Put, Delete, Unterm}
-use Rattle.tree_law.proofs.Words.{SplitOf, UntermOf, IsOwn, IsOwnBase, IsUnset, Knowledge, after_reply, Ready, Foreign, Empty, Other, Gone, Written, OwnRow, linked_over, handed_page, LimboMark}
+use Rattle.tree_law.proofs.Words.{SplitOf, UntermOf, IsOwn, IsOwnBase, IsUnset, Knowledge, after_reply, Ready, Foreign, Empty, Other, Gone, Written, OwnRow, linked_over, handed_page}
 use Rattle.tree_law.proofs.Words.{handed_over, set_page, rebuilt, Linked, Owners, put, shared_part, Times, Timed, LimboFits, is_base, IsTree}
 use Rattle.tree_law.proofs.shape.Puts.{by_equal, put_other, put_was}
 use Rattle.tree_law.proofs.epochs.Timing.{Turn, limbo_row, limbo_pid, held_later, announced_still, put_timed}

@@ -1,6 +1,6 @@
 -- Steps that take nothing out of the tree and free nothing keep what actors hold.
-use Rattle.tree_law.proofs.Words.{ap, refl, Option, suc, None, List, true, inl, ◌≢◌, ◌≤◌, inr, subst, sym, ℕ, ◌≡◌, ◌∙◌, arith, Some, same_Some, Update, Limits, Memory, next_row, Record}
-use Rattle.tree_law.proofs.Words.{low_in, level_in, IsOwn, IsOwnBase, Knowledge, Ready, learnt_next, Gone, Limbos, Key, Linked, Owners, Reached, Spare, SpellsLog, Placed, Indexed, Cleared, Stage}
+use Rattle.tree_law.proofs.Words.{ap, refl, Option, suc, None, List, true, inl, ◌≢◌, ◌≤◌, inr, sym, ℕ, ◌≡◌, ◌∙◌, arith, Some, same_Some, Update, Limits, Memory, next_row, Record}
+use Rattle.tree_law.proofs.Words.{low_in, level_in, IsOwn, IsOwnBase, Knowledge, Ready, learnt_next, Gone, Key, Linked, Owners, Reached, Spare, SpellsLog, Placed, Indexed, Cleared, Stage}
 use Rattle.tree_law.proofs.Words.{child_of, put, shared_part, slot_in, Times, Timed, LimboFits, Holds, NamesSince, IsSince, HeldHead, IsTree, spec, SidePage, InPlace, HoldsBy, []}
 use Rattle.tree_law.specs.Times.{HeldBeside}
 use Rattle.tree_law.proofs.links.Keeping.{alive_place, beyond_place}

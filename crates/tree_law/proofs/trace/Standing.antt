@@ -1,5 +1,5 @@
 -- The pages and leaves that an operation has read stood at its own steps.
-use Rattle.tree_law.proofs.Words.{false, ◌⊎◌, ap, refl, Option, suc, List, true, inl, length, ◌++◌, ◌≤◌, inr, ◌∷◌, subst, sym, ℕ, ◌≡◌, ◌∙◌, ◌<◌, arith, Some, slice_get, Update, Command, Reply, Limits}
+use Rattle.tree_law.proofs.Words.{false, ◌⊎◌, ap, refl, Option, suc, List, true, inl, length, ◌++◌, ◌≤◌, inr, ◌∷◌, sym, ℕ, ◌≡◌, ◌∙◌, ◌<◌, arith, Some, slice_get, Update, Command, Reply, Limits}
 use Rattle.tree_law.proofs.Words.{Answer, Number, StepOf, Slot, Memory, Record, [], take-push, take-push_whole, IsChainFrom, right_in, low_in, is_removed, level_in, May, WasStanding}
 use Rattle.tree_law.proofs.Words.{Knowledge, learn, Readings, LivePage, IsAnswer, memory_after, memory_at, command_of, Entry, Begin, Step, Operation, Key, Linked, Owners, Reached}
 use Rattle.tree_law.proofs.Words.{InOrder, shared_part, slot_in, row_in, Shared, operation_from, IsUnended, HaveStood, WasRead, WereRead, WasLeafWith}
