@@ -304,7 +304,7 @@ module _ (limits : Limits) (entries : List Entry) (last : Entry) (used : AreUsed
   longer = entries ++ last ∷ []
 
   kept : All (λ place. Happens limits longer place ChangesTree) used.changes
-  kept = All-weaker (λ place. Happens limits entries place ChangesTree) (λ place. Happens limits longer place ChangesTree) (λ place h. Happens-kept (last ∷ []) h) used.changes used.each
+  kept = λ k d lt. Happens-kept (last ∷ []) (used.each k d lt)
 
   counted : count_by takes_number longer ≡ count_by takes_number entries + cond (takes_number last) 1 0
   counted = count_push takes_number entries last
@@ -322,7 +322,7 @@ module _ (limits : Limits) (entries : List Entry) (last : Entry) (used : AreUsed
     changes = used.changes ++ length entries ∷ [];
     increasing =
         increasing_push used.changes (length entries) used.increasing
-        (All-weaker (λ place. Happens limits entries place ChangesTree) (λ place. place < length entries) (λ place h. Happens-below h) used.changes used.each);
+        (λ k d lt. Happens-below (used.each k d lt));
     each = All-push (λ place. Happens limits longer place ChangesTree) used.changes (length entries) kept (Happens-last limits entries last ChangesTree changes);
     used =
         let old = used.used in

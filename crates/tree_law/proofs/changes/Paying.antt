@@ -148,8 +148,7 @@ module _ (limits : Limits) (entries : List Entry) (a : ℕ) (s : StepOf Record) 
     few = few_push limits entries last paid.few (λ m changes le up all. let bound = paid_longer m changes le up all in omega (arith, bound))
         (taken_most limits entries last on.after used
         (let bound = paid_longer 0 used.changes (omega arith) used.increasing
-        (All-weaker (λ place. Happens limits longer place ChangesTree) (λ place. (0 ≤ place) × Happens limits longer place ChangesTree) (λ place h. (omega arith, h)) used.changes used.each)
-        in
+        (λ k d lt. (omega arith, used.each k d lt)) in
         omega (arith, bound)));
     taken = used;
     paid = paid_push limits entries last (store limits longer on.after worths') 0 (store_bound limits longer on.after worths' each')
@@ -199,8 +198,7 @@ module _ (limits : Limits) (entries : List Entry) (a : ℕ) (c : Command) (paid 
     each = begun_each;
     few = few_push limits entries begin paid.few (λ m changes le up all. let bound = paid_begun m changes le up all in omega (arith, bound))
         (taken_most limits entries begin begun_state used_begun
-        (let bound = paid_begun 0 used_begun.changes (omega arith) used_begun.increasing (All-weaker (λ place. Happens limits begun_trace place ChangesTree)
-        (λ place. (0 ≤ place) × Happens limits begun_trace place ChangesTree) (λ place h. (omega arith, h)) used_begun.changes used_begun.each) in
+        (let bound = paid_begun 0 used_begun.changes (omega arith) used_begun.increasing (λ k d lt. (omega arith, used_begun.each k d lt)) in
         omega (arith, bound)));
     taken = used_begun;
     paid = paid_push limits entries begin (store limits begun_trace begun_state paid.worths) 8 (store_bound limits begun_trace begun_state paid.worths begun_each)
