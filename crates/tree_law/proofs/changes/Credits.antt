@@ -8,12 +8,7 @@ use Rattle.tree_law.proofs.links.Exchanged.{exchanged_alike}
 use Rattle.tree_law.proofs.links.Learning.{learning, wins}
 use Rattle.tree_law.proofs.direct.Linking.{linked_kept}
 use Rattle.tree_law.proofs.changes.Totals.{one}
-
-command_kept : (k : Knowledge) (s : StepOf Record) (x : Answer Record) → (learn k s x).asked.command ≡ k.asked.command
-command_kept k s x = elim (learning k s x) as (λ s x k' v. k'.asked.command ≡ k.asked.command) [
-  | wins slot old new ↦ (exchanged_alike slot old new k).command
-  | v ↦ refl
-]
+use Rattle.tree_law.proofs.trace.Names.{learn_command}
 
 pub credit_most : (command : Option Command) (linked : Option (Option ℕ)) → credit_of command linked ≤ 8
 credit_most None linked = omega arith
@@ -34,7 +29,7 @@ credit_less (Some command) None None after kept = credit_most (Some command) aft
 credit_less (Some command) None (Some over) after kept = let none : credit_of (Some command) after ≡ 0 = linked_pays_none (Some command) after (kept refl) in omega arith
 
 pub credit_kept : (k : Knowledge) (s : StepOf Record) (x : Answer Record) (reply : Option Reply) → credit (after_reply (learn k s x) reply).asked ≤ credit k.asked
-credit_kept k s x reply = rw (command_kept k s x) (credit_less k.asked.command reply k.asked.linked (learn k s x).asked.linked (linked_kept k s x))
+credit_kept k s x reply = rw (learn_command k s x) (credit_less k.asked.command reply k.asked.linked (learn k s x).asked.linked (linked_kept k s x))
 
 module _ (knows : ℕ → Knowledge) (a n : ℕ) (within : a < n) where
   abbrev credits : (ℕ → Knowledge) → ℕ → ℕ

@@ -4,7 +4,7 @@ use Rattle.tree_law.proofs.Words.{Reply, ContentOf, Child, next_row, Record, Hol
 use Rattle.tree_law.proofs.Words.{Knowledge, Foreign, Gone, Written, linked_over, handed_page, handed_over, Key, Covers, put_key, Linked, Owners, Reached, stage_removed, InOrder}
 use Rattle.tree_law.proofs.Words.{IsChain, OwnsPages, Placed, Indexed, PageOwner, Cleared, Fresh, rank, Held, Merged, Stage, rank_of, child_of, mark, put, Shared, IsTree, spec, inr}
 use Rattle.tree_law.proofs.shape.{by_key, key_other, covers_from, by_equal, put_same, put_other, reached_placed, same_page, placed_level, exact_moved}
-use Rattle.tree_law.proofs.links.Keeping.{OnSide, mine, alive_place}
+use Rattle.tree_law.proofs.links.Keeping.{OnSide, mine, alive_place, indexed_mark}
 use Rattle.tree_law.proofs.links.Relinking.{LinkedTree, Found, Moves, stay, go, clear, owned_row, found, place_of, relink_one}
 use Rattle.tree_law.proofs.shape.Terms.{mark_number}
 
@@ -143,17 +143,12 @@ module _ {m : Shared} {log : List Update} {o : Owners} {knows : ℕ → Knowledg
       let covers = covers_from basis.chain h.key h.covers in
       let place = place_of g a p x basis.chain (found g a p x basis) basis.alive s in
       let n = (g.tree.exact.named h.level h.key (Child h.child false) (term_at p x basis.chain place h.level h.key h.is_level covers ∙ h.present)).1 in
-      let was : o.page h.child ≡ Placed Indexed h.level h.key = n.1 ∙ ap (λ st. Placed st h.level h.key) (is_indexed n.0 h.child n.2) in (
+      let was : o.page h.child ≡ Placed Indexed h.level h.key = n.1 ∙ ap (λ st. Placed st h.level h.key) (indexed_mark n.0 h.child n.2) in (
         term_goes p x y basis s (Hold (record { level = level_in basis.chain; next = x; separator = h.key; child = h.child })) (written ∙ ap Written h.is)
             h.level h.key h.child h.is_level covers Indexed Held was h.present
             (Child h.child true) refl (omega arith) (omega arith) refl (omega arith) refl refl refl refl refl refl (λ k. refl) refl r,
         was,
       )
-    where
-      is_indexed : (st : Stage) (q : ℕ) → mark st q ≡ Some (Child q false) → st ≡ Indexed
-      is_indexed Fresh q e = absurd (cc)
-      is_indexed Indexed q e = refl
-      is_indexed st q e = absurd (cc (same_Some (Child q true) (Child q false) e))
 
   -- the exchange that takes a held term away
   pub unterms : (p x y : ℕ) → m.slots p ≡ Some x → (basis : HasRead (knows a) p x) (content : Record) → (knows a).own.rows y ≡ Written content

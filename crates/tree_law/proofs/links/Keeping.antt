@@ -3,7 +3,7 @@ use Rattle.tree_law.proofs.Words.{false, ◌⊎◌, ap, refl, Option, None, List
 use Rattle.tree_law.proofs.Words.{Done, Leave, Enter, ContentOf, Child, Record, right_in, low_in, is_removed, level_in, HasRead, IsMet, NamesChild, after_begin}
 use Rattle.tree_law.proofs.Words.{Knowledge, after_reply, learn, forgotten, Key}
 use Rattle.tree_law.proofs.Words.{Owners, Reached, IsOut, Owner, LinkFits, InOrder, IsChain, IsClosed, SpellsLog, leaf_map, ChainNames, OwnsPages, Owns, Placed, Indexed}
-use Rattle.tree_law.proofs.Words.{PageOwner, Fresh, rank, Merged, Stage, rank_of, child_of, mark, put, Shared, IsTree, spec, IsOff, Off, SidePage, InPlace, HasLevels, KnowsBy}
+use Rattle.tree_law.proofs.Words.{PageOwner, Fresh, rank, stage_removed, Removed, Merged, Stage, rank_of, child_of, mark, put, Shared, IsTree, spec, IsOff, Off, SidePage, InPlace, HasLevels, KnowsBy}
 use Rattle.traces.specs.discipline.Discipline.{IsBeyond}
 use Rattle.tree_law.specs.Tree.{FreeAreUnowned}
 use Rattle.tree_law.proofs.shape.KeyOrder.{covers_from}
@@ -20,6 +20,17 @@ spec_leaf log index l e k = rw e
 pub on_or_merged : (st : Stage) → (rank st ≤ 3) ⊎ (st ≡ Merged)
 on_or_merged Merged = inr refl
 on_or_merged st = inl (omega arith)
+
+-- a term that isn't held is that of an indexed page
+pub indexed_mark : (st : Stage) (q : ℕ) → mark st q ≡ Some (Child q false) → st ≡ Indexed
+indexed_mark Indexed q e = refl
+indexed_mark other q e = absurd (cc)
+
+-- of the stages on a side chain one is a removed page's
+pub is_gone : (st : Stage) → rank st ≤ 3 → stage_removed st ≡ true → st ≡ Removed
+is_gone Removed on gone = refl
+is_gone Merged on gone = absurd (omega (arith, on))
+is_gone other on gone = absurd (cc)
 
 -- a page is as far as its term says
 marked_rank : (st : Stage) (q : ℕ) (i : ContentOf) → mark st q ≡ Some i → rank_of i ≤ rank st

@@ -4,11 +4,10 @@ use Rattle.tree_law.proofs.Words.{Record, content_in, covers, is_removed, low_in
 use Rattle.tree_law.proofs.Words.{stage_removed, shared_part, IsState, Off, belongs, is_below, page_of, ruled}
 use Rattle.base_page.specs.Places.{IsGreatest}
 use Rattle.tree_law.specs.OneMemory.{IsChildAt}
-use Rattle.tree_law.proofs.links.Keeping.{on_or_merged}
+use Rattle.tree_law.proofs.links.Keeping.{on_or_merged, indexed_mark, is_gone}
 use Rattle.tree_law.proofs.memory.Neighbours.{left_term}
 use Rattle.tree_law.proofs.memory.Pages.{covering_on, each, in_range, listed, on_level, page_on, pages, stands}
 use Rattle.tree_law.proofs.shape.KeyOrder.{covers_from}
-use Rattle.tree_law.proofs.shape.LevelPages.{indexed_mark}
 use Rattle.tree_law.proofs.shape.Mapping.{chain_at, live}
 use Rattle.tree_law.proofs.shape.Puts.{by_equal}
 
@@ -18,12 +17,6 @@ in_own_range chain fitted key content e =
     let made = page_of chain fitted in
     let b = belongs made.0 (ruled chain made.0 fitted made.1).is_page key content (made.1.items.contents key ∙ e) in
     rw made.1.low at (rw made.1.high at b.within)
-
--- of the stages on a side chain one is a removed page's
-is_gone : (st : Stage) → rank st ≤ 3 → stage_removed st ≡ true → st ≡ Removed
-is_gone Removed on gone = refl
-is_gone Merged on gone = absurd (omega (arith, on))
-is_gone other on gone = absurd (cc)
 
 module _ (limits : Limits) (entries : List Entry) (state : IsState limits entries) where
   abbrev Pages : ℕ → List LivePage

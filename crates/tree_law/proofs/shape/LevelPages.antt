@@ -11,6 +11,7 @@ use Rattle.tree_law.proofs.shape.Exactness.{first_only, first_page}
 use Rattle.tree_law.proofs.shape.KeyOrder.{empty_lowest}
 use Rattle.tree_law.proofs.shape.Leaves.{pages_on}
 use Rattle.tree_law.proofs.shape.Mapping.{chain_of}
+use Rattle.tree_law.proofs.links.Keeping.{indexed_mark}
 
 -- an index page has a child at its low key, which isn't held
 first_child : (level : ℕ) (low : Key) (items : List Item) → 0 < level → AllByRecursion (λ item. IsOfLevel level item.content) items → IsFirstAt low items
@@ -21,11 +22,6 @@ first_child level low (item ∷ items) above kinds first = go item.content kinds
     go : (content : ContentOf) → IsOfLevel level content → is_held content ≡ false → item.content ≡ content → (child : ℕ) × (content_at (item ∷ items) low ≡ Some (Child child false))
     go (Value value) kind free e = absurd (omega (arith, above, kind))
     go (Child page held) kind free e = (page, rw (← first.0) (found_first item items ∙ ap Some (e ∙ ap (λ h. Child page h) free)))
-
--- a term that isn't held is that of an indexed page
-pub indexed_mark : (st : Stage) (q : ℕ) → mark st q ≡ Some (Child q false) → st ≡ Indexed
-indexed_mark Indexed q e = refl
-indexed_mark other q e = absurd (cc)
 
 from_empty : (c : List Record) → low_in c ≡ [] → IsUnder (low_in c) (high_in c) → Covers c []
 from_empty c e some = record { low = rw e (empty_lowest []); high = rw e at some }

@@ -78,7 +78,7 @@ named_begins limits entries o m knows a c old asks = record {
 abbrev Shown : StepOf Record → Answer Record → ℕ → Type 0
 Shown s x r = ((p : ℕ) × (0 < p) × (s ≡ Slot p) × (x ≡ Number r)) ⊎ ((above : ℕ) × (w : Record) × (s ≡ Row above) × (x ≡ Content w) × (next_row w ≡ Some r))
 
-learn_command : (k : Knowledge) (s : StepOf Record) (x : Answer Record) → (learn k s x).asked.command ≡ k.asked.command
+pub learn_command : (k : Knowledge) (s : StepOf Record) (x : Answer Record) → (learn k s x).asked.command ≡ k.asked.command
 learn_command k s x = elim (learning k s x) as (λ s x k' v. k'.asked.command ≡ k.asked.command) [ wins p y z ↦ (exchanged_alike p y z k).command | v ↦ refl ]
 
 learnt_cases : (k : Knowledge) (s : StepOf Record) (x : Answer Record) (r : ℕ) → (learn k s x).read.learnt r ≡ true → ((k.read.learnt r ≡ true) × Stays s) ⊎ Shown s x r
