@@ -4,8 +4,6 @@ use Rattle.tree_law.proofs.Words.{total}
 use Rattle.traces.specs.discipline.Knowledge.{going_on}
 use Rattle.tree_law.specs.Changes.{credit, credit_of}
 use Rattle.tree_law.proofs.shape.Puts.{put_other, put_same}
-use Rattle.tree_law.proofs.links.Exchanged.{exchanged_alike}
-use Rattle.tree_law.proofs.links.Learning.{learning, wins}
 use Rattle.tree_law.proofs.direct.Linking.{linked_kept}
 use Rattle.tree_law.proofs.changes.Totals.{one}
 use Rattle.tree_law.proofs.trace.Names.{learn_command}

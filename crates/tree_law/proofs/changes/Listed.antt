@@ -1,5 +1,5 @@
 -- Changes listed in order, in a trace with one entry more.
-use Rattle.tree_law.proofs.Words.{[], ap, refl, cond, suc, List, inl, length, ◌++◌, ◌≤◌, inr, ◌∷◌, ℕ, ◌≡◌, ◌∙◌, ◌<◌, arith, take, drop, zero, ◌+◌, ◌*◌, ◌-◌, cases_lt, All-weaker, All, count_by}
+use Rattle.tree_law.proofs.Words.{[], ap, refl, cond, suc, List, inl, length, ◌++◌, ◌≤◌, inr, ◌∷◌, ℕ, ◌≡◌, ◌∙◌, ◌<◌, arith, take, drop, zero, ◌+◌, ◌*◌, ◌-◌, cases_lt, All, count_by}
 use Rattle.tree_law.proofs.Words.{slice_range, IsStrictlyIncreasing, Limits, Entry, memory_of, Happens-push_cases, take-push, take-push_whole, Happens-below, Happens, ChangesTree, takes_number}
 use Rattle.std.proofs.lemmas.List.{drop-append-le, get_or-take, length-take-le, take_all}
 use Rattle.std.proofs.Common.{length-drop}

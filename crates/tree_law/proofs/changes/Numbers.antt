@@ -1,5 +1,5 @@
 -- Numbers that are taken and not in the tree: who has them, and what a step makes of them.
-use Rattle.tree_law.proofs.Words.{◌⊎◌, [], ap, refl, cond, Option, List, inl, ◌≢◌, length, ◌++◌, ◌≤◌, inr, suc, zero, ◌∷◌, ℕ, ◌≡◌, ◌∙◌, ◌<◌, arith, ◌+◌, true, cases_lt, All, All-weaker}
+use Rattle.tree_law.proofs.Words.{◌⊎◌, [], ap, refl, cond, Option, List, inl, ◌≢◌, length, ◌++◌, ◌≤◌, inr, suc, zero, ◌∷◌, ℕ, ◌≡◌, ◌∙◌, ◌<◌, arith, ◌+◌, true, cases_lt, All}
 use Rattle.tree_law.proofs.Words.{count_by, eqb_tells, ◌==◌, Limits, Command, Reply, Answer, Whether, StepOf, TakePid, TakeRow, Place, Exchange, Slot, Row, Epoch, Announce, PidBits, RowBits}
 use Rattle.tree_law.proofs.Words.{Enter, Leave, ReusePids, ReuseRows, Number, Content, Record, memory_of, knows, Knowledge, learn, after_reply, after_begin, IsAnswer, May, Entry, Begin, Step}
 use Rattle.tree_law.proofs.Words.{after_exchange, after_emptying, OwnPage, Other, Empty, Ready, Gone, OwnRow, Written, put, shared_part, IsState, PageOwner, Keeps, MayExchange, Foreign, Taken}

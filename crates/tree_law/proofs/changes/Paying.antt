@@ -1,5 +1,5 @@
 -- What is in store pays for the changes, along a trace.
-use Rattle.tree_law.proofs.Words.{◌⊎◌, [], cond, refl, take, All-weaker, Option, suc, None, List, inl, length, ◌++◌, ◌≤◌, inr, ◌∷◌, ℕ, ◌≡◌, zero, ◌<◌, arith, Some, drop, cases_lt, ◌+◌, ◌*◌}
+use Rattle.tree_law.proofs.Words.{◌⊎◌, [], cond, refl, take, Option, suc, None, List, inl, length, ◌++◌, ◌≤◌, inr, ◌∷◌, ℕ, ◌≡◌, zero, ◌<◌, arith, Some, drop, cases_lt, ◌+◌, ◌*◌}
 use Rattle.tree_law.proofs.Words.{append_assoc, append-nil, IsSome, All, count_by, IsStrictlyIncreasing, Limits, Entry, Begin, Step, Command, Reply, Answer, StepOf, Record, Base, empty_leaf}
 use Rattle.tree_law.proofs.Words.{memory_of, memory_after, memory_of-push, command_of, knows, Knowledge, after_begin, after_reply, learn, IsAllowed, IsAnswer, IsUseful, IsDisciplinedFrom}
 use Rattle.tree_law.proofs.Words.{shared_part, put, IsState, Opens, Happens, Happens-below, IsHalved, ChangesTree, takes_number, IsWorth, life, total}

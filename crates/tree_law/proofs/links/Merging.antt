@@ -1,7 +1,7 @@
 -- The exchanges that merge a removed page into its left one, and that clear a merged page's slot.
-use Rattle.tree_law.proofs.Words.{◌⊎◌, ap, refl, Option, None, List, true, inl, ◌≢◌, ◌≤◌, inr, ◌∷◌, subst, sym, ℕ, ◌≡◌, ◌∙◌, arith, Some, same_Some, IsSome, Update, Reply, Record, Merge}
+use Rattle.tree_law.proofs.Words.{◌⊎◌, ap, refl, Option, None, List, true, inl, ◌≢◌, inr, ◌∷◌, subst, sym, ℕ, ◌≡◌, ◌∙◌, arith, Some, same_Some, IsSome, Update, Reply, Record, Merge}
 use Rattle.tree_law.proofs.Words.{right_in, low_in, is_removed, level_in, high_in, HasRead, MayMerge, Knowledge, after_reply, Foreign, Gone, Written, after_filling, after_emptying, handed_over}
-use Rattle.tree_law.proofs.Words.{Key, IsBelow, Covers, Linked, Owners, Spare, IsOut, OwnFits, IsChain, Placed, PageOwner, Cleared, rank, Removed, Merged, Stage, stage_removed, put, Shared}
+use Rattle.tree_law.proofs.Words.{Key, IsBelow, Covers, Linked, Owners, Spare, IsOut, OwnFits, IsChain, Placed, PageOwner, Cleared, rank, Removed, Merged, put, Shared}
 use Rattle.tree_law.proofs.Words.{IsTree, spec, IsOff, SidePage, InPlace, after_clear}
 use Rattle.tree_law.proofs.shape.{not_below, upto_same, under_trans, by_range, covers_to, by_equal, put_same, put_other, put_all, chain_unique, chain_kept, in_level_as, one_chain, right_page}
 use Rattle.tree_law.proofs.shape.{tree_kept, tree_merged, placed_level, exact_going, row_own, row_same, page_same, page_stage, page_link, page_gone, Change, kept_change}

@@ -1,6 +1,6 @@
 -- The page that a term names, and the term that a removed page has.
 use Rattle.tree_law.proofs.Words.{false, true, [], ap, refl, suc, List, inl, inr, ◌≤◌, subst, sym, ℕ, ◌≡◌, Bool, ◌∙◌, ◌<◌, arith, Some, cases_lt, Contains, IsTrue, Limits, ContentOf, Child}
-use Rattle.tree_law.proofs.Words.{Record, content_in, covers, is_removed, low_in, LivePage, Entry, memory_of, IsFitted, Key, Covers, Placed, Indexed, Removed, Merged, Stage, mark, rank}
+use Rattle.tree_law.proofs.Words.{Record, content_in, covers, is_removed, low_in, LivePage, Entry, memory_of, IsFitted, Key, Covers, Placed, Indexed, Removed, Merged, Stage, mark}
 use Rattle.tree_law.proofs.Words.{stage_removed, shared_part, IsState, Off, belongs, is_below, page_of, ruled}
 use Rattle.base_page.specs.Places.{IsGreatest}
 use Rattle.tree_law.specs.OneMemory.{IsChildAt}

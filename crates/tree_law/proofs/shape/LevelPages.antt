@@ -1,6 +1,6 @@
 -- All levels of a state stand, and each one's first page is the child at the empty key of the first page above it.
 use Rattle.tree_law.proofs.Words.{false, ap, refl, suc, List, ◌∷◌, ◌≤◌, subst, sym, ℕ, ◌≡◌, ◌∙◌, ◌<◌, arith, Option, Some, Limits, ContentOf, Child, Value, Item, Memory, Record, IsChainOf}
-use Rattle.tree_law.proofs.Words.{IsChainOf-unique, content_in, content_at, low_in, high_in, memory_of, log_of, Entry, Key, Covers, IsUnder, Indexed, Stage, mark, rank, shared_part, IsState}
+use Rattle.tree_law.proofs.Words.{IsChainOf-unique, content_in, content_at, low_in, high_in, memory_of, log_of, Entry, Key, Covers, IsUnder, Indexed, rank, shared_part, IsState}
 use Rattle.tree_law.proofs.Words.{spec, [], AllByRecursion, found_first, page_of, ruled}
 use Rattle.std.proofs.lemmas.List.Elements.{recursion_from_All}
 use Rattle.base_page.specs.Pages.{IsOfLevel}
