@@ -1,25 +1,20 @@
 -- The words of items, as they stand in a compact row and in today's rows.
-use Rattle.std.proofs.Common.{◌≡◌, ◌==◌, ◌<◌, ◌≤◌, ◌+◌, ◌*◌, ◌-◌, ◌/◌, ◌%◌, inl, inr, ℕ, zero, suc, Bool, true, false, List, [], ◌∷◌, ◌++◌, length, get_or}
-use Rattle.std.proofs.Common.{drop, replicate, refl, sym, ap, subst, ◌∙◌, arith, append_assoc, length-append, length-drop}
-use Rattle.std.specs.Prelude.{if◌then◌else◌, ltb}
-use Rattle.std.specs.List.{All}
-use Rattle.std.proofs.lemmas.Bool.{cases_lt, cases_eq, eq-eqb, ne_eqb, lt-ltb, le-ltb}
-use Rattle.std.proofs.lemmas.List.{drop-drop, drop_at, get_or-append-add, get_or-append_right, get_or-replicate, get_or_append_left}
-use Rattle.std.proofs.lemmas.List.Elements.{All-head, All-tail}
-use Rattle.base_page.specs.declared.item.Content.{Content}
-use Rattle.base_page.specs.declared.item.Content.TheVariants.{Value, Child}
-use Rattle.base_page.specs.declared.item.Item.{Item}
+use Rattle.compact_rows.proofs.Words.{◌≡◌, ◌==◌, ◌<◌, ◌≤◌, ◌+◌, ◌*◌, ◌-◌, ◌/◌, ◌%◌, inl, inr, ℕ, zero, suc, Bool, true, false, List, [], ◌∷◌, ◌++◌, length, get_or, drop, refl, sym, ap}
+use Rattle.compact_rows.proofs.Words.{◌∙◌, arith, append_assoc, length-append, length-drop, if◌then◌else◌, ltb, All, cases_lt, eq-eqb, ne_eqb, lt-ltb, le-ltb, drop-drop, get_or_append_left}
+use Rattle.compact_rows.proofs.Words.{All-head, All-tail, Content, Value, Child, Item, item_size, part_limit, IsItem, text_words, content_unit, length_unit, code_at, code_number}
+use Rattle.compact_rows.proofs.Words.{code_tail, item_seen, text_seen, value_seen, codes, content_text, heads, item_code, item_text, packed, texts, words_for}
+use Rattle.std.proofs.lemmas.Bool.{cases_eq}
+use Rattle.std.proofs.lemmas.List.{drop_at, get_or-append_right, get_or-replicate}
 use Rattle.base_page.specs.Pages.{IsOfLevel}
 use Rattle.base_page.specs.Rules.{is_held}
 use Rattle.deltas.specs.Spellable.{HasPid}
-use Rattle.record_slots.specs.Layout.{held_mark, item_size, part_limit}
+use Rattle.record_slots.specs.Layout.{held_mark}
 use Rattle.record_slots.specs.Spells.{IsShortContent}
-use Rattle.record_slots.specs.Parts.{IsItem}
-use Rattle.record_slots.specs.Spelling.{big_endian, content_words, item_words, items_words, text_words}
+use Rattle.record_slots.specs.Spelling.{content_words, item_words, items_words}
 use Rattle.record_slots.proofs.ItemLaws.{item_long}
-use Rattle.compact_rows.specs.Layout.{content_unit, length_unit, mark_unit}
-use Rattle.compact_rows.specs.Seen.{code_at, code_length, code_number, code_tail, item_seen, text_seen, value_seen}
-use Rattle.compact_rows.specs.Spelling.{codes, content_number, content_text, head_word, heads, item_code, item_text, packed, texts, words_for}
+use Rattle.compact_rows.specs.Layout.{mark_unit}
+use Rattle.compact_rows.specs.Seen.{code_length}
+use Rattle.compact_rows.specs.Spelling.{content_number, head_word}
 use Rattle.compact_rows.proofs.Texts.{if_false, if_true, packed_long, text_there}
 
 -- what a content's number is, in an item of a page

@@ -7,3 +7,4 @@ pub mod Spreading
 pub mod Texts
 pub mod Within
 pub mod Written
+pub mod Words

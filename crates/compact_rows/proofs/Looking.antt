@@ -1,17 +1,10 @@
 -- What is looked at of a text, as it is seen.
-use Rattle.std.proofs.Common.{◌≡◌, ◌==◌, ◌<◌, ◌≤◌, ◌+◌, ◌*◌, ◌-◌, ◌/◌, ◌%◌, ℕ, zero, suc, List, length, get_or, refl, sym, ap, ◌∙◌, arith}
-use Rattle.std.specs.Prelude.{if◌then◌else◌, ltb}
-use Rattle.std.proofs.lemmas.Bool.{le-ltb, lt-ltb, ne_eqb}
-use Rattle.deltas.specs.declared.record.Record.{Record}
-use Rattle.record_slots.specs.Layout.{field_size, first_at, item_size, items_at, second_at}
-use Rattle.record_slots.specs.Parts.{items_of}
-use Rattle.record_slots.specs.Spelling.{words_of}
+use Rattle.compact_rows.proofs.Words.{◌≡◌, ◌==◌, ◌<◌, ◌≤◌, ◌+◌, ◌*◌, ◌-◌, ◌/◌, ◌%◌, ℕ, zero, suc, List, length, get_or, refl, sym, ap, ◌∙◌, arith, if◌then◌else◌, ltb, le-ltb, lt-ltb, ne_eqb}
+use Rattle.compact_rows.proofs.Words.{Record, item_size, items_at, items_of, words_of, content_unit, length_unit, code_at, code_number, code_tail, count_seen, first_seen, item_seen, items_seen}
+use Rattle.compact_rows.proofs.Words.{level_seen, place_seen, second_seen, seen, text_seen, value_seen, compact_words, IsCompact}
+use Rattle.record_slots.specs.Layout.{field_size, first_at, second_at}
 use Rattle.row_search.specs.Begins.{Begins}
-use Rattle.compact_rows.specs.Layout.{content_unit, length_unit}
-use Rattle.compact_rows.specs.Seen.{code_at, code_number, code_tail, content_seen, count_seen, first_seen, item_seen, items_seen, key_seen, level_seen, place_seen}
-use Rattle.compact_rows.specs.Seen.{second_seen, seen, text_seen, value_seen}
-use Rattle.compact_rows.specs.Spelling.{compact_words}
-use Rattle.compact_rows.specs.Spells.{IsCompact}
+use Rattle.compact_rows.specs.Seen.{content_seen, key_seen}
 use Rattle.compact_rows.proofs.Rows.{word_seen}
 use Rattle.compact_rows.proofs.Within.{code_room, count_few, count_there}
 use Rattle.compact_rows.proofs.Spreading.{at_first, at_items, at_second}

@@ -1,24 +1,25 @@
 -- Where the parts of a compact row stand, and what is seen of them.
-use Rattle.std.proofs.Common.{◌≡◌, ◌==◌, ◌<◌, ◌≤◌, ◌+◌, ◌*◌, ◌-◌, ◌/◌, ◌%◌, inl, inr, ℕ, zero, suc, Bool, true, false, List, [], ◌∷◌, ◌++◌, length, get_or}
-use Rattle.std.proofs.Common.{drop, replicate, refl, sym, ap, subst, ◌∙◌, arith, length-append}
-use Rattle.std.specs.Prelude.{if◌then◌else◌, ltb, Option, None, Some, IfSome}
-use Rattle.std.specs.List.{All}
-use Rattle.std.proofs.lemmas.Bool.{cases_lt, cases_eq, eq-eqb, ne_eqb, lt-ltb, le-ltb}
-use Rattle.std.proofs.lemmas.List.{drop-drop, drop_at, get_or-append_right, get_or-replicate, get_or_append_left, get_or_past, length-replicate}
+use Rattle.compact_rows.proofs.Words.{◌≡◌, ◌==◌, ◌<◌, ◌≤◌, ◌+◌, ◌*◌, ◌-◌, ◌/◌, ◌%◌, inl, inr, ℕ, zero, suc, List, ◌++◌, length, get_or, drop, refl, sym, ap}
+use Rattle.compact_rows.proofs.Words.{◌∙◌, arith, length-append, if◌then◌else◌, ltb, All, cases_lt, eq-eqb, ne_eqb, lt-ltb, le-ltb, drop-drop, get_or_append_left, Item, Row, item_size}
+use Rattle.compact_rows.proofs.Words.{items_at, part_limit, IsItem, IsRowOfParts, text_words, first_unit, length_unit, bound_size, count_seen, first_length, first_seen, item_seen, items_seen}
+use Rattle.compact_rows.proofs.Words.{level_seen, second_length, second_seen, seen, text_seen, bound_text, codes, compact_row, first_word, heads, packed, second_word, texts}
+use Rattle.compact_rows.proofs.Words.{texts_at, words_for}
+use Rattle.std.proofs.Common.{replicate}
+use Rattle.std.specs.Prelude.{Option, None, Some, IfSome}
+use Rattle.std.proofs.lemmas.Bool.{cases_eq}
+use Rattle.std.proofs.lemmas.List.{drop_at, get_or-append_right, get_or-replicate}
 use Rattle.bw_model.specs.Bytes.{IsShort}
-use Rattle.base_page.specs.declared.item.Item.{Item}
-use Rattle.record_slots.specs.declared.row.Row.{Row}
-use Rattle.record_slots.specs.Layout.{count_unit, form_unit, item_size, items_at, level_unit, no_bound, part_limit, row_size, this_form}
-use Rattle.record_slots.specs.Parts.{header_word, IsItem, IsRowOfParts}
-use Rattle.record_slots.specs.Spelling.{bound_words, field_words, items_words, text_words, words_left}
+use Rattle.record_slots.specs.Layout.{form_unit, no_bound, row_size, this_form}
+use Rattle.record_slots.specs.Parts.{header_word}
+use Rattle.record_slots.specs.Spelling.{bound_words, items_words, words_left}
 use Rattle.record_slots.proofs.ItemLaws.{items_length}
 use Rattle.record_slots.proofs.RowLaws.{words_of_row}
-use Rattle.compact_rows.specs.Layout.{first_unit, length_unit, next_unit, second_unit}
-use Rattle.compact_rows.specs.Seen.{bound_size, count_seen, first_length, first_seen, first_text_at, item_seen, items_seen, level_seen, place_seen}
-use Rattle.compact_rows.specs.Seen.{second_length, second_seen, second_text_at, seen, text_seen}
-use Rattle.compact_rows.specs.Spelling.{bound_length, bound_text, codes, compact_row, first_word, heads, packed, second_word, texts, texts_at, words_for}
+use Rattle.compact_rows.specs.Layout.{next_unit}
+use Rattle.compact_rows.specs.Seen.{first_text_at}
+use Rattle.compact_rows.specs.Seen.{second_text_at}
+use Rattle.compact_rows.specs.Spelling.{bound_length}
 use Rattle.compact_rows.proofs.Items.{codes_long, heads_long, items_there}
-use Rattle.compact_rows.proofs.Texts.{if_false, if_true, packed_long, text_long, text_there}
+use Rattle.compact_rows.proofs.Texts.{if_false, if_true, packed_long, text_there}
 
 pub four : (at a b c d r : ℕ) → 3 < at → (if at == 0 then a else if at == 1 then b else if at == 2 then c else if at == 3 then d else r) ≡ r
 four at a b c d r high =

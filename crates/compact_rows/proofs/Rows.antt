@@ -1,29 +1,17 @@
 -- What is seen of a record's compact words, and that they are of one record.
-use Rattle.std.proofs.Common.{◌≡◌, ◌<◌, ◌≤◌, ℕ, List, length, get_or, refl, sym, ap, subst, ◌∙◌, arith}
+use Rattle.compact_rows.proofs.Words.{◌≡◌, ◌<◌, ◌≤◌, ℕ, List, length, get_or, refl, sym, ap, ◌∙◌, arith, Record, items_of, row_of, words_of, counts, items_fit, parts_fit, seen, compact_words}
+use Rattle.compact_rows.proofs.Words.{IsCompact}
 use Rattle.std.proofs.lemmas.List.{ext_get_or}
-use Rattle.deltas.specs.declared.record.Record.{Record}
-use Rattle.deltas.specs.declared.record.Record.TheVariants.{Base, Put, Delete, Split, Term, Hold, Remove, Merge, Unterm}
+use Rattle.deltas.specs.declared.record.Record.TheVariants.{Base}
 use Rattle.record_slots.specs.Layout.{row_size}
-use Rattle.record_slots.specs.Parts.{items_of, row_of}
-use Rattle.record_slots.specs.Spelling.{words_of}
 use Rattle.record_slots.specs.Spells.{IsSpelling}
 use Rattle.record_slots.proofs.RowLaws.{words_of_row}
-use Rattle.record_slots.proofs.SpellingLaws.{counts, items_fit, parts_fit, spelling_length, spelling_one, spelling_there}
-use Rattle.compact_rows.specs.Seen.{seen}
-use Rattle.compact_rows.specs.Spelling.{compact_words}
-use Rattle.compact_rows.specs.Spells.{IsCompact}
+use Rattle.record_slots.proofs.SpellingLaws.{spelling_length, spelling_one, spelling_there}
 use Rattle.compact_rows.proofs.Parts.{seen_is}
 
 same_words : (content : Record) → words_of_row (row_of content) (items_of content) ≡ words_of content
 same_words (Base page) = refl
-same_words (Put put) = refl
-same_words (Delete delete) = refl
-same_words (Split split) = refl
-same_words (Term term) = refl
-same_words (Hold hold) = refl
-same_words (Remove remove) = refl
-same_words (Merge merge) = refl
-same_words (Unterm unterm) = refl
+same_words content = refl
 
 -- a row of today's form spells it, too
 pub spelling : (content : Record) (words : List ℕ) → IsCompact content words → IsSpelling content (words_of content)
@@ -32,7 +20,7 @@ spelling content words h = spelling_there content h.spellable h.short
 -- each word of the row of today's form is seen
 pub word_seen : (content : Record) (words : List ℕ) → IsCompact content words → (at : ℕ) → at < row_size → seen words at ≡ get_or (words_of content) at 0
 word_seen content words h at low =
-    let room : length (compact_words content) ≤ 512 = subst (λ (ws : List ℕ). length ws ≤ 512) (sym h.are) h.room in
+    let room : length (compact_words content) ≤ 512 = rw (← h.are) at h.room in
     ap (λ (ws : List ℕ). seen ws at) (sym h.are)
     ∙ seen_is (row_of content) (items_of content) (parts_fit content h.spellable h.short) (counts content) (items_fit content h.spellable h.short) room at low
     ∙ ap (λ (ws : List ℕ). get_or ws at 0) (same_words content)
@@ -49,4 +37,4 @@ pub one_record : (one other : Record) (words : List ℕ) → IsCompact one words
 one_record one other words h g =
     let whole = spelling_length one (words_of one) (spelling one words h) in
     let same : words_of one ≡ words_of other = row_seen other words (words_of one) g whole (λ at low. sym (word_seen one words h at low)) in
-    spelling_one one other (words_of other) (subst (λ (ws : List ℕ). IsSpelling one ws) same (spelling one words h)) (spelling other words g)
+    spelling_one one other (words_of other) (rw same at (spelling one words h)) (spelling other words g)

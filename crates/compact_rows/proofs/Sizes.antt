@@ -1,21 +1,13 @@
 -- How many words records take.
-use Rattle.std.proofs.Common.{◌≡◌, ◌<◌, ◌≤◌, ◌+◌, ◌*◌, ◌-◌, ◌/◌, ℕ, zero, suc, List, [], ◌∷◌, ◌++◌, length, drop, refl, sym, ap, ◌∙◌, arith, length-append, length-drop}
+use Rattle.compact_rows.proofs.Words.{◌≡◌, ◌≤◌, ◌+◌, ◌*◌, ℕ, List, [], ◌∷◌, ◌++◌, length, drop, refl, arith, length-append, length-drop, All, All-head}
+use Rattle.compact_rows.proofs.Words.{All-tail, Content, Value, Child, Item, Record, Row, items_of, row_of, IsItem, IsRowOfParts, counts, items_fit, parts_fit, bound_text, codes, compact_row}
+use Rattle.compact_rows.proofs.Words.{compact_words, content_text, heads, item_text, packed, texts, texts_at}
 use Rattle.std.specs.Prelude.{Option, None, Some, IfSome}
-use Rattle.std.specs.List.{All}
-use Rattle.std.proofs.lemmas.List.Elements.{All-head, All-tail}
 use Rattle.bw_model.specs.Bytes.{IsShort}
-use Rattle.base_page.specs.declared.item.Content.{Content}
-use Rattle.base_page.specs.declared.item.Content.TheVariants.{Value, Child}
-use Rattle.base_page.specs.declared.item.Item.{Item}
-use Rattle.deltas.specs.declared.record.Record.{Record}
 use Rattle.deltas.specs.declared.record.Record.TheVariants.{Base, Put, Delete, Split, Term, Hold, Remove, Merge, Unterm}
 use Rattle.deltas.specs.Spellable.{IsSpellable}
-use Rattle.record_slots.specs.declared.row.Row.{Row}
-use Rattle.record_slots.specs.Parts.{items_of, row_of, IsItem, IsRowOfParts}
 use Rattle.record_slots.specs.Spells.{HasShortTexts, IsShortContent}
-use Rattle.record_slots.proofs.SpellingLaws.{counts, items_fit, parts_fit}
 use Rattle.compact_rows.specs.Layout.{most_words}
-use Rattle.compact_rows.specs.Spelling.{bound_text, codes, compact_row, compact_words, content_text, first_word, heads, item_text, packed, second_word, texts, texts_at}
 use Rattle.compact_rows.proofs.Items.{codes_long, heads_long}
 use Rattle.compact_rows.proofs.Texts.{packed_long}
 

@@ -1,11 +1,9 @@
 -- What is seen, by which word of the row it is.
-use Rattle.std.proofs.Common.{◌≡◌, ◌==◌, ◌<◌, ◌≤◌, ◌+◌, ◌*◌, ◌-◌, ◌/◌, ◌%◌, ℕ, List, get_or, refl, sym, ap, subst, ◌∙◌, arith}
-use Rattle.std.specs.Prelude.{if◌then◌else◌, ltb}
-use Rattle.std.proofs.lemmas.Bool.{eq-eqb, ne_eqb, lt-ltb, le-ltb}
-use Rattle.record_slots.specs.Layout.{form_unit, item_size, items_at, this_form}
-use Rattle.compact_rows.specs.Layout.{content_unit, first_unit, length_unit, next_unit}
-use Rattle.compact_rows.specs.Seen.{code_at, code_number, code_tail, count_seen, first_length, first_seen, item_seen, items_seen, level_seen, place_seen}
-use Rattle.compact_rows.specs.Seen.{second_length, second_seen, seen, text_seen, value_seen}
+use Rattle.compact_rows.proofs.Words.{◌≡◌, ◌==◌, ◌<◌, ◌≤◌, ◌+◌, ◌*◌, ◌-◌, ◌/◌, ◌%◌, ℕ, List, get_or, sym, ap, ◌∙◌, arith, if◌then◌else◌, ltb, ne_eqb, lt-ltb, le-ltb}
+use Rattle.compact_rows.proofs.Words.{items_at, first_unit, first_length, first_seen, items_seen}
+use Rattle.compact_rows.proofs.Words.{second_length, second_seen, seen}
+use Rattle.record_slots.specs.Layout.{form_unit, this_form}
+use Rattle.compact_rows.specs.Layout.{next_unit}
 use Rattle.compact_rows.proofs.Parts.{four}
 use Rattle.compact_rows.proofs.Texts.{if_false, if_true}
 

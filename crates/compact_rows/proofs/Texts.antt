@@ -1,11 +1,7 @@
 -- The words of a text: those that it takes, and those that today's rows have for it.
-use Rattle.std.proofs.Common.{◌≡◌, ◌<◌, ◌≤◌, ◌+◌, ◌*◌, ◌-◌, ◌/◌, inl, inr, ℕ, zero, suc, Bool, true, false, List, [], ◌∷◌, ◌++◌, length, get_or, drop, refl, sym, ap, ◌∙◌, arith, length-drop}
-use Rattle.std.specs.Prelude.{if◌then◌else◌, ltb}
-use Rattle.std.proofs.lemmas.Bool.{cases_lt, lt-ltb, le-ltb}
-use Rattle.std.proofs.lemmas.List.{drop-drop, drop_all, get_or-drop, get_or_append_left}
-use Rattle.record_slots.specs.Spelling.{big_endian, text_words}
-use Rattle.compact_rows.specs.Seen.{text_seen}
-use Rattle.compact_rows.specs.Spelling.{packed, words_for}
+use Rattle.compact_rows.proofs.Words.{◌≡◌, ◌<◌, ◌≤◌, ◌+◌, ◌*◌, inl, inr, ℕ, zero, suc, Bool, true, false, List, ◌++◌, length, get_or, drop, refl, sym, ap, ◌∙◌, arith}
+use Rattle.compact_rows.proofs.Words.{if◌then◌else◌, ltb, cases_lt, lt-ltb, le-ltb, drop-drop, get_or_append_left, big_endian, text_words, text_seen, packed, words_for}
+use Rattle.std.proofs.lemmas.List.{drop_all, get_or-drop}
 
 pub if_true : (b : Bool) (x y : ℕ) → b ≡ true → (if b then x else y) ≡ x
 if_true true x y h = refl

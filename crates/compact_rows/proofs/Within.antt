@@ -1,20 +1,13 @@
 -- The words that are looked at are words of the record.
-use Rattle.std.proofs.Common.{◌≡◌, ◌==◌, ◌<◌, ◌≤◌, ◌+◌, ◌*◌, ◌-◌, ◌/◌, ◌%◌, ℕ, zero, suc, List, [], ◌∷◌, ◌++◌, length, get_or, drop, refl, sym, ap, subst, ◌∙◌, arith, length-append, length-drop}
-use Rattle.std.specs.List.{All}
-use Rattle.std.proofs.lemmas.List.Elements.{All-head, All-tail}
-use Rattle.base_page.specs.declared.item.Content.{Content}
-use Rattle.base_page.specs.declared.item.Content.TheVariants.{Value, Child}
-use Rattle.base_page.specs.declared.item.Item.{Item}
+use Rattle.compact_rows.proofs.Words.{◌≡◌, ◌<◌, ◌≤◌, ◌+◌, ◌*◌, ◌/◌, ◌%◌, ℕ, zero, suc, List, [], ◌∷◌, length, get_or, drop, sym, ap, subst, ◌∙◌, arith, length-append}
+use Rattle.compact_rows.proofs.Words.{All, All-head, All-tail, Content, Value, Child, Item, Record, Row, IsItem, IsRowOfParts, items_of, row_of, counts, items_fit, parts_fit}
+use Rattle.compact_rows.proofs.Words.{part_limit, first_unit, length_unit, bound_size, code_at, code_number, code_tail, count_seen, first_length, level_seen, second_length, bound_text, codes}
+use Rattle.compact_rows.proofs.Words.{compact_words, content_text, item_code, item_text, packed, texts, texts_at, words_for, IsCompact}
 use Rattle.base_page.specs.Pages.{IsOfLevel}
-use Rattle.deltas.specs.declared.record.Record.{Record}
-use Rattle.record_slots.specs.declared.row.Row.{Row}
-use Rattle.record_slots.specs.Parts.{IsItem, IsRowOfParts, items_of, row_of}
-use Rattle.record_slots.proofs.SpellingLaws.{counts, items_fit, parts_fit}
-use Rattle.record_slots.specs.Layout.{count_unit, level_unit, part_limit}
-use Rattle.compact_rows.specs.Layout.{first_unit, length_unit, second_unit}
-use Rattle.compact_rows.specs.Seen.{bound_size, code_at, code_number, code_tail, count_seen, first_length, first_text_at, level_seen, second_length, second_text_at}
-use Rattle.compact_rows.specs.Spelling.{bound_text, codes, compact_row, compact_words, content_number, content_text, item_code, item_text, packed, texts, texts_at, words_for}
-use Rattle.compact_rows.specs.Spells.{IsCompact}
+use Rattle.record_slots.specs.Layout.{level_unit}
+use Rattle.compact_rows.specs.Layout.{second_unit}
+use Rattle.compact_rows.specs.Seen.{first_text_at, second_text_at}
+use Rattle.compact_rows.specs.Spelling.{content_number}
 use Rattle.compact_rows.specs.Spread.{HoldsText}
 use Rattle.compact_rows.proofs.Items.{code_at_is, code_number_is, tail_is}
 use Rattle.compact_rows.proofs.Parts.{bound_sized, code_there, count_is, first_is, level_is, second_is, texts_low}
@@ -38,7 +31,7 @@ one_held words level at item is low room =
         → code_at (item_code at item) + code_tail (item_code at item) + length (content_text content) ≤ length words
         → code_at (item_code at item) + code_tail (item_code at item) + words_for (code_number (item_code at item)) ≤ length words
     by (Value value) kind leaf number here =
-        subst (λ n. code_at (item_code at item) + code_tail (item_code at item) + n ≤ length words) (packed_long value ∙ ap words_for (sym number)) here
+        rw (packed_long value ∙ ap words_for (sym number)) at here
     by (Child page held) kind leaf number here = absurd (omega (arith, kind, leaf))
 
 pub all_held : (words : List ℕ) (level at : ℕ) (items : List Item) (place : ℕ) → place < length items → All (IsItem level) items → at + length (texts items) < length_unit
@@ -115,20 +108,20 @@ module _ (content : Record) (h : IsCompact content (compact_words content)) wher
     first_room second size two is =
         let same : 2 + 2 * count + size ≡ first_text_at words + words_for (first_length words) =
         λ i. 2 + 2 * counted i + (is ∙ ap (λ n. words_for (n / first_unit % part_limit)) two) i in
-        subst (λ n. n ≤ length words) (sym same) first_within
+        rw same first_within
 
     pub second_room : (second size other : ℕ) → second ≡ get_or words 1 0 → size ≡ words_for (second / first_unit % part_limit) → other ≡ bound_size (second / second_unit)
         → 2 + 2 * count + size + other ≤ length words
     second_room second size other two is bound =
         let same : 2 + 2 * count + size + other ≡ second_text_at words + bound_size (second_length words) =
         λ i. 2 + 2 * counted i + (is ∙ ap (λ n. words_for (n / first_unit % part_limit)) two) i + (bound ∙ ap (λ n. bound_size (n / second_unit)) two) i in
-        subst (λ n. n ≤ length words) (sym same) second_within
+        rw same second_within
 
   module _ (count item : ℕ) (counted : count ≡ count_seen words) (there : item < count) where
     pub code_room : 2 + count + item < length words
-    code_room = subst (λ n. 2 + n + item < length words) (sym counted) (code_within item (subst (λ n. item < n) counted there))
+    code_room = rw counted (code_within item (rw counted at there))
 
     pub text_room : (first code : ℕ) → first ≡ get_or words 0 0 → code ≡ get_or words (2 + count + item) 0 → HoldsText words (first / level_unit % part_limit) code
     text_room first code one is =
         subst (λ (p : ℕ × ℕ). HoldsText words p.0 p.1) (λ i. (sym one i / level_unit % part_limit, (ap (λ n. get_or words (2 + n + item) 0) (sym counted) ∙ sym is) i))
-        (text_within item (subst (λ n. item < n) counted there))
+        (text_within item (rw counted at there))

@@ -1,9 +1,9 @@
 -- A compact row that is written part by part.
-use Rattle.std.proofs.Common.{◌≡◌, ◌<◌, ◌≤◌, ◌+◌, ◌*◌, ◌-◌, ◌/◌, ℕ, zero, suc, List, [], ◌∷◌, ◌++◌, length, get_or, drop, refl, sym, ap, ◌∙◌, arith, append_assoc, length-append}
+use Rattle.compact_rows.proofs.Words.{◌≡◌, ◌<◌, ◌+◌, ℕ, suc, List, [], ◌∷◌, ◌++◌, length, get_or, drop, sym, ap, ◌∙◌, append_assoc, length-append, Item}
+use Rattle.compact_rows.proofs.Words.{bound_text, codes, heads, item_code, item_text, packed, texts}
 use Rattle.std.specs.Prelude.{Option}
 use Rattle.std.proofs.lemmas.List.{drop_more}
-use Rattle.base_page.specs.declared.item.Item.{Item}
-use Rattle.compact_rows.specs.Spelling.{bound_text, codes, head_word, heads, item_code, item_text, packed, texts}
+use Rattle.compact_rows.specs.Spelling.{head_word}
 
 -- the first item of those that are left
 module _ (items : List Item) (place : ℕ) (item : Item) (within : place < length items) (is : item ≡ get_or items place item) where

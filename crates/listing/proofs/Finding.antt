@@ -1,6 +1,6 @@
 -- Going to the right until a leaf has the key.
 use Rattle.listing.proofs.Words.{◌≡◌, ◌<◌, ◌≤◌, ◌+◌, ℕ, List, [], ◌∷◌, ◌++◌, length, Some, MatchOption, refl, sym, subst, ap, ◌∙◌, arith, append_assoc}
-use Rattle.listing.proofs.Words.{AllByRecursion, Contains, length-append, Page, Record, Memory, Limits, low_in, Makes, IsSideChainFrom, IsWholeFrom, LivePage}
+use Rattle.listing.proofs.Words.{AllByRecursion, length-append, Page, Record, Memory, Limits, low_in, Makes, IsSideChainFrom, IsWholeFrom, LivePage}
 use Rattle.listing.proofs.Words.{IsUnder, IsUpTo, Key, HasLeafPages, IsLeafPage, covers_to, StandsAt}
 use Rattle.std.proofs.lemmas.List.Elements.{Contains-append_right}
 use Rattle.base_page.proofs.ItemLaws.{back_all}
@@ -44,7 +44,7 @@ module _ (limits : Limits) (memory : Memory) (leaves : HasLeafPages limits memor
   stands_at front page later pid whole next =
       let each : AllByRecursion (IsLeafPage limits memory) (page ∷ later) = back_all (IsLeafPage limits memory) front (page ∷ later)
       (subst (AllByRecursion (IsLeafPage limits memory)) whole leaves.each) in
-      (subst (λ p. p < limits.pids) next.0 each.0.pid, record { records = next.1.records; fits = each.0.fits })
+      (rw (← next.0) each.0.pid, record { records = next.1.records; fits = each.0.fits })
 
   pub among_stands : (pid : ℕ) → IsAmong memory leaves.pages pid → (pid < limits.pids) × ((chain : List Record) × StandsAt memory pid chain)
   among_stands pid among =
@@ -126,7 +126,7 @@ module _ (limits : Limits) (memory : Memory) (leaves : HasLeafPages limits memor
         let is : Makes f.page.chain made = makes f.page.chain found_stands.1 in
         record {
           page = f.page;
-          among = subst (λ ps. Contains ps f.page) (sym f.whole) (Contains-append_right f.front (f.page ∷ f.later) f.page (0, omega arith, refl));
+          among = rw f.whole (Contains-append_right f.front (f.page ∷ f.later) f.page (0, omega arith, refl));
           covers = covers_to f.page.chain from f.has;
           ends = sym is.high;
           are = pairs_in f.page.chain made from is ruled.is_page;

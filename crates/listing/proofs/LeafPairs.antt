@@ -1,5 +1,5 @@
 -- The pairs of a leaf: in the order of their keys, in the leaf's range, and what its chain decides.
-use Rattle.listing.proofs.Words.{◌≡◌, ℕ, List, [], ◌∷◌, true, false, Option, Some, None, refl, sym, subst, ap, ◌∙◌, arith, AllByRecursion, Contains, key_cmp}
+use Rattle.listing.proofs.Words.{◌≡◌, ℕ, List, [], ◌∷◌, true, false, Option, Some, None, refl, sym, ap, ◌∙◌, arith, AllByRecursion, Contains, key_cmp}
 use Rattle.listing.proofs.Words.{Value, all-weaker, Record, content_in, high_in, low_in, Covers, IsUnder, pairs_of}
 use Rattle.std.proofs.Common.{map, Bool}
 use Rattle.std.specs.Prelude.{if◌then◌else◌, ◌↔◌}
@@ -29,7 +29,7 @@ same_keys (item ∷ items) are = go item.content are.0 (same_keys items are.1)
   where
     go : (content : Content) → IsOfLevel 0 content → map (λ pair. pair.0) (pairs_of items) ≡ map (λ item. item.key) items
         → map (λ pair. pair.0) (with_pair item.key content (pairs_of items)) ≡ item.key ∷ map (λ item. item.key) items
-    go (Value value) is rest = ap (λ keys. item.key ∷ keys) rest
+    go (Value value) is rest = rw rest
     go (Child page held) is rest = absurd (omega (arith, is))
 
 -- at each key they have what the items have there
@@ -60,7 +60,7 @@ value_is (Some (Child page held)) value e = cc
 -- a leaf's pairs are in the order of their keys, and are the values that its chain decides
 module _ (chain : List Record) (leaf : level_in chain ≡ 0) (pairs : List (List ℕ × List ℕ)) (has : HasPage chain pairs) where
   values : AreValues has.page.items
-  values = subst (λ level. AllByRecursion (λ (item : Item). IsOfLevel level item.content) has.page.items) (has.makes.level ∙ leaf) (recursion_from_All _ has.page.items has.ruled.is_page.kinds)
+  values = rw (← (has.makes.level ∙ leaf)) (recursion_from_All _ has.page.items has.ruled.is_page.kinds)
 
   pub ascending : IsStrictlySortedBy key_cmp (map (λ pair. pair.0) pairs)
   ascending = rw (has.are, same_keys has.page.items values) has.makes.items.ascending

@@ -59,7 +59,7 @@ ascends low (page ∷ pages) pairs whole leaf (own, rest, is, others, all) = go 
     in_page = inside page.chain leaf.0 own is
 
     above : AllByRecursion (λ pair. IsUpTo low pair.0) own
-    above = all-weaker _ (λ pair. IsUpTo low pair.0) (λ pair c. subst (λ key. IsUpTo key pair.0) whole.0 c.low) own in_page
+    above = all-weaker _ (λ pair. IsUpTo low pair.0) (λ pair c. rw (← whole.0) c.low) own in_page
 
     go : ((high : Key) → IsWholeFrom high pages → Ascend high rest) → (high : Option Key) → high_in page.chain ≡ high
         → MatchOption high (pages ≡ []) (λ next. IsWholeFrom next pages) → Ascend low pairs
@@ -91,7 +91,7 @@ later_page first page pages among = Contains-append_right (first ∷ []) pages p
 
 listed_said : (pages : List LivePage) (pairs : Pairs) → AllByRecursion AreLeaf pages → HavePages pages pairs → (key value : List ℕ) → Contains pairs (key, value) → IsSaid pages key value
 listed_said [] pairs leaf none key value (n, lt, at) = let empty : length pairs ≡ 0 = ap length none in absurd (omega (arith, lt, empty))
-listed_said (page ∷ pages) pairs leaf (own, rest, is, others, all) key value among = elim (Contains-append_cases own rest (key, value) (subst (λ ps. Contains ps (key, value)) all among)) [
+listed_said (page ∷ pages) pairs leaf (own, rest, is, others, all) key value among = elim (Contains-append_cases own rest (key, value) (rw (← all) among)) [
   | inl here ↦ record {
     page = page;
     among = Contains-append_left (page ∷ []) pages page (0, omega arith, refl);
@@ -107,7 +107,7 @@ said_listed : (pages : List LivePage) (pairs : Pairs) → AllByRecursion AreLeaf
 said_listed [] pairs leaf none key value page (n, lt, at) says = absurd (omega (arith, lt))
 said_listed (first ∷ pages) pairs leaf (own, rest, is, others, all) key value page among says = elim (Contains-append_cases (first ∷ []) pages page among) [
   | inl here ↦ rw all
-      (Contains-append_left own rest (key, value) ((exact first.chain leaf.0 own is key value).1 (subst (λ (p : LivePage). content_in p.chain key ≡ Some (Value value)) (alone here) says)))
+      (Contains-append_left own rest (key, value) ((exact first.chain leaf.0 own is key value).1 (rw (← alone here) says)))
   | inr later ↦ rw all (Contains-append_right own rest (key, value) (said_listed pages rest leaf.1 others key value page later says))
 ]
   where
@@ -131,6 +131,6 @@ module _ (limits : Limits) (entries : List Entry) where
               (everywhere key, (there.same key value).0 (leaves.pages, said.page, leaves.leaves, said.among, said.covered, said.says))),
           (λ says.
               let (pages, page, are, among, covered, decides) = (there.same key value).1 says.1 in
-              said_listed leaves.pages pairs leaf has key value page (subst (λ ps. Contains ps page) (one (memory_of limits entries) 1 pages leaves.pages are leaves.leaves) among) decides),
+              said_listed leaves.pages pairs leaf has key value page (rw (← one (memory_of limits entries) 1 pages leaves.pages are leaves.leaves) among) decides),
         );
       }

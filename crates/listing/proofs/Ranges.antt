@@ -15,7 +15,7 @@ Spans page = IsUnder (low_in page.chain) (high_in page.chain)
 pub fitted_spans : (chain : List Record) → IsFitted chain → IsUnder (low_in chain) (high_in chain)
 fitted_spans [] fitted = absurd fitted
 fitted_spans (newest ∷ []) (page, is, stands) =
-    let makes : Makes (newest ∷ []) page = subst (λ (r : Record). Makes (r ∷ []) page) (sym is) (Makes-base page stands.ruled.is_page.ordered.ascending stands.alive) in
+    let makes : Makes (newest ∷ []) page = rw is (Makes-base page stands.ruled.is_page.ordered.ascending stands.alive) in
     rw (← makes.low, ← makes.high) stands.ruled.is_page.spans
 fitted_spans (newest ∷ older ∷ under) (over, rest) = rw (← over.makes_now.low, ← over.makes_now.high) over.ruled.is_page.spans
 
@@ -65,7 +65,7 @@ one_has low (first ∷ pages) whole spans key one other in_one in_other has has_
         go : (high : Option Key) → high_in first.chain ≡ high → MatchOption high (pages ≡ []) (λ next. IsWholeFrom next pages) → ⊥
         go None e last = none_there there (subst (λ ps. Contains ps there) last later)
         go (Some high) e next =
-            not_below key high (subst (IsUnder key) e (subst (λ (p : LivePage). IsUnder key (high_in p.chain)) is has_here.high))
+            not_below key high (subst (IsUnder key) e (rw (← is) has_here.high))
             (upto_trans high (low_in there.chain) key (above high pages next spans.1 there later) has_there.low)
 
     rest : ((high : Key) → IsWholeFrom high pages → one ≡ other) → (high : Option Key) → MatchOption high (pages ≡ []) (λ next. IsWholeFrom next pages) → Contains pages one → one ≡ other

@@ -53,7 +53,7 @@ module _ (limits : Limits) (memory : Memory) (leaves : HasLeafPages limits memor
       go (page ∷ later) whole next =
           let each : AllByRecursion (IsLeafPage limits memory) (page ∷ later) = back_all (IsLeafPage limits memory) at.front (page ∷ later)
           (subst (AllByRecursion (IsLeafPage limits memory)) whole leaves.each) in
-          record { page = page; later = later; whole = whole; below = subst (λ p. p < limits.pids) next.0 each.0.pid; stands = record { records = next.1.records; fits = each.0.fits }; right = next.2 }
+          record { page = page; later = later; whole = whole; below = rw (← next.0) each.0.pid; stands = record { records = next.1.records; fits = each.0.fits }; right = next.2 }
 
   -- there is a leaf more
   pub is_more : count < limits.pids
@@ -81,7 +81,7 @@ module _ (limits : Limits) (memory : Memory) (leaves : HasLeafPages limits memor
     with_own = listed_more at.front (next_leaf.page ∷ []) pairs own at.listed (listed_one next_leaf.page own (record { page = made; makes = leaf; ruled = ruled; are = refl }))
 
     right_is : (right : Option ℕ) → made.right ≡ right → MatchOption right (next_leaf.later ≡ []) (λ next. IsSideChainFrom memory next next_leaf.later)
-    right_is right e = subst (λ o. MatchOption o (next_leaf.later ≡ []) (λ next. IsSideChainFrom memory next next_leaf.later)) (sym leaf.right ∙ e) next_leaf.right
+    right_is right e = rw (← (sym leaf.right ∙ e)) next_leaf.right
 
     -- the next leaf is to the right
     pub leaf_more : (right : ℕ) → made.right ≡ Some right → IsPartly memory leaves.pages (pairs ++ pairs_of made.items) (count + 1) right

@@ -1,6 +1,6 @@
 -- An operation that runs alone ends, where nobody has placed a removal.
-use Rattle.progress.proofs.Words.{◌≡◌, ◌<◌, ◌≤◌, ◌+◌, ◌-◌, ◌*◌, ℕ, suc, List, Some, true, cond, length, sym, ap, subst, ◌∙◌, inl, inr, arith}
-use Rattle.progress.proofs.Words.{mul-le-mul_left, cases_lt, All-weaker, count_by}
+use Rattle.progress.proofs.Words.{◌≡◌, ◌<◌, ◌≤◌, ◌+◌, ◌-◌, ◌*◌, ℕ, suc, List, Some, true, cond, length, sym, ap, ◌∙◌, inl, inr, arith}
+use Rattle.progress.proofs.Words.{mul-le-mul_left, cases_lt, count_by}
 use Rattle.progress.proofs.Words.{◌||◌, slice_get, slice_range, Limits, Whether, TakePid, TakeRow, Entry, Begin, Step, cause_worth, Happens}
 use Rattle.progress.proofs.Words.{memory_at, HasFewChanges, AreAmong, ChangesTree, IsDirect, IsRun, KeepsPhases}
 use Rattle.progress.proofs.Words.{is_begin, steps_from, Hinders, RunsAlone, Command}
@@ -36,9 +36,7 @@ module _ (limits : Limits) (entries : List Entry) (a m n : ℕ) (alone : RunsAlo
       let among = among_hinder limits entries a m (suc n - m) n (omega arith) list in
       let changes : AreAmong limits entries m n ChangesTree list.places = record {
         increasing = among.increasing;
-        each =
-            All-weaker (λ k. (m ≤ k) × (k ≤ n) × Happens limits entries k (Hinders a)) (λ k. (m ≤ k) × (k ≤ n) × Happens limits entries k ChangesTree)
-            (λ k h. (h.0, h.1, own_change k h.0 h.1 h.2)) list.places among.each;
+        each = λ i d lt. let h = among.each i d lt in (h.0, h.1, own_change _ h.0 h.1 h.2);
       } in
       let most = few.since m n list.places le changes in
       let counts = list.counts in
@@ -104,7 +102,7 @@ lone_end limits entries run keeps direct changes = record {
   whole = λ op n begun own alone none.
       let start : op.start < n = own.2.1.begun in
       let same : 0 + 154 * limits.pids + 8 * limits.actors + 1 ≡ 154 * limits.pids + 8 * limits.actors + 1 = omega arith in
-      subst (λ k. steps_from entries op.actor op.start n ≤ cause_worth limits * k) same
+      rw (← same)
       (lone_pays limits entries changes (cause_worth limits) op.actor op.start (suc op.start) n (steps_from entries op.actor op.start n) 0 (omega arith) (omega arith) alone
       (none_first limits entries op.actor op.start op.command begun)
       (paid_by_hinder limits entries run keeps direct op begun n none own));

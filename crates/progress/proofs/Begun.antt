@@ -1,7 +1,6 @@
 -- Each step is one of an operation.
-use Rattle.std.proofs.Common.{◌≡◌, ◌<◌, ℕ, zero, suc, List, Option, None, Some, take, refl, sym, ap, ◌∙◌, inl, inr, arith}
-use Rattle.progress.proofs.Words.{eqb_tells, IsSome, slice_get, Limits, Command, Reply, Answer, StepOf, Record, Entry, Begin, Step, IsRun, TakesStep, command_of, commands_after, take-one}
-use Rattle.progress.proofs.Words.{IsOperation, Operation, TakesOwnStep, take_past}
+use Rattle.progress.proofs.Words.{◌≡◌, ◌<◌, ℕ, zero, suc, List, Option, None, Some, take, refl, sym, ap, ◌∙◌, inl, inr, arith, eqb_tells, IsSome, slice_get, Limits, Command, Reply, Answer}
+use Rattle.progress.proofs.Words.{StepOf, Record, Entry, Begin, Step, IsRun, TakesStep, command_of, commands_after, take-one, IsOperation, Operation, TakesOwnStep, take_past}
 use Rattle.traces.proofs.TraceLaws.{command_of-push}
 
 -- The actor began an operation at a place before this one, and none after it.
@@ -30,7 +29,7 @@ begins_here entries a n c at = record { start = n; command = c; begins = at; low
 
 -- the commands that are under way after one entry more
 pub command_next : (entries : List Entry) (a n : ℕ) (e : Entry) → slice_get entries n ≡ Some e → command_of (take (suc n) entries) a ≡ commands_after (command_of (take n entries)) e a
-command_next entries a n e at = ap (λ es. command_of es a) (take-one entries n e at) ∙ ap (λ (f : ℕ → Option Command). f a) (command_of-push (take n entries) e)
+command_next entries a n e at = rw (take-one entries n e at) (ap (λ (f : ℕ → Option Command). f a) (command_of-push (take n entries) e))
 
 -- an actor that has an operation under way has begun it
 pub last_begin : (entries : List Entry) (a n : ℕ) → IsSome (command_of (take n entries) a) → LastBegin entries a n
@@ -38,7 +37,7 @@ last_begin entries a zero some = absurd (cc)
 last_begin entries a (suc n) some = by_entry (λ before. last_begin entries a n before) (slice_get entries n) refl
   where
     by_entry : (IsSome (command_of (take n entries) a) → LastBegin entries a n) → (o : Option Entry) → slice_get entries n ≡ o → LastBegin entries a (suc n)
-    by_entry earlier None at = one_on entries a n (λ c e. cc (at, e)) (earlier (rw (ap (λ es. command_of es a) (take_past entries n at)) at some))
+    by_entry earlier None at = one_on entries a n (λ c e. cc (at, e)) (earlier (rw (take_past entries n at) at some))
     by_entry earlier (Some (Begin b c)) at = elim (eqb_tells a b) [
       | inl same ↦ begins_here entries a n c (at ∙ ap (λ x. Some (Begin x c)) (sym same.1))
       | inr apart ↦ one_on entries a n (λ d e. apart.1 (let f : Some (Begin b c) ≡ Some (Begin a d) = sym at ∙ e in cc))

@@ -1,8 +1,8 @@
 -- Where a slot has another number than it had, or a number is free no more, a step in between has changed that.
-use Rattle.std.proofs.Common.{◌≡◌, ◌≢◌, ◌<◌, ◌≤◌, ◌⊎◌, ℕ, zero, suc, List, Option, None, Some, Bool, true, false, refl, sym, ap, subst, ◌∙◌, inl, inr, arith}
-use Rattle.progress.proofs.Words.{cases_lt, eqb_tells, if◌then◌else◌, slice_get, ◌==◌, ◌||◌, Limits, Answer, Whether, StepOf, Memory, Record, Entry, Begin, Step, IsRun, IsAnswer}
-use Rattle.progress.proofs.Words.{memory_after, TakesStep, memory_at, memory_of, take_past}
-use Rattle.bw_model.specs.declared.step.Step.TheVariants.{Exchange, ReusePids, ReuseRows, TakePid, TakeRow}
+use Rattle.progress.proofs.Words.{◌≡◌, ◌≢◌, ◌<◌, ◌≤◌, ◌⊎◌, ℕ, zero, suc, List, Option, None, Some, Bool, true, false, refl, sym, ap, ◌∙◌, inl, inr, arith, cases_lt, eqb_tells, if◌then◌else◌}
+use Rattle.progress.proofs.Words.{slice_get, ◌==◌, ◌||◌, Limits, Answer, Whether, StepOf, Memory, Record, Entry, Begin, Step, IsRun, IsAnswer, memory_after, TakesStep, memory_at, memory_of}
+use Rattle.progress.proofs.Words.{take_past, Exchange, TakePid, TakeRow}
+use Rattle.bw_model.specs.declared.step.Step.TheVariants.{ReusePids, ReuseRows}
 use Rattle.progress.proofs.Placed.{memory_next}
 
 -- the last place at which it was so, before one at which it isn't
@@ -88,7 +88,7 @@ module _ (limits : Limits) (entries : List Entry) (run : IsRun limits entries) w
           let step : s ≡ Exchange slot old new = is ∙ ap (λ n. Exchange slot n new) has in
           let says : x ≡ Whether ((memory_at limits entries k).slots slot == old) = rw step at told in
           let yes : x ≡ Whether true = says ∙ ap Whether (elim (eqb_tells ((memory_at limits entries k).slots slot) old) [ inl same ↦ same.0 | inr apart ↦ absurd (apart.1 has) ]) in
-          subst (λ y. TakesStep entries k a (Exchange slot old new) y) yes (subst (λ t. TakesStep entries k a t x) step took)
+          rw (← yes) (rw (← step) took)
 
   -- a number that was free and is so no more was taken in between
   pub was_taken : (pids : Bool) (number m n : ℕ) → m ≤ n → freedom pids (memory_at limits entries m) number ≡ 1 → freedom pids (memory_at limits entries n) number ≢ 1
@@ -113,7 +113,7 @@ module _ (limits : Limits) (entries : List Entry) (run : IsRun limits entries) w
           → TakesStep entries k a s x → IsAnswer (memory_at limits entries k) s x → TakesStep entries k a (take_of pids number) (Whether true)
       got true a s x k free is took told =
           let says : x ≡ Whether ((memory_at limits entries k).free_pids number) = rw is at told in
-          subst (λ y. TakesStep entries k a (TakePid number) y) (says ∙ ap Whether (yes ((memory_at limits entries k).free_pids number) free)) (subst (λ t. TakesStep entries k a t x) is took)
+          rw (← (says ∙ ap Whether (yes ((memory_at limits entries k).free_pids number) free))) (rw (← is) took)
       got false a s x k free is took told =
           let says : x ≡ Whether ((memory_at limits entries k).free_rows number) = rw is at told in
-          subst (λ y. TakesStep entries k a (TakeRow number) y) (says ∙ ap Whether (yes ((memory_at limits entries k).free_rows number) free)) (subst (λ t. TakesStep entries k a t x) is took)
+          rw (← (says ∙ ap Whether (yes ((memory_at limits entries k).free_rows number) free))) (rw (← is) took)

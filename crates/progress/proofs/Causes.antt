@@ -1,10 +1,9 @@
 -- A reader's step is no cause, where nobody has placed a removal.
 use Rattle.progress.proofs.Words.{◌≡◌, ◌<◌, ◌≤◌, ◌+◌, ◌*◌, ℕ, List, [], ◌∷◌, length, take, false, Some, refl, ap, ◌∙◌, inl, inr, arith, All-head, All, Limits, is_writer, Record, Entry}
-use Rattle.progress.proofs.Words.{cause_worth, IsRun, memory_at, IsOperation, Operation, TakesOwnStep, KeepsPhases, PlacesNoRemoval, steps_from}
-use Rattle.bw_model.specs.declared.step.Answer.TheVariants.{Content}
+use Rattle.progress.proofs.Words.{cause_worth, IsRun, memory_at, IsOperation, Operation, TakesOwnStep, KeepsPhases, PlacesNoRemoval, steps_from, Content, IsCause, IsDirect}
 use Rattle.bw_model.specs.declared.step.Step.TheVariants.{Row}
 use Rattle.deltas.specs.declared.record.Record.TheVariants as delta
-use Rattle.linearization.specs.Direct.{IsCause, IsDirect, Meets}
+use Rattle.linearization.specs.Direct.{Meets}
 use Rattle.linearization.specs.UntilRemoval.{ReadersEndUntilRemoval}
 use Rattle.progress.proofs.Cleared.{was_removed}
 use Rattle.progress.proofs.Placed.{none_stands}

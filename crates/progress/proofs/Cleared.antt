@@ -1,10 +1,10 @@
 -- A page that is cleared was removed.
-use Rattle.progress.proofs.Words.{◌≡◌, ◌≢◌, ◌<◌, ◌⊎◌, ℕ, List, Bool, true, false, refl, subst, inl, inr, arith, if◌then◌else◌, ◌==◌, ⊤, Limits, Memory, Entry, Happens, takes, removes}
-use Rattle.progress.proofs.Words.{merges, unterms, reuses}
+use Rattle.progress.proofs.Words.{◌≡◌, ◌≢◌, ◌<◌, ◌⊎◌, ℕ, List, Bool, true, false, refl, subst, inl, inr, arith, if◌then◌else◌, ◌==◌, ⊤, Limits, Memory, Entry, Happens, takes, removes, merges}
+use Rattle.progress.proofs.Words.{unterms, reuses, Phase, MovesPhase, MovesAt, IsInPhase, KeepsPhases, free, owned, cleared}
 use Rattle.deltas.specs.declared.record.Record.TheVariants as delta
 use Rattle.deltas.specs.declared.record.Remove.{Remove}
 use Rattle.linearization.specs.Links.{Installs}
-use Rattle.linearization.specs.Phases.{Phase, MovesPhase, MovesAt, IsInPhase, KeepsPhases, first_phase, free, indexed, owned, removed, merged, cleared}
+use Rattle.linearization.specs.Phases.{first_phase, indexed, removed, merged}
 
 -- the phase in which a move to each one started, where it was one alone; and what removed a page
 abbrev pub CameBy : Memory → Entry → ℕ → Phase → Phase → Type 0

@@ -1,11 +1,12 @@
 -- The causes of an operation are changes of the tree, and numbers that others took, where nobody has placed a removal.
-use Rattle.std.proofs.Common.{◌≡◌, ◌≢◌, ◌<◌, ◌≤◌, ◌+◌, ◌-◌, ◌*◌, ◌⊎◌, ℕ, zero, suc, List, [], ◌∷◌, Option, None, Some, Bool, true, false, cond, length, take}
-use Rattle.progress.proofs.Words.{refl, sym, ap, subst, ◌∙◌, inl, inr, arith, eqb_tells, All-weaker, All, IsStrictlyIncreasing, ◌==◌, ◌||◌, not, slice_get, Limits, Number, Whether, Link}
-use Rattle.progress.proofs.Words.{Memory, not_true, Entry, Step, cause_worth, IsRun, Happens, TakesStep, memory_at, IsCause, IsDirect, link_of, IsOperation, IsOwnStep, Operation}
-use Rattle.progress.proofs.Words.{TakesOwnStep, IsInPhase, KeepsPhases, owned, AreAmong, ChangesTree, PlacesNoRemoval, steps_from, takes_number}
+use Rattle.progress.proofs.Words.{◌≡◌, ◌≢◌, ◌<◌, ◌≤◌, ◌+◌, ◌-◌, ◌*◌, ℕ, zero, suc, List, [], ◌∷◌, Option, None, Some, Bool, true, false, cond, length, take, refl, ap, ◌∙◌, inl, inr, arith}
+use Rattle.progress.proofs.Words.{eqb_tells, All, IsStrictlyIncreasing, ◌==◌, ◌||◌, not, slice_get, Limits, Number, Whether, Link, Memory, not_true, Entry, Step, cause_worth, IsRun, Happens}
+use Rattle.progress.proofs.Words.{TakesStep, memory_at, IsCause, IsDirect, link_of, IsOperation, IsOwnStep, Operation, TakesOwnStep, IsInPhase, KeepsPhases, owned, AreAmong, ChangesTree}
+use Rattle.progress.proofs.Words.{PlacesNoRemoval, steps_from, takes_number, or_left, or_right, Exchange, TakePid, TakeRow, Hinders}
+use Rattle.std.proofs.lemmas.Bool.{or_cases}
 use Rattle.bw_model.specs.declared.step.Link.TheVariants as link
-use Rattle.bw_model.specs.declared.step.Step.TheVariants.{Exchange, Slot, TakePid, TakeRow}
-use Rattle.linearization.specs.Progress.{Hinders, TakesBeside}
+use Rattle.bw_model.specs.declared.step.Step.TheVariants.{Slot}
+use Rattle.linearization.specs.Progress.{TakesBeside}
 use Rattle.progress.proofs.Begun.{one_of}
 use Rattle.progress.proofs.Between.{take_of}
 use Rattle.progress.proofs.Counted.{Each}
@@ -61,19 +62,7 @@ beside_takes a (Some (Step b (TakePid pid) (Whether true) r)) = one_at_most (not
 beside_takes a (Some (Step b (TakeRow row) (Whether true) r)) = one_at_most (not (b == a))
 beside_takes a o = omega arith
 
-either : (b c : Bool) → b || c ≡ true → (b ≡ true) ⊎ (c ≡ true)
-either true c e = inl refl
-either false c e = inr e
-
-or_left : (b c : Bool) → b ≡ true → b || c ≡ true
-or_left true c e = refl
-or_left false c e = absurd (cc)
-
-or_right : (b c : Bool) → c ≡ true → b || c ≡ true
-or_right true c e = refl
-or_right false c e = e
-
-both_at_most : (b c : Bool) → cond (b || c) 1 0 ≤ cond b 1 0 + cond c 1 0
+pub both_at_most : (b c : Bool) → cond (b || c) 1 0 ≤ cond b 1 0 + cond c 1 0
 both_at_most true true = omega arith
 both_at_most true false = omega arith
 both_at_most false c = omega arith
@@ -93,7 +82,7 @@ module _ (limits : Limits) (entries : List Entry) where
   happens k e = let h = changed (memory_at limits entries k) (slice_get entries k) e in record { entry = h.0; at = h.1; holds = h.2 }
 
   pub hinders_at : (a k : ℕ) → hinder a k ≡ true → Happens limits entries k (Hinders a)
-  hinders_at a k e = elim (either (is_change k) (beside a k) e) [
+  hinders_at a k e = elim (or_cases (is_change k) (beside a k) e) [
     | inl so ↦ let h = changed (memory_at limits entries k) (slice_get entries k) so in record { entry = h.0; at = h.1; holds = inl h.2 }
     | inr so ↦ let h = taken_beside (memory_at limits entries k) a (slice_get entries k) so in record { entry = h.0; at = h.1; holds = inr h.2 }
   ]
@@ -139,7 +128,7 @@ module _ (limits : Limits) (entries : List Entry) where
     pub pays_hinder : (k c : ℕ) → k ≤ n → Pays limits entries run op k c → hinder op.actor k ≡ true
     pays_hinder k c le (low, high, inl p) =
         or_left (is_change k) (beside op.actor k)
-        (subst (λ j. is_change j ≡ true) (sym p.same) (changes_by c op.actor p.slot p.old p.new p.kind (p.took.0, p.took.1.entry) p.links p.no_ready p.no_undo))
+        (rw p.same (changes_by c op.actor p.slot p.old p.new p.kind (p.took.0, p.took.1.entry) p.links p.no_ready p.no_undo))
     pays_hinder k c le (low, high, inr (inl p)) = let since = p.low in or_left (is_change k) (beside op.actor k) (beats p.since k p.beside.0 p.slot p.old p.beside.1 (omega arith) le p.read p.beside.3)
     pays_hinder k c le (low, high, inr (inr p)) = or_right (is_change k) (beside op.actor k) (beside_by k op.actor p.beside.0 p.number p.pids p.beside.1 p.beside.2)
 
@@ -171,7 +160,5 @@ module _ (limits : Limits) (entries : List Entry) where
   pub among_hinder : (a m k n : ℕ) → m + k ≤ suc n → (list : Listed (hinder a) m k) → AreAmong limits entries m n (Hinders a) list.places
   among_hinder a m k n le list = record {
     increasing = list.increasing;
-    each =
-        All-weaker (λ p. (m ≤ p) × (p < m + k) × (hinder a p ≡ true)) (λ p. (m ≤ p) × (p ≤ n) × Happens limits entries p (Hinders a))
-        (λ p h. (h.0, (let lt : p < m + k = h.1 in omega arith), hinders_at a p h.2)) list.places list.each;
+    each = λ i d in_list. let h = list.each i d in_list in (h.0, (let lt = h.1 in omega (arith, le, lt)), hinders_at a _ h.2);
   }

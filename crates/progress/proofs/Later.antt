@@ -1,10 +1,8 @@
 -- From any entry on: what an operation had read before costs it a slot of each page, and free numbers once, and what hinders it since pays for the rest.
-use Rattle.progress.proofs.Words.{◌≡◌, ◌<◌, ◌≤◌, ◌+◌, ◌-◌, ◌*◌, ◌⊎◌, ℕ, zero, suc, List, [], ◌∷◌, Bool, true, false, length, take, refl, ap, subst}
-use Rattle.progress.proofs.Words.{◌∙◌, inl, inr, arith}
-use Rattle.progress.proofs.Words.{mul-le-mul_left, cases_lt, All, Limits, Number, Whether, Entry, cause_worth, IsRun, IsCause, IsDirect, IsExchangeOf}
-use Rattle.progress.proofs.Words.{TakesNone}
-use Rattle.progress.proofs.Words.{IsOperation, IsOwnStep, Operation, TakesOwnStep, KeepsPhases, PlacesNoRemoval, steps_from}
-use Rattle.bw_model.specs.declared.step.Step.TheVariants.{Exchange, Slot}
+use Rattle.progress.proofs.Words.{◌≡◌, ◌<◌, ◌≤◌, ◌+◌, ◌-◌, ◌*◌, ◌⊎◌, ℕ, zero, suc, List, [], ◌∷◌, Bool, true, false, length, take, refl, ap, ◌∙◌, inl, inr, arith, mul-le-mul_left, cases_lt}
+use Rattle.progress.proofs.Words.{All, Limits, Number, Whether, Entry, cause_worth, IsRun, IsCause, IsDirect, IsExchangeOf, TakesNone, IsOperation, IsOwnStep, Operation, TakesOwnStep}
+use Rattle.progress.proofs.Words.{KeepsPhases, PlacesNoRemoval, steps_from, Exchange}
+use Rattle.bw_model.specs.declared.step.Step.TheVariants.{Slot}
 use Rattle.linearization.specs.UntilRemoval.{OperationsEndUntilRemoval}
 use Rattle.progress.proofs.Counted.{AreDistinct, Each}
 use Rattle.progress.proofs.Hindering.{among_hinder, hinder, paid_by_hinder, pays_hinder}
@@ -65,7 +63,7 @@ module _ (limits : Limits) (entries : List Entry) (run : IsRun limits entries) (
   same_number j c d (low, high, inr (inr p)) (low', high', inr (inl q)) = absurd (beyond j p.0 q.0 p.2)
   same_number j c d (low, high, inr (inr (k, le, e, p))) (low', high', inr (inr (i, le', e', q))) =
       let same : i ≡ k = omega arith in
-      same_cause limits entries run op k c d p (subst (λ x. Pays limits entries run op x d) same q)
+      same_cause limits entries run op k c d p (rw (← same) q)
 
   -- a slot that was read is that of a page that there may be
   there : (slot old since : ℕ) → since ≤ n → TakesOwnStep entries op since (Slot slot) (Number old) → slot < limits.pids

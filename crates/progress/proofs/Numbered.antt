@@ -1,5 +1,5 @@
 -- Where things have numbers, and different ones different numbers, a list of different things has as many numbers.
-use Rattle.progress.proofs.Words.{◌≡◌, ◌⊎◌, ℕ, suc, List, [], ◌∷◌, length, refl, sym, ap, subst, ◌∙◌, inl, inr, All-head, All-tail, All}
+use Rattle.progress.proofs.Words.{◌≡◌, ◌⊎◌, ℕ, suc, List, [], ◌∷◌, length, refl, ap, ◌∙◌, inl, inr, All-head, All-tail, All}
 use Rattle.progress.proofs.Counted.{AreDistinct, Each, IsNotAmong}
 
 abbrev pub IsIn : ℕ → List ℕ → Type 0
@@ -27,7 +27,7 @@ module _ (HasNumber : ℕ → ℕ → Type 0) where
     fresh : (c j : ℕ) (cs js : List ℕ) → IsNotAmong c cs → HasNumber j c → Each (λ i. (d : ℕ) × IsIn d cs × HasNumber i d) js → IsNotAmong j js
     fresh c j cs [] other has each = tt
     fresh c j cs (i ∷ is) other has each = (
-      λ same. apart_from c each.0.0 cs other each.0.1 (same_number j c each.0.0 has (subst (λ x. HasNumber x each.0.0) (sym same) each.0.2)),
+      λ same. apart_from c each.0.0 cs other each.0.1 (same_number j c each.0.0 has (rw same each.0.2)),
       fresh c j cs is other has each.1,
     )
 

@@ -1,11 +1,8 @@
 -- Each cause of an operation needs an entry of its own, where nobody has placed a removal.
-use Rattle.progress.proofs.Words.{◌≡◌, ◌≢◌, ◌<◌, ◌≤◌, ◌+◌, ◌-◌, ◌*◌, ◌⊎◌, ℕ, suc, List, [], ◌∷◌, Some, Bool, true, false, take, refl, sym, subst, ◌∙◌}
-use Rattle.progress.proofs.Words.{inl, inr, arith}
-use Rattle.progress.proofs.Words.{mul-le-mul_left, cases_lt, All-head, All-tail, All, IsStrictlyIncreasing, Limits, Number, Whether, Link, Entry}
-use Rattle.progress.proofs.Words.{IsRun, TakesStep, memory_at, link_of}
-use Rattle.progress.proofs.Words.{IsCause, IsDirect, IsExchangeOf, IsTake, TakesNone, IsOperation, Operation, TakesOwnStep, KeepsPhases, PlacesNoRemoval}
-use Rattle.std.specs.Prelude.{slice_index}
-use Rattle.bw_model.specs.declared.step.Step.TheVariants.{Exchange, Slot}
+use Rattle.progress.proofs.Words.{◌≡◌, ◌≢◌, ◌<◌, ◌≤◌, ◌+◌, ◌-◌, ◌*◌, ◌⊎◌, ℕ, suc, List, [], ◌∷◌, Some, Bool, true, false, take, refl, sym, ◌∙◌, inl, inr, arith, mul-le-mul_left, cases_lt}
+use Rattle.progress.proofs.Words.{All-head, All-tail, All, IsStrictlyIncreasing, Limits, Number, Whether, Link, Entry, IsRun, TakesStep, memory_at, link_of, IsCause, IsDirect, IsExchangeOf}
+use Rattle.progress.proofs.Words.{IsTake, TakesNone, IsOperation, Operation, TakesOwnStep, KeepsPhases, PlacesNoRemoval, Exchange}
+use Rattle.bw_model.specs.declared.step.Step.TheVariants.{Slot}
 use Rattle.bw_model.specs.declared.step.Link.TheVariants as link
 use Rattle.progress.proofs.Between.{take_of}
 use Rattle.progress.proofs.Causes.{meets_none}
@@ -14,7 +11,7 @@ use Rattle.progress.proofs.Numbered.{IsIn, Numbered, numbered}
 use Rattle.progress.proofs.Spans.{ExchangedBeside, TakenBeside, is_take, lost_by_change, missed_by_take, of_own, same_step}
 
 tail_up : (c : ℕ) (cs : List ℕ) → IsStrictlyIncreasing (c ∷ cs) → IsStrictlyIncreasing cs
-tail_up c cs up k h = subst (λ j. slice_index (c ∷ cs) (suc k) < slice_index (c ∷ cs) j) (let e : suc k + 1 ≡ suc (k + 1) = omega arith in e) (up (suc k) (omega arith))
+tail_up c cs up k h = rw (let e : suc k + 1 ≡ suc (k + 1) = omega arith in e) at (up (suc k) (omega arith))
 
 -- an increasing list has each number once
 above_first : (c : ℕ) (cs : List ℕ) → IsStrictlyIncreasing (c ∷ cs) → Each (λ d. c < d) cs
@@ -76,7 +73,7 @@ module _ (limits : Limits) (entries : List Entry) (run : IsRun limits entries) (
     pub beside : TakenBeside limits entries run op pids number k
 
   itself : (k c : ℕ) (p : WinsItself k c) → TakesStep entries k op.actor (Exchange p.slot p.old p.new) (Whether true)
-  itself k c p = subst (λ j. TakesStep entries j op.actor (Exchange p.slot p.old p.new) (Whether true)) (sym p.same) (of_own p.took)
+  itself k c p = rw p.same (of_own p.took)
 
   -- the entry at k is what the cause at c needed
   abbrev pub Pays : ℕ → ℕ → Type 0
@@ -132,7 +129,7 @@ module _ (limits : Limits) (entries : List Entry) (run : IsRun limits entries) (
           let paid = pay c is in
           let low : op.start < paid.0 = paid.1.0 in
           let at : op.start + (paid.0 - op.start) ≡ paid.0 = omega arith in
-          (paid.0 - op.start, subst (λ k. Pays k c) (sym at) paid.1)
+          (paid.0 - op.start, rw at paid.1)
 
   module _ (keeps : KeepsPhases limits entries) (direct : IsDirect limits entries) (begun : IsOperation entries op) (n : ℕ) (none : PlacesNoRemoval (take n entries)) where
     -- what a cause needed

@@ -1,9 +1,9 @@
 -- A record that stands in a row was placed there, or stood there from the beginning.
-use Rattle.std.proofs.Common.{◌≡◌, ◌<◌, ◌≤◌, ◌⊎◌, ℕ, zero, suc, List, Option, None, Some, Bool, true, false, take, refl, sym, ap, subst, ◌∙◌, inl, inr, arith}
-use Rattle.progress.proofs.Words.{eqb_tells, same_Some, if◌then◌else◌, slice_get, ◌==◌, Limits, Answer, StepOf, Place, Record, Entry, Begin, Step, memory_after, TakesStep}
-use Rattle.progress.proofs.Words.{memory_after_entry, memory_at, memory_of, get_take, take_past, memory_of-push, take-one, PlacesNoRemoval}
+use Rattle.progress.proofs.Words.{◌≡◌, ◌<◌, ◌≤◌, ◌⊎◌, ℕ, zero, suc, List, Option, None, Some, Bool, true, false, take, refl, sym, ap, ◌∙◌, inl, inr, arith, eqb_tells, same_Some, if◌then◌else◌}
+use Rattle.progress.proofs.Words.{slice_get, ◌==◌, Limits, Answer, StepOf, Place, Record, Entry, Begin, Step, memory_after, TakesStep, memory_after_entry, memory_at, memory_of, get_take}
+use Rattle.progress.proofs.Words.{take_past, memory_of-push, take-one, PlacesNoRemoval, Memory}
 use Rattle.base_page.specs.Pages.{empty_leaf}
-use Rattle.deltas.specs.Memory.{Memory, opening}
+use Rattle.deltas.specs.Memory.{opening}
 use Rattle.deltas.specs.declared.record.Record.TheVariants as delta
 use Rattle.deltas.specs.declared.record.Remove.{Remove}
 
@@ -36,7 +36,7 @@ module _ (limits : Limits) (entries : List Entry) (row : ℕ) (content : Record)
   placed_since : (n : ℕ) → ((memory_at limits entries n).rows row ≡ Some content → ((opening limits).rows row ≡ Some content) ⊎ WasPlaced n) → (o : Option Entry) → slice_get entries n ≡ o
       → Stands (suc n)
       → ((opening limits).rows row ≡ Some content) ⊎ WasPlaced (suc n)
-  placed_since n before None at e = later n (before (subst (λ es. (memory_of limits es).rows row ≡ Some content) (take_past entries n at) e))
+  placed_since n before None at e = later n (before (rw (← take_past entries n at) e))
   placed_since n before (Some (Begin a c)) at e = later n (before (rw (memory_next limits entries n (Begin a c) at) at e))
   placed_since n before (Some (Step a s x r)) at e = elim (row_cases a s (memory_at limits entries n) row content (rw (memory_next limits entries n (Step a s x r) at) at e)) [
     | inl stood ↦ later n (before stood)

@@ -1,14 +1,14 @@
 -- A reader is paid for whatever others do, and where it begins.
-use Rattle.std.proofs.Common.{◌≡◌, ◌<◌, ◌≤◌, ◌+◌, ◌*◌, ◌++◌, ℕ, List, [], ◌∷◌, length, take, Bool, true, false, cond, Option, None, Some, refl, sym, ap, subst}
-use Rattle.std.proofs.Common.{◌∙◌, inl, inr, arith, append_assoc, append-nil}
-use Rattle.progress.proofs.Words.{if◌then◌else◌, slice_get, cases_lt, same_Some, either, Limits, is_writer, Command, Entry, Begin, Step, Knowledge, knows, Recalled, recalls, memory_of}
-use Rattle.progress.proofs.Words.{pushed_length, slice_get-push, slice_get_below, take-push_whole, ReadRound, IsActorWith, command_at, Hand, State, Begun, Epoch, Enter, Read, Write, Change}
-use Rattle.progress.proofs.Words.{Leave, Task, UnderWay, IsDirect, is_step_of, one_memory, IsState, IsLawfulMoment, IsOthers, changes_tree}
+use Rattle.progress.proofs.Words.{◌≡◌, ◌<◌, ◌≤◌, ◌+◌, ◌*◌, ◌++◌, ℕ, List, [], ◌∷◌, length, take, Bool, true, false, cond, Option, None, Some, refl, sym, ap, subst, ◌∙◌, inl, inr, arith}
+use Rattle.progress.proofs.Words.{append_assoc, if◌then◌else◌, slice_get, cases_lt, same_Some, either, Limits, is_writer, Command, Entry, Begin, Step, Knowledge, knows, Recalled, recalls}
+use Rattle.progress.proofs.Words.{memory_of, pushed_length, slice_get-push, slice_get_below, take-push_whole, ReadRound, IsActorWith, command_at, Hand, State, Begun, Epoch, Enter, Read, Write}
+use Rattle.progress.proofs.Words.{Change, Leave, Task, UnderWay, IsDirect, is_step_of, one_memory, IsState, IsLawfulMoment, IsOthers, changes_tree, ShowsState, PaysAt, PaysForRound, PaysFrom}
+use Rattle.progress.proofs.Words.{PaysReader, reader_task}
+use Rattle.std.proofs.Common.{append-nil}
 use Rattle.traces.specs.discipline.Disciplined.{is_entry_of, own_entries}
-use Rattle.op_machine.specs.machine.Shows.{ShowsState}
 use Rattle.tree_law.proofs.shape.Puts.{eqb_false}
 use Rattle.tree_law.proofs.trace.Others.{own_lasts}
-use Rattle.progress.specs.ReaderStates.{BegunArePaid, PaysAt, PaysForRound, PaysFrom, PaysReader, ReadersStayPaid, reader_task}
+use Rattle.progress.specs.ReaderStates.{BegunArePaid, ReadersStayPaid}
 use Rattle.progress.proofs.ReaderPays.{change_is, pays_end, pays_kept, pays_more}
 use Rattle.progress.proofs.ReaderRounds.{few_on, last_begun, last_cases, moment_of, next_of, round_fresh}
 use Rattle.progress.proofs.rounds.Among.{others_no_step}
@@ -30,7 +30,7 @@ module _ (limits : Limits) (entries : List Entry) (entry : Entry) (state : IsSta
   not_own = others_no_step actor entry (others actor entry other)
 
   none : cond {A = ℕ} (is_step_of actor entry) 1 0 ≡ 0
-  none = ap (λ (b : Bool). cond {A = ℕ} b 1 0) not_own
+  none = rw not_own
 
   from_each : (left m : ℕ) → m ≤ length longer → left ≤ one_memory limits + 3 → (m ≤ length entries → PaysFrom limits entries actor m left) → PaysFrom limits longer actor m left
   from_each left m within few pays = elim (cases_lt (length entries) m) [
@@ -109,7 +109,7 @@ one_other limits entries entry state later direct actor other hand (Some running
 module _ (limits : Limits) (actor : ℕ) (hand : Hand) (o : Option UnderWay) where
   along : (seen rest : List Entry) → own_entries actor rest ≡ [] → ((n : ℕ) → IsState limits (take n (seen ++ rest))) → ((n : ℕ) → IsDirect limits (take n (seen ++ rest)))
       → IsActorWith limits actor (knows seen actor) (recalls seen actor) hand o → PaysReader limits seen actor o → PaysReader limits (seen ++ rest) actor o
-  along seen [] none states directs shows pays = subst (λ (es : List Entry). PaysReader limits es actor o) (sym (append-nil seen)) pays
+  along seen [] none states directs shows pays = rw (append-nil seen) pays
   along seen (entry ∷ rest) none states directs shows pays = elim (is_entry_of actor entry) as
       (λ t. is_entry_of actor entry ≡ t → (if t then entry ∷ own_entries actor rest else own_entries actor rest) ≡ [] → PaysReader limits (seen ++ entry ∷ rest) actor o) [
         | true ↦ λ e f. cc
@@ -120,22 +120,21 @@ module _ (limits : Limits) (actor : ℕ) (hand : Hand) (o : Option UnderWay) whe
             let here : take (length next) (seen ++ entry ∷ rest) ≡ next = ap (take (length next)) (sym whole) ∙ take-push_whole next rest in
             let later : IsState limits next = subst (IsState limits) here (states (length next)) in
             let direct : IsDirect limits next = subst (IsDirect limits) here (directs (length next)) in
-            let alone : own_entries actor (entry ∷ []) ≡ [] = ap (λ (b : Bool). if b then entry ∷ [] else []) e in
+            let alone : own_entries actor (entry ∷ []) ≡ [] = rw e in
             let lasts = own_lasts limits actor seen next (entry ∷ [], refl, alone) in
-            let shown : IsActorWith limits actor (knows next actor) (recalls next actor) hand o =
-            subst (λ (k : Knowledge). IsActorWith limits actor k (recalls next actor) hand o) (sym lasts.known)
-            (subst (λ (r : Recalled). IsActorWith limits actor (knows seen actor) r hand o) (sym lasts.recalled) shows) in
-            subst (λ (es : List Entry). PaysReader limits es actor o) whole
-            (along next rest f (λ n. subst (λ (es : List Entry). IsState limits (take n es)) (sym whole) (states n))
-            (λ n. subst (λ (es : List Entry). IsDirect limits (take n es)) (sym whole) (directs n)) shown
+            let shown : IsActorWith limits actor (knows next actor) (recalls next actor) hand o = rw lasts.known
+            (rw lasts.recalled shows) in
+            rw (← whole)
+            (along next rest f (λ n. rw whole (states n))
+            (λ n. rw whole (directs n)) shown
             (one_other limits seen entry state later direct actor e hand o shows pays))
       ] refl none
 
 pub stay_paid : ReadersStayPaid
 stay_paid limits actor seen run at x kept shows pays =
-    subst (λ (es : List Entry). PaysReader limits es actor at.running) (sym x.1)
-    (along limits actor at.hand at.running seen x.0 x.2 (λ n. subst (λ (es : List Entry). IsState limits (take n es)) x.1 (kept.states n))
-    (λ n. subst (λ (es : List Entry). IsDirect limits (take n es)) x.1 (kept.directs n)) shows pays)
+    rw x.1
+    (along limits actor at.hand at.running seen x.0 x.2 (λ n. rw (← x.1) (kept.states n))
+    (λ n. rw (← x.1) (kept.directs n)) shows pays)
 
 -- a reader that begins
 module _ (limits : Limits) (entries : List Entry) (actor : ℕ) (command : Command) (m : ℕ) (past : length entries ≤ m) where

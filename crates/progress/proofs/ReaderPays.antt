@@ -1,12 +1,12 @@
 -- What changes of the tree pay for, after one entry more.
-use Rattle.std.proofs.Common.{◌≡◌, ◌≢◌, ◌<◌, ◌≤◌, ◌+◌, ◌*◌, ◌++◌, ℕ, suc, List, [], ◌∷◌, length, drop, Bool, true, false, cond, Option, None, Some, refl, ap, ◌∙◌, arith}
+use Rattle.progress.proofs.Words.{◌≡◌, ◌≢◌, ◌<◌, ◌≤◌, ◌+◌, ◌*◌, ◌++◌, ℕ, suc, List, [], ◌∷◌, length, drop, Bool, true, false, cond, Option, Some, refl, ap, ◌∙◌, arith, drop-append-le, All-push}
+use Rattle.progress.proofs.Words.{fold-append, All, count_by, Limits, Whether, Link, Exchange, Memory, Entry, Step, Happens, memory_of, increasing_push, pushed_length, is_step_of, link_of}
+use Rattle.progress.proofs.Words.{ChangesTree, one_memory, PaysFrom, Happens-kept, changes_tree}
 use Rattle.std.proofs.Math.Nat.{mul-suc}
-use Rattle.std.proofs.lemmas.List.{drop-append-le, drop_all}
-use Rattle.progress.proofs.Words.{All-push, All-weaker, fold-append, All, count_by, Limits, Whether, Link, Exchange, Memory, Entry, Step, Happens, memory_of, increasing_push, pushed_length}
-use Rattle.progress.proofs.Words.{is_step_of, link_of, ChangesTree, one_memory, PaysFrom}
+use Rattle.std.proofs.lemmas.List.{drop_all}
 use Rattle.bw_model.specs.declared.step.Link.TheVariants as link
-use Rattle.traces.proofs.TraceLaws.{Happens-kept, Happens-last}
-use Rattle.progress.specs.ReadersAmong.{changes_tree, is_change}
+use Rattle.traces.proofs.TraceLaws.{Happens-last}
+use Rattle.progress.specs.ReadersAmong.{is_change}
 
 kind_of : (o : Option Link) → is_change o ≡ true → (kind : Link) × (o ≡ Some kind) × (kind ≢ link.Ready) × (kind ≢ link.Undo)
 kind_of (Some kind) e = (kind, refl, (λ f. cc f), (λ f. cc f))
@@ -19,14 +19,14 @@ change_is memory entry e = absurd (cc)
 end_enough : (worth left steps : ℕ) → steps ≡ 0 → left ≤ worth + 3 → steps + left ≤ worth * (0 + 1) + 3
 end_enough worth left steps none few = omega (arith, none, few)
 
-kept_enough : (bound before own left rest steps : ℕ) → steps ≡ before + own → rest + own ≤ left → before + left ≤ bound → steps + rest ≤ bound
+pub kept_enough : (bound before own left rest steps : ℕ) → steps ≡ before + own → rest + own ≤ left → before + left ≤ bound → steps + rest ≤ bound
 kept_enough bound before own left rest steps same less paid = omega (arith, same, less, paid)
 
 change_enough : (worth changes more before own left rest steps : ℕ) → steps ≡ before + own → own ≡ 0 → more ≡ suc changes → rest ≤ left + worth
     → before + left ≤ worth * (changes + 1) + 3 → steps + rest ≤ worth * (more + 1) + 3
 change_enough worth changes more before own left rest steps same none one less paid =
     let place : more + 1 ≡ suc (changes + 1) = omega (arith, one) in
-    let grown : worth * (more + 1) ≡ worth * (changes + 1) + worth = ap (λ (n : ℕ). worth * n) place ∙ mul-suc worth (changes + 1) in
+    let grown : worth * (more + 1) ≡ worth * (changes + 1) + worth = rw place (mul-suc worth (changes + 1)) in
     omega (arith, same, none, grown, less, paid)
 
 pub count_push : {X : Type 0} (p : X → Bool) (xs : List X) (x : X) → count_by p (xs ++ x ∷ []) ≡ count_by p xs + cond (p x) 1 0
@@ -48,12 +48,11 @@ module _ (limits : Limits) (entries : List Entry) (last : Entry) (actor : ℕ) w
   counted : (m : ℕ) → m ≤ length entries → count_by (is_step_of actor) (drop m longer) ≡ count_by (is_step_of actor) (drop m entries) + cond (is_step_of actor last) 1 0
   counted m within = ap (count_by (is_step_of actor)) (drop-append-le m entries (last ∷ []) within) ∙ count_push (is_step_of actor) (drop m entries) last
 
-  changes_kept : (m : ℕ) (changes : List ℕ) → All (λ place. (m ≤ place) × (place < length entries) × Happens limits entries place ChangesTree) changes
+  pub changes_kept : (m : ℕ) (changes : List ℕ) → All (λ place. (m ≤ place) × (place < length entries) × Happens limits entries place ChangesTree) changes
       → All (λ place. (m ≤ place) × (place < length longer) × Happens limits longer place ChangesTree) changes
   changes_kept m changes each =
-      All-weaker (λ place. (m ≤ place) × (place < length entries) × Happens limits entries place ChangesTree) (λ place. (m ≤ place) × (place < length longer) × Happens limits longer place ChangesTree)
-      (λ place h. let long : length longer ≡ suc (length entries) = pushed_length entries last in let below : place < length entries = h.1 in (h.0, omega arith, Happens-kept (last ∷ []) h.2))
-      changes each
+      let long : length longer ≡ suc (length entries) = pushed_length entries last in
+      λ k d lt. let h = each k d lt in (h.0, (let below = h.1 in omega (arith, long, below)), Happens-kept (last ∷ []) h.2)
 
   -- as few are left, and the entry costs no more than was left
   pub pays_kept : (m left rest : ℕ) → m ≤ length entries → rest + cond (is_step_of actor last) 1 0 ≤ left → PaysFrom limits entries actor m left → PaysFrom limits longer actor m rest
@@ -72,7 +71,7 @@ module _ (limits : Limits) (entries : List Entry) (last : Entry) (actor : ℕ) w
   pays_more m left rest within change others less h = record {
     changes = h.changes ++ length entries ∷ [];
     increasing = increasing_push h.changes (length entries) h.increasing
-        (All-weaker (λ place. (m ≤ place) × (place < length entries) × Happens limits entries place ChangesTree) (λ place. place < length entries) (λ place g. g.1) h.changes h.each);
+        (λ k d lt. (h.each k d lt).1);
     each =
         let long : length longer ≡ suc (length entries) = pushed_length entries last in
         All-push (λ place. (m ≤ place) × (place < length longer) × Happens limits longer place ChangesTree) h.changes (length entries)

@@ -1,10 +1,10 @@
 -- How many steps a reader's round has left, among moments that are to come.
-use Rattle.std.proofs.Common.{◌≡◌, ◌<◌, ◌≤◌, ◌+◌, ◌*◌, ◌++◌, ◌⊎◌, ℕ, List, [], ◌∷◌, length, true, cond, Option, None, Some, sym, ap, subst, ◌∙◌, inl, inr, arith}
-use Rattle.progress.proofs.Words.{add-mul, if◌then◌else◌, Limits, Command, Entry, Begin, IsNext, memory_of, ReadEnd, Again, Removed, Leaf, Beside, ReadRound, Answer, Record, first_read}
-use Rattle.progress.proofs.Words.{is_leaving, is_reading, AfterReading, StepsReading, State, Read, Task, is_step_of, one_memory, IsLast, IsState, operation_from, IsLawfulMoment, Moment}
-use Rattle.progress.proofs.Words.{all_changes, changes_tree, own_steps}
-use Rattle.traces.proofs.Pushes.{slice_get-push, slice_get-push_cases, slice_get_below, slice_get_kept, take-push_whole}
-use Rattle.progress.specs.ReaderStates.{PaysForRound, TakesFewer}
+use Rattle.progress.proofs.Words.{◌≡◌, ◌<◌, ◌≤◌, ◌+◌, ◌*◌, ◌++◌, ◌⊎◌, ℕ, List, [], ◌∷◌, length, true, cond, Option, None, Some, sym, ap, ◌∙◌, inl, inr, arith, add-mul, if◌then◌else◌, Limits}
+use Rattle.progress.proofs.Words.{Command, Entry, Begin, IsNext, memory_of, ReadEnd, Again, Removed, Leaf, Beside, ReadRound, Answer, Record, first_read, is_leaving, is_reading, AfterReading}
+use Rattle.progress.proofs.Words.{StepsReading, State, Read, Task, is_step_of, one_memory, IsLast, IsState, operation_from, IsLawfulMoment, Moment, all_changes, changes_tree, own_steps}
+use Rattle.progress.proofs.Words.{slice_get-push, slice_get_below, take-push_whole, PaysForRound}
+use Rattle.traces.proofs.Pushes.{slice_get-push_cases, slice_get_kept}
+use Rattle.progress.specs.ReaderStates.{TakesFewer}
 use Rattle.progress.proofs.ReaderPays.{pays_end}
 use Rattle.progress.proofs.rounds.Among.{readers_end_among_changes}
 use Rattle.progress.proofs.rounds.Counts.{many}
@@ -30,7 +30,7 @@ last_begun entries start actor command asked latest = elim (last_cases entries (
 
 -- the last entry of a state may stand after those before it
 pub next_of : (limits : Limits) (entries : List Entry) (entry : Entry) → IsState limits (entries ++ entry ∷ []) → IsNext limits entries entry
-next_of limits entries entry later = subst (λ (es : List Entry). IsNext limits es entry) (take-push_whole entries (entry ∷ [])) (later.run.each (length entries) entry (slice_get-push entries entry))
+next_of limits entries entry later = rw (← take-push_whole entries (entry ∷ [])) (later.run.each (length entries) entry (slice_get-push entries entry))
 
 some_few : (left worth : ℕ) → 0 < left + 0 * worth → 0 < left
 some_few left worth few = omega (arith, few)
@@ -61,7 +61,7 @@ module _ (limits : Limits) (actor : ℕ) (task : Task) where
       (λ (n : ℕ). n + many (λ (m : Moment). is_step_of actor m.entry) moments) one ∙ ap (λ (n : ℕ). own + n)
       (many_is_count (λ (m : Moment). is_step_of actor m.entry) moments) in
       let whole : own_steps actor (moment ∷ moments) < left + (more + all_changes limits (entries ++ moment.entry ∷ []) moments) * one_memory limits =
-      subst (λ (n : ℕ). own_steps actor (moment ∷ moments) < left + (n + all_changes limits (entries ++ moment.entry ∷ []) moments) * one_memory limits) changes (few (moment ∷ moments) (is, are)) in
+      rw (← changes) (few (moment ∷ moments) (is, are)) in
       moment_on own (own_steps actor moments) (own_steps actor (moment ∷ moments)) more (all_changes limits (entries ++ moment.entry ∷ []) moments) left rest (one_memory limits) all whole less
 
 -- a round from the end of a state on

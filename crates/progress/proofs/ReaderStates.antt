@@ -1,16 +1,15 @@
 -- Readers have taken few steps still with one entry more.
-use Rattle.std.proofs.Common.{◌≡◌, ◌<◌, ◌≤◌, ◌+◌, ◌-◌, ◌*◌, ◌++◌, ℕ, suc, List, [], ◌∷◌, length, drop, take, Bool, true, false, Option, None, Some, sym, ap, subst, ◌∙◌, inl, inr, arith}
-use Rattle.progress.proofs.Words.{cases_lt, All-weaker, count_by, slice_get, slice_range, Limits, is_writer, Reply, Answer, Whether, StepOf, Exchange, Record, Entry, Begin, Step, Happens}
-use Rattle.progress.proofs.Words.{Happens-kept, wanted_by, State, Begun, Epoch, Enter, Read, Write, Change, Leave, Task, UnderWay, IsDirect, is_step_of, IsOperation, IsOwnStep, Operation}
-use Rattle.progress.proofs.Words.{AreAmong, ChangesTree, steps_from, RunsAlone, IsLast, IsState}
-use Rattle.std.proofs.lemmas.List.{drop-append-le, length-drop, take-append-le, take_all, take_rest}
-use Rattle.traces.proofs.Pushes.{pushed_length, slice_get_below, take-push}
+use Rattle.progress.proofs.Words.{◌≡◌, ◌<◌, ◌≤◌, ◌+◌, ◌-◌, ◌*◌, ◌++◌, ℕ, suc, List, [], ◌∷◌, length, drop, take, Bool, true, false, Option, None, Some, sym, ap, subst, ◌∙◌, inl, inr, arith}
+use Rattle.progress.proofs.Words.{cases_lt, count_by, slice_get, slice_range, Limits, is_writer, Reply, Answer, Whether, StepOf, Exchange, Record, Entry, Begin, Step, Happens-kept, wanted_by}
+use Rattle.progress.proofs.Words.{State, Begun, Epoch, Enter, Read, Write, Change, Leave, Task, UnderWay, IsDirect, is_step_of, IsOperation, IsOwnStep, Operation, AreAmong, ChangesTree}
+use Rattle.progress.proofs.Words.{steps_from, RunsAlone, IsLast, IsState, drop-append-le, pushed_length, slice_get_below, ReadersEnd, one_memory, PaysAt, PaysFrom, PaysReader, reader_task}
+use Rattle.std.proofs.lemmas.List.{length-drop, take-append-le, take_all, take_rest}
+use Rattle.traces.proofs.Pushes.{take-push}
 use Rattle.linearization.specs.Readers.{IsReading}
-use Rattle.linearization.specs.ReadersEnd.{ReadersEnd, one_memory}
 use Rattle.tree_law.specs.TraceLaws.{Opens}
 use Rattle.tree_law.proofs.trace.Owned.{operation_old, step_below, step_cases}
 use Rattle.tree_law.specs.Direct.{IsDirectState}
-use Rattle.progress.specs.ReaderStates.{BeginsKeepReaders, IsReadersState, PaysAt, PaysFrom, PaysReader, StepsKeepReaders, reader_task}
+use Rattle.progress.specs.ReaderStates.{BeginsKeepReaders, IsReadersState, StepsKeepReaders}
 use Rattle.progress.proofs.ReaderPays.{pays_kept}
 use Rattle.progress.proofs.Tallies.{counted_range, one_at_most, passes, passes_in, tally, tally_none, tally_split}
 
@@ -30,11 +29,10 @@ since_last limits entries actor m n left whole h = (
   h.changes,
   record {
     increasing = h.increasing;
-    each = All-weaker (λ place. (m ≤ place) × (place < length entries) × Happens limits entries place ChangesTree) (λ place. (m ≤ place) × (place ≤ n) × Happens limits entries place ChangesTree)
-        (λ place g. let below : place < length entries = g.1 in (g.0, omega arith, g.2)) h.changes h.each;
+    each = λ k d lt. let g = h.each k d lt in (g.0, (let below = g.1 in omega (arith, whole, below)), g.2);
   },
   (
-      let same : slice_range entries m (suc n) ≡ drop m entries = ap (λ end. take (end - m) (drop m entries)) whole ∙ take_rest entries m in
+      let same : slice_range entries m (suc n) ≡ drop m entries = rw whole (take_rest entries m) in
       let counted : steps_from entries actor m n ≡ count_by (is_step_of actor) (drop m entries) = ap (count_by (is_step_of actor)) same in
       less (steps_from entries actor m n) (count_by (is_step_of actor) (drop m entries)) left (one_memory limits * (length h.changes + 1) + 3) counted h.paid
       ),
@@ -80,7 +78,7 @@ module _ (limits : Limits) (entries : List Entry) where
       let c = p.2.holds in
       let both : Some (Step op.actor a.0 a.1 a.2.0) ≡ Some (Step c.0 (Exchange c.1 c.2 c.3) (Whether true) c.5.0.0) = sym a.2.1 ∙ p.2.at ∙ ap Some c.5.0.1 in
       let same : a.0 ≡ Exchange c.1 c.2 c.3 = cc in
-      let none : IsReading (Exchange c.1 c.2 c.3) = subst (λ (s : StepOf Record). IsReading s) same reads in
+      let none : IsReading (Exchange c.1 c.2 c.3) = rw same at reads in
       absurd none
 
   -- where the changes since each later entry pay, all is so
@@ -94,12 +92,9 @@ module _ (limits : Limits) (entries : List Entry) where
           h.0,
           record {
             increasing = h.1.increasing;
-            each =
-                All-weaker (λ place. (suc op.start ≤ place) × (place ≤ n) × Happens limits entries place ChangesTree)
-                (λ place. (op.start ≤ place) × (place ≤ n) × Happens limits entries place ChangesTree)
-                (λ place g. let low : suc op.start ≤ place = g.0 in (omega (arith, low), g.1, g.2)) h.0 h.1.each;
+            each = λ k d lt. let g = h.1.each k d lt in ((let low = g.0 in omega (arith, low)), g.1, g.2);
           },
-          subst (λ (steps : ℕ). steps ≤ one_memory limits * (length h.0 + 1) + 3) (sym (from_begin op n begun after)) h.2,
+          rw (from_begin op n begun after) h.2,
         );
     since = since;
     alone = λ op m n begun reader after le own alone. let h = since op m n begun reader after le own in none_alone direct op m n begun reader after own alone h.0 h.1 h.2;
@@ -117,11 +112,9 @@ module _ (limits : Limits) (entries : List Entry) (last : Entry) (kept : IsReade
         h.0,
         record {
           increasing = h.1.increasing;
-          each = All-weaker (λ place. (m ≤ place) × (place ≤ n) × Happens limits entries place ChangesTree) (λ place. (m ≤ place) × (place ≤ n) × Happens limits longer place ChangesTree)
-              (λ place g. (g.0, g.1, Happens-kept (last ∷ []) g.2)) h.0 h.1.each;
+          each = λ k d lt. let g = h.1.each k d lt in (g.0, g.1, Happens-kept (last ∷ []) g.2);
         },
-        subst (λ (steps : ℕ). steps ≤ one_memory limits * (length h.0 + 1) + 3)
-            (sym (ap (count_by (is_step_of op.actor)) (range_kept entries last m (suc n) (omega (arith, le)) (omega (arith, below))))) h.2,
+        rw (range_kept entries last m (suc n) (omega (arith, le)) (omega (arith, below))) h.2,
       )
 
   -- where the last entry is paid for
@@ -180,7 +173,7 @@ steps_keep limits entries actor step answer reply old kept pays wants later dire
     by_running None pays wants op s x given m latest reader is after within = absurd (cc wants)
     by_running (Some running) pays wants op s x given m latest reader is after within =
         let mine : actor ≡ op.actor = cc in
-        let theirs : PaysReader limits entries op.actor (Some running) = subst (λ (a : ℕ). PaysReader limits entries a (Some running)) mine pays in
+        let theirs : PaysReader limits entries op.actor (Some running) = rw (← mine) pays in
         let h = some_left limits entries (reader_task limits op.actor op.command) m running.op.state (theirs op.start m op.command latest reader after within) in
         let one = one_at_most (is_step_of op.actor (Step actor step answer reply)) in
         let some = h.1 in

@@ -1,32 +1,30 @@
 -- A reader is paid for after its own step.
-use Rattle.std.proofs.Common.{◌≡◌, ◌<◌, ◌≤◌, ◌+◌, ◌-◌, ◌*◌, ◌++◌, ◌⊎◌, ℕ, List, [], ◌∷◌, length, Bool, true, false, cond, Option, None, Some, refl, sym, ap, subst, ◌∙◌, inl, inr, arith}
-use Rattle.progress.proofs.Words.{IsSome, if◌then◌else◌, slice_get, cases_lt, eqb_tells, same_Some, Limits, is_writer, Command, Reply, Answer, StepOf, Record, Entry, Begin, Step, Knowledge}
-use Rattle.progress.proofs.Words.{knows, Recalled, recalls, memory_of, pushed_length, slice_get_below, first_read, Hand, State, Begun, Epoch, Enter, Read, Write, Change, Leave, Task}
-use Rattle.progress.proofs.Words.{IsDirect, is_step_of, one_memory, IsLast, IsState, operation_from, IsLawfulMoment, changes_tree}
+use Rattle.progress.proofs.Words.{◌≡◌, ◌<◌, ◌≤◌, ◌+◌, ◌-◌, ◌*◌, ◌++◌, ◌⊎◌, ℕ, List, [], ◌∷◌, length, true, false, cond, Option, None, Some, refl, sym, ap, ◌∙◌, inl, inr, arith, IsSome}
+use Rattle.progress.proofs.Words.{if◌then◌else◌, slice_get, cases_lt, same_Some, Limits, is_writer, Command, Reply, Answer, StepOf, Record, Entry, Begin, Step, Knowledge, knows, Recalled}
+use Rattle.progress.proofs.Words.{recalls, memory_of, pushed_length, slice_get_below, first_read, Hand, State, Begun, Epoch, Enter, Read, Write, Change, Leave, Task, IsDirect, is_step_of}
+use Rattle.progress.proofs.Words.{one_memory, IsLast, IsState, operation_from, IsLawfulMoment, changes_tree, ReadRound, wanted_step, IsActorWith, command_at, wanted_by, is_leaving, is_reading}
+use Rattle.progress.proofs.Words.{StepsReading, ShowsState, UnderWay, PaysAt, PaysForRound, PaysFrom, PaysReader, reader_task}
 use Rattle.bw_model.specs.declared.step.Step.TheVariants as step_of
-use Rattle.round_model.specs.ReadRounds.{ReadRound, wanted_step}
-use Rattle.op_machine.specs.machine.Actors.{IsActorWith, command_at, command_left, wanted_by}
+use Rattle.op_machine.specs.machine.Actors.{command_left}
 use Rattle.op_machine.specs.machine.Ops.{HoldsLimbo, Op, asked_by, wanted_of}
-use Rattle.op_machine.specs.machine.Outcomes.{is_entering, is_leaving, is_reading}
-use Rattle.op_machine.specs.machine.RoundSteps.{StepsInRound, StepsReading}
-use Rattle.op_machine.specs.machine.Shows.{ShowsState, wanted_at}
-use Rattle.op_machine.specs.machine.UnderWay.{StepsAt, UnderWay}
+use Rattle.op_machine.specs.machine.Outcomes.{is_entering}
+use Rattle.op_machine.specs.machine.RoundSteps.{StepsInRound}
+use Rattle.op_machine.specs.machine.Shows.{wanted_at}
+use Rattle.op_machine.specs.machine.UnderWay.{StepsAt}
 use Rattle.tree_law.proofs.trace.Owned.{same_start}
-use Rattle.progress.specs.ReaderStates.{PaysAt, PaysForRound, PaysFrom, PaysReader, StepsArePaid, reader_task}
+use Rattle.progress.specs.ReaderStates.{StepsArePaid}
 use Rattle.progress.proofs.ReaderPays.{pays_end, pays_kept}
 use Rattle.progress.proofs.ReaderRounds.{after_reads, few_fresh, few_on, few_some, last_cases, moment_of, next_of, round_fresh, same_steps}
-use Rattle.progress.proofs.Tallies.{one_at_most}
+use Rattle.progress.proofs.Tallies.{one_at_most, itself}
 use Rattle.progress.proofs.rounds.Among.{is_read, read_no_change}
 
 -- the command that an operation shows
 pub going : (task : Task) (hand : Hand) (k : Knowledge) (r : Recalled) (s : State) → ShowsState task hand.spares k r s → k.asked.command ≡ Some task.command
-going task hand k r Begun h = h.asked.going
-going task hand k r Epoch h = h.asked.going
 going task hand k r (Enter epoch) h = h.0.asked.going
 going task hand k r (Read round) h = h.seeks.asked.going
 going task hand k r (Write round) h = h.seeks.asked.going
-going task hand k r (Change now next) h = h.asked.going
 going task hand k r (Leave reply lacks) h = h.0.going
+going task hand k r state h = h.asked.going
 
 -- it is the one that the actor's last operation was asked
 pub asked_last : (limits : Limits) (entries : List Entry) → IsState limits entries → (start actor : ℕ) (command shown : Command)
@@ -77,7 +75,7 @@ module _ (limits : Limits) (entries : List Entry) (actor : ℕ) (step : StepOf R
   one = one_at_most (is_step_of actor entry)
 
   own : cond {A = ℕ} (is_step_of actor entry) 1 0 ≡ 1
-  own = ap (λ (b : Bool). cond {A = ℕ} b 1 0) (elim (eqb_tells actor actor) [ inl same ↦ same.0 | inr apart ↦ absurd (apart.1 refl) ])
+  own = rw (itself actor)
 
   -- what was paid for from an earlier entry on, and from the end on
   from_each : (left rest m : ℕ) → m ≤ length longer → rest < left → rest ≤ one_memory limits + 3 → (m ≤ length entries → PaysFrom limits entries actor m left) → PaysFrom limits longer actor m rest
@@ -114,16 +112,14 @@ module _ (limits : Limits) (entries : List Entry) (actor : ℕ) (step : StepOf R
         goes =
             inl (record {
               answer = answer;
-              entry_is = ap (λ (s : StepOf Record). Step actor s answer None) (sym wants);
+              entry_is = rw (← wants);
               steps = same_steps old task round answer
                   (Read next) (same_first limits actor command old same_limits same_command) steps;
             });
       }
 
       none : ◌≡◌ {A = ℕ} (if changes_tree (memory_of limits entries) entry then 1 else 0) 0
-      none =
-          ap (λ (b : Bool). if◌then◌else◌ {A = ℕ} b 1 0) (ap (λ (s : StepOf Record). changes_tree (memory_of limits entries) (Step actor s answer None))
-          (sym wants) ∙ read_no_change (memory_of limits entries) actor (wanted_step round) answer (is_read round.state))
+      none = rw (← wants) (rw (read_no_change (memory_of limits entries) actor (wanted_step round) answer (is_read round.state)))
 
   -- by what the round makes of the answer
   from_round : (round : ReadRound) (r : Recalled) (t : State) → wanted_step round ≡ step → ShowsState old hand.spares (knows entries actor) r (Read round)
@@ -152,7 +148,7 @@ module _ (limits : Limits) (entries : List Entry) (actor : ℕ) (step : StepOf R
 
   from_enter : (t : State) → t ≡ Read (first_read old) → ((m : ℕ) → start < m → m ≤ length entries → PaysFrom limits entries actor m (one_memory limits + 2))
       → (m : ℕ) → start < m → m ≤ length longer → PaysAt limits longer task m t
-  from_enter t is pays m after within = subst (λ (s : State). PaysAt limits longer task m s) (sym is) (record {
+  from_enter t is pays m after within = rw is (record {
     left = one_memory limits;
     few = few_fresh limits actor task longer (first_read old) later;
     pays = from_each (one_memory limits + 2) (one_memory limits + 1) m within (omega arith) (omega arith) (pays m after);

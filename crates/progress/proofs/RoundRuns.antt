@@ -1,17 +1,15 @@
 -- A lookup beside a removed leaf is a reader's run.
-use Rattle.std.proofs.Common.{◌≡◌, ◌<◌, ℕ, List, [], ◌∷◌, true, false, Option, None, Some, refl, sym, ap, subst, ◌∙◌, inl, inr, lit≤}
-use Rattle.std.specs.Prelude.{codes, IsSome, is_some}
+use Rattle.progress.proofs.Words.{◌≡◌, ◌<◌, ℕ, List, [], ◌∷◌, true, false, Option, None, Some, refl, sym, ap, subst, ◌∙◌, inl, inr, IsSome, is_some, Limits, Answer, next_row, Record}
+use Rattle.progress.proofs.Words.{content_in, high_in, IsAnswer, Version, ReadEnd, Beside, Removed, ReadGoal, Seek, Left, Down, LeadsDown, reaches, first_read, read_left_of, AfterReading}
+use Rattle.progress.proofs.Words.{Leave, Read, State, IsReaderRun, ReadsIn, last_round, is_below, Number, Content, Page, Root, ReadRound, TreatsRead, left_of, read_way, reading, wanted_step}
+use Rattle.progress.proofs.Words.{Responds, Row, Slot, Visit, Whole, to_page, small}
+use Rattle.std.proofs.Common.{lit≤}
+use Rattle.std.specs.Prelude.{codes}
 use Rattle.std.specs.Ordering.{is_eq}
-use Rattle.progress.proofs.Words.{Limits, Answer, next_row, Record, content_in, high_in, IsAnswer, Version, ReadEnd, Beside, Removed, ReadGoal, Seek, Left, Down, LeadsDown, reaches}
-use Rattle.progress.proofs.Words.{first_read, read_left_of, AfterReading, Leave, Read, State, IsReaderRun, ReadsIn, last_round}
-use Rattle.bw_model.specs.Bytes.{is_below, key_cmp}
+use Rattle.bw_model.specs.Bytes.{key_cmp}
 use Rattle.bw_model.specs.declared.command.Reply.TheVariants as reply
-use Rattle.bw_model.specs.declared.step.Answer.TheVariants.{Number, Content}
-use Rattle.round_model.specs.Descents.{Descent, Page, Root}
-use Rattle.round_model.specs.ReadRounds.{ReadRound, TreatsRead, left_of, read_way, reading, wanted_step}
-use Rattle.round_model.specs.Rounds.{Responds}
-use Rattle.round_model.specs.Visits.{Row, Slot, Visit, Whole, to_page}
-use Rattle.linearization.specs.Examples.{hold_leaf, new_leaf, opening_leaf, remove_leaf, root, small, split_away}
+use Rattle.round_model.specs.Descents.{Descent}
+use Rattle.linearization.specs.Examples.{hold_leaf, new_leaf, opening_leaf, remove_leaf, root, split_away}
 use Rattle.tree_law.proofs.shape.KeyOrder.{by_key}
 use Rattle.progress.specs.RoundExample.{beside_removal, get_x, lookup_rounds, removed_read, root_read, round_at, wrong_rounds}
 
@@ -206,7 +204,7 @@ left_whole =
     }) refl refl refl
   where
     off : (high : List ℕ) → Some (codes "m") ≡ Some high → left_of removed_read high ≡ false
-    off high e = let same : codes "m" ≡ high = cc in subst (λ (key : List ℕ). left_of removed_read key ≡ false) same refl
+    off high e = let same : codes "m" ≡ high = cc in rw (← same) refl
 
     none : (high : List ℕ) → high_in removed_read.chain ≡ Some high → reaches (codes "x") high ≡ false
     none high e = let absent : None ≡ Some high = e in absurd (cc)

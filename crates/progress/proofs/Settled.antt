@@ -1,5 +1,5 @@
 -- A page of the tree is nobody's own later, where nobody has placed a removal.
-use Rattle.progress.proofs.Words.{◌≡◌, ◌≢◌, ◌<◌, ◌≤◌, ℕ, List, true, Some, take, refl, sym, ap, subst, ◌∙◌, inl, inr, arith, cases_lt, eqb_tells, slice_get, Limits, Whether, TakePid, Memory}
+use Rattle.progress.proofs.Words.{◌≡◌, ◌≢◌, ◌<◌, ◌≤◌, ℕ, List, true, Some, take, refl, sym, ap, ◌∙◌, inl, inr, arith, cases_lt, eqb_tells, slice_get, Limits, Whether, TakePid, Memory}
 use Rattle.progress.proofs.Words.{Entry, IsInPhase, KeepsPhases, MovesAt, MovesPhase, Phase, cleared, free, owned, takes, splits, becomes_root, terms, under_root, holds, removes, merges}
 use Rattle.progress.proofs.Words.{unterms, reuses, PlacesNoRemoval}
 use Rattle.traces.specs.trace.Trace.{IsStep}
@@ -37,7 +37,7 @@ module _ (limits : Limits) (entries : List Entry) (keeps : KeepsPhases limits en
         let took = is_taken from owned two.holds refl in
         let e : Some one.entry ≡ Some two.entry = sym one.at ∙ ap (slice_get entries) same ∙ two.at in
         let entry : two.entry ≡ one.entry = cc in
-        not_owned (taken_only before phase one.holds took.0 (subst (λ x. IsStep x took.0 (TakePid pid) (Whether true)) entry took.1))
+        not_owned (taken_only before phase one.holds took.0 (rw (← entry) took.1))
 
     free_none : (j : ℕ) → m ≤ j → j ≤ n → IsInPhase limits entries j pid free → ⊥
     free_none j le within (inl (i, from, lt, moves, rests)) = cleared_none i pid (omega arith) (came_from limits entries keeps pid i from free cleared (λ memory entry. came_by from free) moves)

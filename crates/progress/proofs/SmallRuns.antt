@@ -1,6 +1,5 @@
 -- What hinders whom in small runs.
-use Rattle.std.proofs.Common.{◌≡◌, Some, None, true, refl, inl, inr}
-use Rattle.progress.proofs.Words.{Whether, Exchange, TakeRow, Step, Happens, memory_at, insert_and_lookup, page_life, small, Hinders}
+use Rattle.progress.proofs.Words.{◌≡◌, Some, None, true, refl, inl, inr, Whether, Exchange, TakeRow, Step, Happens, memory_at, insert_and_lookup, page_life, small, Hinders}
 use Rattle.bw_model.specs.declared.step.Link.TheVariants as link
 
 pub won : Happens small insert_and_lookup 9 (Hinders 0)

@@ -1,10 +1,10 @@
 -- An exchange that loses, and a take that misses, needs a step that another actor has taken since it read what it expects.
-use Rattle.progress.proofs.Words.{◌≡◌, ◌≢◌, ◌<◌, ◌≤◌, ℕ, List, Bool, true, false, Some, refl, sym, ap, subst, ◌∙◌, inl, inr, arith, eqb_tells, Limits, Answer, Number, Whether, StepOf}
-use Rattle.progress.proofs.Words.{Record, Entry, Step, IsRun, TakesStep, memory_at, IsExchangeOf, IsTake, TakesNone, Operation, TakesOwnStep}
+use Rattle.progress.proofs.Words.{◌≡◌, ◌≢◌, ◌<◌, ◌≤◌, ℕ, List, Bool, true, false, Some, refl, sym, ap, ◌∙◌, inl, inr, arith, eqb_tells, Limits, Answer, Number, Whether, StepOf, Record, Entry}
+use Rattle.progress.proofs.Words.{Step, IsRun, TakesStep, memory_at, IsExchangeOf, IsTake, TakesNone, Operation, TakesOwnStep, ◌==◌, Exchange}
 use Rattle.std.proofs.Math.Nat.{div-add-mod}
 use Rattle.std.specs.Int.{bit_at}
-use Rattle.std.specs.Prelude.{◌==◌, ◌/◌, ◌%◌}
-use Rattle.bw_model.specs.declared.step.Step.TheVariants.{Exchange, PidBits, RowBits, Slot}
+use Rattle.std.specs.Prelude.{◌/◌, ◌%◌}
+use Rattle.bw_model.specs.declared.step.Step.TheVariants.{PidBits, RowBits, Slot}
 use Rattle.progress.proofs.Between.{as_number, freedom, take_of, was_exchanged, was_taken}
 
 -- the step that reads the word of free PIDs, or else of free rows, in which the number is
@@ -52,12 +52,12 @@ module _ (limits : Limits) (entries : List Entry) (run : IsRun limits entries) (
       let won : StepOf Record = Exchange slot old h.3.1 in
       let own = λ (mine : TakesStep entries h.0 op.actor (Exchange slot old h.3.1) (Whether true)).
       own_between entries op h.0 n (Exchange slot old h.3.1) (Exchange slot old new) (Whether true) (Whether false) (omega arith) h.2 mine lost in
-      (h.0, after, h.2, (h.3.0, h.3.1, (λ same. none h.0 won (Whether true) after h.2 (own (subst (λ a. TakesStep entries h.0 a won (Whether true)) same h.3.2)) refl), h.3.2))
+      (h.0, after, h.2, (h.3.0, h.3.1, (λ same. none h.0 won (Whether true) after h.2 (own (rw same at h.3.2)) refl), h.3.2))
     where
       later : (k : ℕ) → m ≤ k → (new' a : ℕ) → TakesStep entries k a (Exchange slot old new') (Whether true) → m < k
       later k le new' a took = elim (eqb_tells m k) [
         | inl same ↦
-            let here = subst (λ j. TakesStep entries j op.actor (Slot slot) (Number old)) same.1 (of_own read) in
+            let here = rw same.1 at (of_own read) in
             let e : Slot slot ≡ Exchange slot old new' = (same_step entries k op.actor a (Slot slot) (Exchange slot old new') (Number old) (Whether true) here took).1 in
             absurd (cc e)
         | inr apart ↦ let other = apart.1 in omega arith
@@ -99,12 +99,12 @@ module _ (limits : Limits) (entries : List Entry) (run : IsRun limits entries) (
       let took : StepOf Record = take_of pids number in
       let own = λ (mine : TakesStep entries h.0 op.actor (take_of pids number) (Whether true)).
       own_between entries op h.0 n (take_of pids number) (take_of pids number) (Whether true) (Whether false) (omega arith) h.2 mine missed in
-      (h.0, after, h.2, (h.3.0, (λ same. none h.0 took (Whether true) after h.2 (own (subst (λ a. TakesStep entries h.0 a took (Whether true)) same h.3.1)) (is_take pids number)), h.3.1))
+      (h.0, after, h.2, (h.3.0, (λ same. none h.0 took (Whether true) after h.2 (own (rw same at h.3.1)) (is_take pids number)), h.3.1))
     where
       later : (k : ℕ) → m ≤ k → (a : ℕ) → TakesStep entries k a (take_of pids number) (Whether true) → m < k
       later k le a took = elim (eqb_tells m k) [
         | inl same ↦
-            let here = subst (λ j. TakesStep entries j op.actor (look_of pids number) (Number bits)) same.1 (of_own read) in
+            let here = rw same.1 at (of_own read) in
             absurd (no_look pids number number (same_step entries k op.actor a (look_of pids number) (take_of pids number) (Number bits) (Whether true) here took).1)
         | inr apart ↦ let other = apart.1 in omega arith
       ]

@@ -1,8 +1,8 @@
 -- How many places from one on pass a test, and sums of numbers.
-use Rattle.std.proofs.Common.{◌≡◌, ◌<◌, ◌≤◌, ◌+◌, ◌-◌, ◌*◌, ◌++◌, ℕ, zero, suc, List, [], ◌∷◌, Option, None, Some, Bool, true, false, cond, drop, length, take, refl, ap, ◌∙◌, inl, inr, arith}
-use Rattle.progress.proofs.Words.{mul-add, eqb_tells, All-push, All-weaker, fold-append, All, count_by, IsStrictlyIncreasing, ◌==◌, slice_get, take-one, increasing_push, pushed_length}
+use Rattle.progress.proofs.Words.{◌≡◌, ◌<◌, ◌≤◌, ◌+◌, ◌-◌, ◌*◌, ◌++◌, ℕ, zero, suc, List, [], ◌∷◌, Option, None, Some, Bool, true, false, cond, drop, length, take, refl, ap, ◌∙◌, inl, inr}
+use Rattle.progress.proofs.Words.{arith, mul-add, eqb_tells, All-push, fold-append, All, count_by, IsStrictlyIncreasing, ◌==◌, slice_get, take-one, increasing_push, pushed_length, take_past}
 use Rattle.progress.proofs.Counted.{AreDistinct, Each, among, distinct_without, each_without, without}
-use Rattle.traces.proofs.Cuts.{get_drop, take_past}
+use Rattle.traces.proofs.Cuts.{get_drop}
 
 -- how many of the first n places from m on pass the test
 abbrev pub tally : (ℕ → Bool) → ℕ → ℕ → ℕ
@@ -34,15 +34,18 @@ pub tally_same : (t u : ℕ → Bool) (m k n : ℕ) → ((i : ℕ) → i < n →
 tally_same t u m k zero each = refl
 tally_same t u m k (suc n) each =
     let rest = tally_same t u m k n (λ i lt. each i (omega arith)) in
-    let here : cond {A = ℕ} (t (m + n)) 1 0 ≡ cond (u (k + n)) 1 0 = ap (λ (b : Bool). cond {A = ℕ} b 1 0) (each n (omega arith)) in
+    let here : cond {A = ℕ} (t (m + n)) 1 0 ≡ cond (u (k + n)) 1 0 = rw (each n (omega arith)) in
     omega (arith, rest, here)
 
 pub tally_none : (t : ℕ → Bool) (m n : ℕ) → ((i : ℕ) → i < n → t (m + i) ≡ false) → tally t m n ≡ 0
 tally_none t m zero each = refl
 tally_none t m (suc n) each =
     let rest = tally_none t m n (λ i lt. each i (omega arith)) in
-    let here : cond {A = ℕ} (t (m + n)) 1 0 ≡ 0 = ap (λ (b : Bool). cond {A = ℕ} b 1 0) (each n (omega arith)) in
+    let here : cond {A = ℕ} (t (m + n)) 1 0 ≡ 0 = rw (each n (omega arith)) in
     omega (arith, rest, here)
+
+pub itself : (a : ℕ) → (a == a) ≡ true
+itself a = elim (eqb_tells a a) [ inl same ↦ same.0 | inr apart ↦ absurd (apart.1 refl) ]
 
 pub one_at_most : (b : Bool) → cond b 1 0 ≤ 1
 one_at_most true = omega arith
@@ -61,7 +64,7 @@ module _ (t : ℕ → Bool) (m : ℕ) where
       let rest : length (without n js) ≤ tally t m n = tally_most n (without n js) (distinct_without n js distinct)
       (each_without (λ j. (j < suc n) × (t (m + j) ≡ true)) (λ j. (j < n) × (t (m + j) ≡ true)) n js (λ k h other. (let lt : k < suc n = h.0 in omega (arith, lt, other), h.1)) distinct each) in
       elim (among n (λ j. (j < suc n) × (t (m + j) ≡ true)) js each) [
-        | inl there ↦ let here : cond {A = ℕ} (t (m + n)) 1 0 ≡ 1 = ap (λ (b : Bool). cond {A = ℕ} b 1 0) there.0.1 in omega (arith, rest, there.1, here)
+        | inl there ↦ let here : cond {A = ℕ} (t (m + n)) 1 0 ≡ 1 = rw there.0.1 in omega (arith, rest, there.1, here)
         | inr none ↦ omega (arith, rest, none)
       ]
 
@@ -77,22 +80,21 @@ module _ (t : ℕ → Bool) (m : ℕ) where
     where
       longer : All (λ k. (m ≤ k) × (k < m + suc n) × (t k ≡ true)) before.places
       longer =
-          All-weaker (λ k. (m ≤ k) × (k < m + n) × (t k ≡ true)) (λ k. (m ≤ k) × (k < m + suc n) × (t k ≡ true))
-          (λ k h. (h.0, (let lt : k < m + n = h.1 in omega arith), h.2)) before.places before.each
+          λ i d in_list. let h = before.each i d in_list in (h.0, (let lt = h.1 in omega (arith, lt)), h.2)
 
       by_test : (b : Bool) → t (m + n) ≡ b → Listed (suc n)
       by_test false e = record {
         places = before.places;
         increasing = before.increasing;
         each = longer;
-        counts = let here : cond {A = ℕ} (t (m + n)) 1 0 ≡ 0 = ap (λ (b : Bool). cond {A = ℕ} b 1 0) e in let old = before.counts in omega (arith, here, old);
+        counts = let here : cond {A = ℕ} (t (m + n)) 1 0 ≡ 0 = rw e in let old = before.counts in omega (arith, here, old);
       }
       by_test true e = record {
         places = before.places ++ (m + n) ∷ [];
-        increasing = increasing_push before.places (m + n) before.increasing (All-weaker (λ k. (m ≤ k) × (k < m + n) × (t k ≡ true)) (λ k. k < m + n) (λ k h. h.1) before.places before.each);
+        increasing = increasing_push before.places (m + n) before.increasing (λ i d lt. (before.each i d lt).1);
         each = All-push (λ k. (m ≤ k) × (k < m + suc n) × (t k ≡ true)) before.places (m + n) longer (omega arith, omega arith, e);
         counts =
-            let here : cond {A = ℕ} (t (m + n)) 1 0 ≡ 1 = ap (λ (b : Bool). cond {A = ℕ} b 1 0) e in
+            let here : cond {A = ℕ} (t (m + n)) 1 0 ≡ 1 = rw e in
             let old = before.counts in
             let long = pushed_length before.places (m + n) in
             omega (arith, here, old, long);
@@ -159,11 +161,11 @@ sum_one b (suc n) lt = elim (eqb_tells b n) [
       let none = sum_none (λ a. cond (b == a) 1 0) n
       (λ i below. elim (eqb_tells b i) [ inl e ↦ absurd (let f : b ≡ n = same.1 in let g : b ≡ i = e.1 in omega arith) | inr apart ↦ ap (λ (t : Bool). cond {A = ℕ} t 1 0) apart.0 ])
       in
-      let here : cond {A = ℕ} (b == n) 1 0 ≡ 1 = ap (λ (t : Bool). cond {A = ℕ} t 1 0) same.0 in
+      let here : cond {A = ℕ} (b == n) 1 0 ≡ 1 = rw same.0 in
       omega (arith, none, here)
   | inr apart ↦
       let rest = sum_one b n (let ne = apart.1 in omega arith) in
-      let here : cond {A = ℕ} (b == n) 1 0 ≡ 0 = ap (λ (t : Bool). cond {A = ℕ} t 1 0) apart.0 in
+      let here : cond {A = ℕ} (b == n) 1 0 ≡ 0 = rw apart.0 in
       omega (arith, rest, here)
 ]
 
@@ -175,5 +177,5 @@ sum_worth worth more f (suc n) =
     let grown : suc n * more ≡ n * more + more = omega arith in
     let e : sum f n + f n + suc n * more ≡ (sum f n + n * more) + (f n + more) = omega (arith, grown) in
     let both : worth * ((sum f n + n * more) + (f n + more)) ≡ worth * (sum f n + n * more) + worth * (f n + more) = mul-add worth (sum f n + n * more) (f n + more) in
-    let same : worth * (sum f n + f n + suc n * more) ≡ worth * ((sum f n + n * more) + (f n + more)) = ap (λ k. worth * k) e in
+    let same : worth * (sum f n + f n + suc n * more) ≡ worth * ((sum f n + n * more) + (f n + more)) = rw e in
     omega (arith, rest, both, same)

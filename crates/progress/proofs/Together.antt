@@ -1,14 +1,13 @@
 -- All operations together take few steps, where nobody has placed a removal.
-use Rattle.std.proofs.Common.{◌≡◌, ◌<◌, ◌≤◌, ◌+◌, ◌-◌, ◌*◌, ◌⊎◌, ℕ, zero, suc, List, [], ◌∷◌, Option, None, Some, Bool, true, false, cond, take, refl, sym, ap, ◌∙◌, inl, inr, arith}
-use Rattle.progress.proofs.Words.{mul-add, mul-le-mul_left, cases_lt, eqb_tells, All-weaker, count_by, ◌==◌, slice_get, Limits, Command, Entry, Begin}
-use Rattle.progress.proofs.Words.{Step, cause_worth, IsRun, Happens}
-use Rattle.progress.proofs.Words.{command_of, commands_after, HasFewChanges, IsDirect, KeepsPhases, is_step_of, IsOperation, IsOwnStep, Operation}
-use Rattle.progress.proofs.Words.{get_take, take_past}
-use Rattle.linearization.specs.Progress.{AreAmong, ChangesTree, is_begin, is_end, is_step, steps_from, takes_number}
-use Rattle.linearization.specs.UntilRemoval.{AreLockFreeUntilRemoval, PlacesNoRemoval}
+use Rattle.progress.proofs.Words.{◌≡◌, ◌<◌, ◌≤◌, ◌+◌, ◌-◌, ◌*◌, ◌⊎◌, ℕ, zero, suc, List, [], ◌∷◌, Option, None, Some, Bool, true, false, cond, take, refl, sym, ap, ◌∙◌, inl, inr, arith}
+use Rattle.progress.proofs.Words.{mul-add, mul-le-mul_left, cases_lt, eqb_tells, count_by, ◌==◌, slice_get, Limits, Command, Entry, Begin, Step, cause_worth, IsRun, command_of, commands_after}
+use Rattle.progress.proofs.Words.{HasFewChanges, IsDirect, KeepsPhases, is_step_of, IsOperation, IsOwnStep, Operation, get_take, take_past, AreAmong, ChangesTree, is_begin, steps_from}
+use Rattle.progress.proofs.Words.{takes_number, PlacesNoRemoval}
+use Rattle.linearization.specs.Progress.{is_end, is_step}
+use Rattle.linearization.specs.UntilRemoval.{AreLockFreeUntilRemoval}
 use Rattle.progress.proofs.Begun.{LastBegin, actor_below, begins_here, command_next, last_begin, one_on}
 use Rattle.progress.proofs.Hindering.{happens, hinder, hinder_parts, is_change, paid_by_hinder}
-use Rattle.progress.proofs.Tallies.{counted_range, counted_taken, listed, one_at_most, passes, passes_in, sum, sum_both, sum_less, sum_none, sum_one, sum_worth}
+use Rattle.progress.proofs.Tallies.{counted_range, counted_taken, listed, one_at_most, passes, passes_in, sum, sum_both, sum_less, sum_none, sum_one, sum_worth, itself}
 use Rattle.progress.proofs.Tallies.{tally, tally_grows, tally_none, tally_split}
 
 -- the entry begins an operation of the actor's
@@ -110,7 +109,7 @@ module _ (limits : Limits) (entries : List Entry) (run : IsRun limits entries) (
       span (suc k) le unended = elim (mine (start + k)) [
         | inl isnt ↦
             let rest = span k (omega arith) (λ later d after before. unended later d after (omega arith)) in
-            let here : cond {A = ℕ} (steps (start + k)) 1 0 ≡ 0 = ap (λ (b : Bool). cond {A = ℕ} b 1 0) isnt in
+            let here : cond {A = ℕ} (steps (start + k)) 1 0 ≡ 0 = rw isnt in
             let more = tally_grows (hinder limits entries a) start k (suc k) (omega arith) in
             let grown : worth * (tally (hinder limits entries a) start k + 1) ≤ worth * (tally (hinder limits entries a) start (suc k) + 1) = mul-le-mul_left
             (worth) (omega (arith, more)) in
@@ -206,7 +205,7 @@ module _ (limits : Limits) (entries : List Entry) (run : IsRun limits entries) (
             omega (arith, early, here, split_steps, joined, grown)
           where
             is_mine : (a == a) ≡ true
-            is_mine = elim (eqb_tells a a) [ inl same ↦ same.0 | inr apart ↦ absurd (apart.1 refl) ]
+            is_mine = itself a
 
             parts : (t : ℕ → Bool) → tally t 0 n ≡ tally t 0 start + tally t start (n - start)
             parts t =
@@ -220,8 +219,7 @@ module _ (limits : Limits) (entries : List Entry) (run : IsRun limits entries) (
       let list = listed (is_change limits entries) 0 n in
       let among : AreAmong limits entries 0 n ChangesTree list.places = record {
         increasing = list.increasing;
-        each = All-weaker (λ k. (0 ≤ k) × (k < 0 + n) × (is_change limits entries k ≡ true)) (λ k. (0 ≤ k) × (k ≤ n) × Happens limits entries k ChangesTree)
-            (λ k h. (h.0, (let lt : k < 0 + n = h.1 in omega arith), happens limits entries k h.2)) list.places list.each;
+        each = λ i d in_list. let h = list.each i d in_list in (h.0, (let lt = h.1 in omega (arith, lt)), happens limits entries _ h.2);
       } in
       let most = few.few n list.places among in
       rw list.counts at most
@@ -270,14 +268,14 @@ module _ (limits : Limits) (entries : List Entry) (run : IsRun limits entries) w
       zeroed = omega arith
 
       mark : (p : Entry → Bool) (o : Option Entry) → slice_get entries n ≡ o → cond {A = ℕ} (passes_in p entries (0 + n)) 1 0 ≡ cond (passes p o) 1 0
-      mark p o at = ap (λ (x : Option Entry). cond {A = ℕ} (passes p x) 1 0) (ap (slice_get entries) zeroed ∙ at)
+      mark p o at = rw (zeroed, at)
 
       by_entry : tally (passes_in (begin_of a) entries) 0 n ≤ tally (passes_in (end_of a) entries) 0 n + under_way (command_of (take n entries) a) → (o : Option Entry) → slice_get entries n ≡ o
           → tally (passes_in (begin_of a) entries) 0 n + cond (passes_in (begin_of a) entries (0 + n)) 1 0 ≤ tally (passes_in (end_of a) entries) 0 n + cond
           (passes_in (end_of a) entries (0 + n)) 1 0 + under_way (command_of (take (suc n) entries) a)
       by_entry before None at =
           let begins : cond {A = ℕ} (passes_in (begin_of a) entries (0 + n)) 1 0 ≡ 0 = mark (begin_of a) None at in
-          let now : under_way (command_of (take (suc n) entries) a) ≡ under_way (command_of (take n entries) a) = ap (λ es. under_way (command_of es a)) (take_past entries n at) in
+          let now : under_way (command_of (take (suc n) entries) a) ≡ under_way (command_of (take n entries) a) = rw (take_past entries n at) in
           omega (arith, before, begins, now)
       by_entry before (Some (Begin b c)) at = elim (eqb_tells a b) [
         | inl same ↦

@@ -1,21 +1,16 @@
 -- A writer's meetings among the entries of others, and its own, that change the tree.
-use Rattle.std.proofs.Common.{◌≡◌, ◌<◌, ◌≤◌, ◌+◌, ◌*◌, ◌⊎◌, ◌++◌, ℕ, List, [], ◌∷◌, Bool, true, false, cond, Some, None, refl, sym, ap, subst, ◌∙◌, inl, inr, arith}
-use Rattle.progress.proofs.Words.{add-mul, eqb_tells, if◌then◌else◌, ◌==◌, Limits, Answer, Number, Whether, Exchange, StepOf, Memory, Record, Entry, Begin, Step, knows, Recalled, IsNext}
-use Rattle.progress.proofs.Words.{IsAnswer, IsChainOf, IsTrue, memory_of, WayState, Root, Page, Visit, VisitState, is_below, low_in, IsState, IsInTree, Key, either, changes_tree}
-use Rattle.std.specs.Prelude.{◌&&◌}
-use Rattle.linearization.specs.Direct.{IsDirect}
-use Rattle.round_model.specs.Courses.{WriteGoal, Seek, Left, Merge, Unterm}
+use Rattle.progress.proofs.Words.{◌≡◌, ◌<◌, ◌≤◌, ◌+◌, ◌*◌, ◌⊎◌, ◌++◌, ℕ, List, [], ◌∷◌, Bool, true, false, cond, Some, None, refl, sym, ap, ◌∙◌, inl, inr, arith, add-mul, eqb_tells}
+use Rattle.progress.proofs.Words.{if◌then◌else◌, ◌==◌, Limits, Answer, Number, Whether, Exchange, StepOf, Memory, Record, Entry, Begin, Step, knows, Recalled, IsNext, IsAnswer, memory_of}
+use Rattle.progress.proofs.Words.{WayState, Root, Page, Visit, VisitState, low_in, IsState, IsInTree, either, changes_tree, and-false, IsDirect, WriteGoal, Merge, Unterm, Slot, Row, WriteRound}
+use Rattle.progress.proofs.Words.{above_empty, level_in, few_meets, AtChange, InRound, IsLawfulWriting, StepsOn, WriterMoment, WriterState, meets, meets_at, IsOthers}
+use Rattle.progress.proofs.Tallies.{one_at_most, itself}
+use Rattle.round_model.specs.Courses.{Seek, Left}
 use Rattle.round_model.specs.Descents as way
-use Rattle.round_model.specs.Visits.{Slot, Row}
 use Rattle.round_model.specs.Visits as seen
-use Rattle.round_model.specs.WriteRounds.{BeginsToWrite, VisitsToWrite, WriteRound, wanted_step}
+use Rattle.round_model.specs.WriteRounds.{BeginsToWrite, VisitsToWrite, wanted_step}
 use Rattle.round_model.specs.WriteRounds as write
-use Rattle.round_model.proofs.PageLaws.{above_empty}
-use Rattle.traces.specs.chain.Chains.{level_in}
-use Rattle.progress.specs.WritersAmong.{few_meets, AfterChange, AreLawfulWritings, AtChange, Decides, HasDecided, InRound, IsLawfulWriting, IsOtherWriting, IsOwnWriting}
-use Rattle.progress.specs.WritersAmong.{ShowsWriter, StepsAtChange, StepsInRound, StepsOn, WriterMoment, WriterState, WritersMeetFew, changes_among, meets, meets_at}
-use Rattle.progress.specs.ReadersAmong.{IsOthers}
-use Rattle.round_model.specs.Walks.{HasNoneRead}
+use Rattle.progress.specs.WritersAmong.{AfterChange, AreLawfulWritings, Decides, HasDecided, IsOtherWriting, IsOwnWriting}
+use Rattle.progress.specs.WritersAmong.{ShowsWriter, StepsAtChange, StepsInRound, WritersMeetFew, changes_among}
 use Rattle.progress.proofs.rounds.Agreeing.{visit_same}
 use Rattle.progress.proofs.rounds.Counts.{many}
 use Rattle.progress.proofs.rounds.Ending.{many_is_count}
@@ -24,15 +19,11 @@ use Rattle.progress.proofs.rounds.Pages.{Standing}
 use Rattle.progress.proofs.rounds.Unchanged.{IsSame, none_wins, reached_in, same_next}
 use Rattle.progress.proofs.meetings.Gone.{has_removal}
 use Rattle.progress.proofs.meetings.Meeting.{Begins, MeetsFew, StandsAt}
-use Rattle.progress.proofs.meetings.Stepping.{FitsAt, FitsRound, IsStale, Stands, begins_few, fresh_after, fresh_responds, meets_now, stale_after, stale_responds}
+use Rattle.progress.proofs.meetings.Stepping.{FitsAt, FitsRound, Stands, begins_few, fresh_after, fresh_responds, meets_now, stale_after, stale_responds}
 
 -- a change of the tree meets nothing
 change_meets : (memory : Memory) (actor : ℕ) (entry : Entry) → changes_tree memory entry ≡ true → meets_at actor entry ≡ false
-change_meets memory actor (Step other (Exchange slot old new) (Whether true) reply) e = by_bool (other == actor)
-  where
-    by_bool : (b : Bool) → b && false ≡ false
-    by_bool true = refl
-    by_bool false = refl
+change_meets memory actor (Step other (Exchange slot old new) (Whether true) reply) e = and-false (other == actor)
 change_meets memory actor entry e = absurd (cc)
 
 -- nor does an entry of another actor
@@ -41,14 +32,10 @@ others_meet actor (Begin other command) others = refl
 others_meet actor (Step other asked answer reply) others = elim (eqb_tells other actor) [ inl same ↦ absurd (others same.1) | inr apart ↦ rw apart.0 refl ]
 
 own_meet : (actor : ℕ) (asked : StepOf Record) (answer : Answer Record) → cond {A = ℕ} (meets_at actor (Step actor asked answer None)) 1 0 ≡ meets_now asked answer
-own_meet actor asked answer = elim (eqb_tells actor actor) [ inl same ↦ rw same.0 refl | inr apart ↦ absurd (apart.1 refl) ]
+own_meet actor asked answer = rw (itself actor)
 
 calm_none : (asked : StepOf Record) (answer : Answer Record) → meets asked answer ≡ false → meets_now asked answer ≡ 0
-calm_none asked answer e = ap (λ (b : Bool). cond {A = ℕ} b 1 0) e
-
-one_now : (b : Bool) → cond {A = ℕ} b 1 0 ≤ 1
-one_now true = omega arith
-one_now false = omega arith
+calm_none asked answer e = rw e
 
 module _ (limits : Limits) (actor : ℕ) where
   -- a memory in which the tree stands as it does now, and how often the writer meets one from here on, as long as it stands so
@@ -70,7 +57,7 @@ module _ (limits : Limits) (actor : ℕ) where
         by_goal : (goal : WriteGoal) → BeginsToWrite round.limits round.key round.floor (knows entries actor) goal → Begins now goal round.key round.floor few_meets
         by_goal Seek b = let le : 18 ≤ 21 = omega arith in le
         by_goal (Left pid) b = inr (
-          subst (λ (k : Key). IsTrue (is_below [] k)) b.low
+          rw (← b.low)
               (above_empty b.removed.chain b.gone.in_hand.sound.is_chain.fitted b.gone.gone),
           (let le : 19 ≤ 21 = omega arith in le),
         )
@@ -78,8 +65,8 @@ module _ (limits : Limits) (actor : ℕ) where
         by_goal (Unterm parent left) b = absurd b
 
         by_state : (at : WayState) → round.state ≡ at → write.ShowsState round (knows entries actor) r at → Stands now (InRound round) few_meets
-        by_state Root e s = inl (subst (λ (a : WayState). StandsAt now round.goal round.key round.floor round.parent round.left a few_meets) (sym e) (s.1, s.2, by_goal round.goal s.3))
-        by_state (Page visit) e s = inr (subst (λ (a : WayState). IsStale now a few_meets) (sym e) (let le : 21 ≤ 21 + cond {A = ℕ} (has_removal visit.part) 1 0 = omega arith in le))
+        by_state Root e s = inl (rw e (s.1, s.2, by_goal round.goal s.3))
+        by_state (Page visit) e s = inr (rw e (let le : 21 ≤ 21 + cond {A = ℕ} (has_removal visit.part) 1 0 = omega arith in le))
 
     here_anyhow : (writer : WriterState) (r : Recalled) → ShowsWriter writer (knows entries actor) r → Here entries state writer few_meets
     here_anyhow writer r shows = (now, same_now, stands_anyhow writer r shows)
@@ -90,10 +77,9 @@ module _ (limits : Limits) (actor : ℕ) where
       where
         by_visit : (visit : Visit) (at : VisitState) → visit.state ≡ at → VisitsToWrite round.limits round.key round.floor round.splits round.goal round.parent round.left (knows entries actor) r visit
             → FitsAt (memory_of limits entries) visit at
-        by_visit visit Slot e v = subst (λ (s : VisitState). HasNoneRead s visit.part) e v.seeks.on_way.bare
+        by_visit visit Slot e v = rw e at v.seeks.on_way.bare
         by_visit visit (Row head row) e v =
-            let reads : seen.Reads (knows entries actor) visit.pid head visit.part row =
-            subst (λ (s : VisitState). seen.ShowsState (knows entries actor) visit.pid visit.part s) e v.seeks.on_way.shows.stands in
+            let reads : seen.Reads (knows entries actor) visit.pid head visit.part row = rw e at v.seeks.on_way.shows.stands in
             let f = read_front limits entries state actor visit.pid head row visit.part reads.in_slot reads.seen in
             (f.0, f.1, f.2.fits)
 
@@ -108,10 +94,10 @@ module _ (limits : Limits) (actor : ℕ) where
       where
         by_state : (at : WayState) → write.ShowsState round (knows entries actor) r at → StandsAt w round.goal round.key round.floor round.parent round.left at most
             → IsAnswer (memory_of limits entries) (way.wanted_at at) answer → IsAnswer w.memory (way.wanted_at at) answer
-        by_state Root s f told = told ∙ ap (λ (n : ℕ). Number n) same.root
+        by_state Root s f told = told ∙ ap Number same.root
         by_state (Page visit) s f told =
             visit_same limits entries state actor w same round.limits r visit (record { level = s.level; low = s.low; earlier = s.earlier; on_way = s.seeks.on_way })
-            (inr (record { chain = f.page.chain; left = f.left; is_chain = subst (λ (n : ℕ). IsChainOf w.memory n f.page.chain) f.is_pid f.stands.stands; is_left = f.is_left; at_head = f.at_head }))
+            (inr (record { chain = f.page.chain; left = f.left; is_chain = rw (← f.is_pid) f.stands.stands; is_left = f.is_left; at_head = f.at_head }))
             answer visit.state refl told
 
     -- a step that doesn't change the tree
@@ -123,7 +109,7 @@ module _ (limits : Limits) (actor : ℕ) where
       in_round : (round : WriteRound) (r : Recalled) (new : WriterState) (most : ℕ) (asked : StepOf Record) (answer : Answer Record) → write.Shows round (knows entries actor) r
           → Stands w (InRound round) most → StepsInRound round asked answer new → IsAnswer (memory_of limits entries) asked answer → Left_with new most asked answer
       in_round round r new most asked answer shows stands steps told =
-          subst (λ (s : StepOf Record). Left_with new most s answer) (sym steps.wanted) (elim stands [
+          rw steps.wanted (elim stands [
             | inl few ↦
                 let t = fresh_responds w round steps.next answer steps.end steps.responds most few (answer_same w same round r most shows few answer real) in
                 (t.0, t.1, fresh_after w steps.next steps.end new t.0 t.2 steps.goes)
@@ -133,7 +119,7 @@ module _ (limits : Limits) (actor : ℕ) where
           ])
         where
           real : IsAnswer (memory_of limits entries) (wanted_step round) answer
-          real = subst (λ (s : StepOf Record). IsAnswer (memory_of limits entries) s answer) steps.wanted told
+          real = rw (← steps.wanted) told
 
       -- an exchange that expects what the slot holds would change the tree
       no_loss : (slot expected : ℕ) (asked : StepOf Record) (answer : Answer Record) → entry ≡ Step actor asked answer None → w.memory.slots slot ≡ expected
@@ -144,7 +130,7 @@ module _ (limits : Limits) (actor : ℕ) where
           entry_is = is ∙ ap (λ (s : StepOf Record). Step actor s answer None) d.is
 
           told : IsNext limits entries (Step actor (Exchange slot expected d.number) answer None)
-          told = subst (λ (e : Entry). IsNext limits entries e) entry_is next
+          told = rw entry_is at next
 
           wins : (memory_of limits entries).slots slot ≡ expected → entry ≡ Step actor (Exchange slot expected d.number) (Whether true) None
           wins has = elim (eqb_tells ((memory_of limits entries).slots slot) expected) [
@@ -156,8 +142,7 @@ module _ (limits : Limits) (actor : ℕ) where
           at_root zeroth =
               let has : (memory_of limits entries).slots slot ≡ expected = ap (memory_of limits entries).slots zeroth ∙ same.root ∙ ap w.memory.slots (sym zeroth) ∙ holds in
               let won : entry ≡ Step actor (Exchange 0 expected d.number) (Whether true) None = wins has ∙ ap (λ (n : ℕ). Step actor (Exchange n expected d.number) (Whether true) None) zeroth in
-              let on : changes_tree (memory_of limits entries) (Step actor (Exchange 0 expected d.number) (Whether true) None) ≡ false =
-              subst (λ (e : Entry). changes_tree (memory_of limits entries) e ≡ false) won off in
+              let on : changes_tree (memory_of limits entries) (Step actor (Exchange 0 expected d.number) (Whether true) None) ≡ false = rw won at off in
               cc on
 
           at_page : (knows entries actor).read.heads slot ≡ Some expected → 0 < slot → ⊥
@@ -175,20 +160,20 @@ module _ (limits : Limits) (actor : ℕ) where
       after_change : (new : WriterState) (most : ℕ) → 18 ≤ most → AfterChange new → Stands w new most
       after_change new most few after = elim after [
         | inl begins ↦ begins_few w new most begins few
-        | inr on ↦ subst (λ (s : WriterState). Stands w s most) (sym on.2) (inr (inl (refl, few)))
+        | inr on ↦ rw on.2 (inr (inl (refl, few)))
       ]
 
       decided : (slot expected : ℕ) (taken : Bool) (new : WriterState) (most : ℕ) (asked : StepOf Record) (answer : Answer Record) → entry ≡ Step actor asked answer None
           → Stands w (AtChange slot expected taken) most → HasDecided (knows entries actor) slot expected taken asked answer → AfterChange new → Left_with new most asked answer
       decided slot expected taken new most asked answer is stands on after = elim stands [
-        | inl holds ↦ absurd (no_loss slot expected asked answer is holds.1 holds.2 (subst (λ (t : Bool). HasDecided (knows entries actor) slot expected t asked answer) holds.0 on))
+        | inl holds ↦ absurd (no_loss slot expected asked answer is holds.1 holds.2 (rw holds.0 at on))
         | inr more ↦ elim more [
           | inl was ↦
-              let calm : meets asked answer ≡ false = subst (λ (t : Bool). HasDecided (knows entries actor) slot expected t asked answer) was.0 on in
+              let calm : meets asked answer ≡ false = rw was.0 at on in
               let none = calm_none asked answer calm in
               (most, omega (arith, none), after_change new most was.1 after)
           | inr few ↦
-              let one = one_now (meets asked answer) in
+              let one = one_at_most (meets asked answer) in
               let le : 18 ≤ 18 = omega arith in
               (18, omega (arith, few, one), after_change new 18 le after)
         ]
@@ -197,7 +182,7 @@ module _ (limits : Limits) (actor : ℕ) where
       at_change : (slot expected : ℕ) (taken : Bool) (new : WriterState) (most : ℕ) (asked : StepOf Record) (answer : Answer Record) → entry ≡ Step actor asked answer None
           → Stands w (AtChange slot expected taken) most → StepsAtChange (knows entries actor) slot expected taken asked answer new → Left_with new most asked answer
       at_change slot expected taken new most asked answer is stands steps = elim steps.goes [
-        | inl same_as ↦ let none = calm_none asked answer same_as.0 in (most, omega (arith, none), subst (λ (s : WriterState). Stands w s most) (sym same_as.1) stands)
+        | inl same_as ↦ let none = calm_none asked answer same_as.0 in (most, omega (arith, none), rw same_as.1 stands)
         | inr on ↦ decided slot expected taken new most asked answer is stands on.0 on.1
       ]
 
@@ -229,16 +214,16 @@ module _ (limits : Limits) (actor : ℕ) where
     changes = changes_among limits (entries ++ moment.entry ∷ []) moments
 
     none_more : changes_tree (memory_of limits entries) moment.entry ≡ false → changes_among limits entries (moment ∷ moments) ≡ changes
-    none_more off = let zeroth : ◌≡◌ {A = ℕ} (if changes_tree (memory_of limits entries) moment.entry then 1 else 0) 0 = ap (λ (b : Bool). if◌then◌else◌ {A = ℕ} b 1 0) off in omega (arith, zeroth)
+    none_more off = let zeroth : ◌≡◌ {A = ℕ} (if changes_tree (memory_of limits entries) moment.entry then 1 else 0) 0 = rw off in omega (arith, zeroth)
 
     one_more : changes_tree (memory_of limits entries) moment.entry ≡ true → changes_among limits entries (moment ∷ moments) ≡ 1 + changes
-    one_more on = let one : ◌≡◌ {A = ℕ} (if changes_tree (memory_of limits entries) moment.entry then 1 else 0) 1 = ap (λ (b : Bool). if◌then◌else◌ {A = ℕ} b 1 0) on in omega (arith, one)
+    one_more on = let one : ◌≡◌ {A = ℕ} (if changes_tree (memory_of limits entries) moment.entry then 1 else 0) 1 = rw on in omega (arith, one)
 
     -- the entry changes the tree
     changed : changes_tree (memory_of limits entries) moment.entry ≡ true → Goal
     changed on =
         let few = anew moments (entries ++ moment.entry ∷ []) m.later moment.state are rest in
-        let none : cond {A = ℕ} (is_meeting moment) 1 0 ≡ 0 = ap (λ (b : Bool). cond {A = ℕ} b 1 0) (change_meets (memory_of limits entries) actor moment.entry on) in
+        let none : cond {A = ℕ} (is_meeting moment) 1 0 ≡ 0 = rw (change_meets (memory_of limits entries) actor moment.entry on) in
         let more = ap (λ (n : ℕ). n * few_meets) (one_more on) in
         let product = add-mul 1 changes few_meets in
         omega (arith, few, none, more, product)
@@ -253,15 +238,15 @@ module _ (limits : Limits) (actor : ℕ) where
 
     own_case : IsOwnWriting actor (knows entries actor) writer moment → changes_tree (memory_of limits entries) moment.entry ≡ false → Goal
     own_case own off =
-        let next : IsNext limits entries (Step actor own.step own.answer None) = subst (λ (e : Entry). IsNext limits entries e) own.entry_is m.next in
+        let next : IsNext limits entries (Step actor own.step own.answer None) = rw own.entry_is at m.next in
         let s = own_step entries state moment.entry off m.next m.later m.direct here.0 here.1 writer moment.state m.r most own.step own.answer own.entry_is m.shows here.2 own.steps next.2 in
-        let one : cond {A = ℕ} (is_meeting moment) 1 0 ≡ meets_now own.step own.answer = ap (λ (e : Entry). cond {A = ℕ} (meets_at actor e) 1 0) own.entry_is ∙ own_meet actor own.step own.answer in
+        let one : cond {A = ℕ} (is_meeting moment) 1 0 ≡ meets_now own.step own.answer = rw own.entry_is (own_meet actor own.step own.answer) in
         unchanged off s.0 (meets_now own.step own.answer) s.1 one s.2
 
     other_case : IsOtherWriting actor writer moment → changes_tree (memory_of limits entries) moment.entry ≡ false → Goal
     other_case other off =
-        let one : cond {A = ℕ} (is_meeting moment) 1 0 ≡ 0 = ap (λ (b : Bool). cond {A = ℕ} b 1 0) (others_meet actor moment.entry other.others) in
-        unchanged off most 0 (omega arith) one (subst (λ (s : WriterState). Stands here.0 s most) (sym other.stays) here.2)
+        let one : cond {A = ℕ} (is_meeting moment) 1 0 ≡ 0 = rw (others_meet actor moment.entry other.others) in
+        unchanged off most 0 (omega arith) one (rw other.stays here.2)
 
     advance : Goal
     advance = either (changes_tree (memory_of limits entries) moment.entry) changed (λ off. elim m.goes [ inl own ↦ own_case own off | inr other ↦ other_case other off ])

@@ -1,6 +1,7 @@
 -- Chains with a removal: it is the newest record, and there is one at most.
-use Rattle.std.proofs.Common.{◌≡◌, ◌≤◌, ◌+◌, ◌++◌, ℕ, List, [], ◌∷◌, length, Bool, true, false, cond, None, Some, refl, sym, ap, ◌∙◌, arith}
-use Rattle.progress.proofs.Words.{◌||◌, Child, Record, is_removed, next_row, either}
+use Rattle.progress.proofs.Words.{◌≡◌, ◌≤◌, ◌+◌, ◌++◌, ℕ, List, [], ◌∷◌, length, Bool, true, false, cond, None, Some, refl, sym, ap, ◌∙◌, arith, ◌||◌, Child, Record, is_removed, next_row}
+use Rattle.progress.proofs.Words.{either, IsFitted}
+use Rattle.std.proofs.Math.Bool.{or-false, or_assoc}
 use Rattle.std.specs.declared.cmp.Ordering.TheVariants.{Less}
 use Rattle.bw_model.specs.Bytes.{key_cmp}
 use Rattle.base_page.specs.declared.item.Content.{Content}
@@ -13,7 +14,7 @@ use Rattle.base_page.proofs.KeyLaws.{differs_above}
 use Rattle.deltas.specs.declared.record.Record.TheVariants as kind
 use Rattle.deltas.specs.Records.{removed_after}
 use Rattle.traces.proofs.FittedLaws.{found_first}
-use Rattle.traces.specs.chain.Fitted.{FitsOver, IsFitted}
+use Rattle.traces.specs.chain.Fitted.{FitsOver}
 use Rattle.traces.specs.chain.Unheld.{IsUnheld}
 use Rattle.traces.specs.discipline.Recalled.{is_removal}
 use Rattle.structure_changes.proofs.Places.{from_made, made}
@@ -23,14 +24,7 @@ use Rattle.structure_changes.specs.Sizes.{HasItems, HasNoneHeld}
 -- nothing fits over a removed page
 none_over : (newest : Record) (under : List Record) → FitsOver under newest → is_removed under ≡ true → ⊥
 none_over (kind.Base page) under f e = let d = f.delta in cc
-none_over (kind.Put put) under f e = let alive = f.fits.alive in let is = f.makes.removed in cc
-none_over (kind.Delete delete) under f e = let alive = f.fits.alive in let is = f.makes.removed in cc
-none_over (kind.Split split) under f e = let alive = f.fits.alive in let is = f.makes.removed in cc
-none_over (kind.Term term) under f e = let alive = f.fits.alive in let is = f.makes.removed in cc
-none_over (kind.Hold hold) under f e = let alive = f.fits.alive in let is = f.makes.removed in cc
-none_over (kind.Remove remove) under f e = let alive = f.fits.alive in let is = f.makes.removed in cc
-none_over (kind.Merge merge) under f e = let alive = f.fits.alive in let is = f.makes.removed in cc
-none_over (kind.Unterm unterm) under f e = let alive = f.fits.alive in let is = f.makes.removed in cc
+none_over other under f e = let alive = f.fits.alive in let is = f.makes.removed in cc
 
 over_gone : (newest : Record) (under : List Record) → IsFitted (newest ∷ under) → is_removed under ≡ true → ⊥
 over_gone newest [] fitted e = cc
@@ -64,16 +58,8 @@ gone_read (content ∷ older ∷ part) rest fitted e = either (is_removal conten
     absurd (over_gone content (older ∷ (part ++ rest)) fitted (gone_read (older ∷ part) rest fitted.1 there)))
 
 has_pushed : (part : List Record) (content : Record) → has_removal (part ++ content ∷ []) ≡ has_removal part || is_removal content
-has_pushed [] content = by_bool (is_removal content)
-  where
-    by_bool : (b : Bool) → (b || false) ≡ (false || b)
-    by_bool true = refl
-    by_bool false = refl
-has_pushed (newest ∷ part) content = ap (λ (b : Bool). is_removal newest || b) (has_pushed part content) ∙ assoc (is_removal newest) (has_removal part) (is_removal content)
-  where
-    assoc : (a b c : Bool) → (a || (b || c)) ≡ ((a || b) || c)
-    assoc true b c = refl
-    assoc false b c = refl
+has_pushed [] content = or-false (is_removal content)
+has_pushed (newest ∷ part) content = rw (has_pushed part content) (sym (or_assoc (is_removal newest) (has_removal part) (is_removal content)))
 
 or_none : (a b : Bool) → b ≡ false → (a || b) ≡ a
 or_none true b none = refl
@@ -101,7 +87,7 @@ owed_next part rest content fitted = either (is_removal content) removal other
     removal : is_removal content ≡ true → Goal
     removal e =
         let none = removal_newest part rest content fitted e in
-        let gone : is_removed (part ++ content ∷ rest) ≡ true = ap (λ (p : List Record). is_removed (p ++ content ∷ rest)) none ∙ removed_by content (is_removed rest) e in
+        let gone : is_removed (part ++ content ∷ rest) ≡ true = rw none (removed_by content (is_removed rest) e) in
         let before : has_removal part ≡ false = ap has_removal none in
         let after : has_removal (part ++ content ∷ []) ≡ true = has_pushed part content ∙ (rw (before, e) refl) in
         let le : 0 + 1 ≤ 1 = omega arith in

@@ -1,13 +1,11 @@
 -- A removed page whose held term stands above it, and the page to the left of it.
-use Rattle.std.proofs.Common.{◌≡◌, ◌≢◌, ℕ, suc, List, Bool, true, false, Option, None, Some, refl, sym, ap, subst, ◌∙◌}
-use Rattle.progress.proofs.Words.{IsTrue, Child, Record, content_in, covers, high_in, is_removed, low_in, right_in, LivePage, Version, StaysLeft, precedes}
-use Rattle.progress.proofs.Words.{IsBelow, IsUpTo, Key, IsPageOn, is_below}
-use Rattle.std.specs.Prelude.{IsFalse, IfSome}
-use Rattle.tree_law.proofs.shape.KeyOrder.{below_not, by_below, covers_from, covers_to, under_trans, upto_both, upto_refl, upto_trans}
+use Rattle.progress.proofs.Words.{◌≡◌, ◌≢◌, ℕ, suc, Bool, true, false, Option, None, Some, refl, sym, ap, subst, ◌∙◌, IsTrue, Child, content_in, covers, high_in, is_removed, low_in, right_in}
+use Rattle.progress.proofs.Words.{LivePage, Version, StaysLeft, precedes, Key, IsPageOn, is_below, IfSome, covers_to, upto_both, upto_refl}
+use Rattle.std.specs.Prelude.{IsFalse}
 use Rattle.structure_changes.specs.Merges.{CanMerge}
 use Rattle.structure_changes.specs.Sizes.{HasFewDeltas, HasMergeRoom}
 use Rattle.structure_changes.specs.Unterms.{CanUnterm}
-use Rattle.progress.proofs.rounds.KeyWays.{precedes_is_way, within}
+use Rattle.progress.proofs.rounds.Leaves.{joint}
 use Rattle.progress.proofs.rounds.Pages.{On, Standing, Under, chain_on, live, low_of, one_child, same_pid, some_of}
 use Rattle.progress.proofs.meetings.Gone.{few_gone, unheld_items}
 
@@ -27,17 +25,6 @@ module _ (w : Standing) where
       → IsHeld page.pid (low_of page) level
   held_under way above level page stands u = record { page = page; is_pid = refl; begins = refl; stands = stands; gone = u.gone; above = live u.over; on = u.on; term = u.term }
 
-  -- of two pages of a level one and the same key is in the range
-  joint : (level : ℕ) (one two s : Key) (a b : LivePage) → On w level a → On w level b → IsBelow one s → IsBelow two s → IsTrue (covers a.chain one)
-      → StaysLeft (precedes s) a.chain → IsTrue (covers b.chain two) → IsTrue (covers b.chain s) → a ≡ b
-  joint level one two s a b on_a on_b below_one below_two in_a stays in_b reaches_s = by_below one two
-      (λ less. w.tree.one level a b two on_a on_b (within (precedes s) (precedes_is_way s) a.chain one two stays in_a (below_not one two less) below_two) in_b)
-      (λ least. w.tree.one level a b one on_a on_b in_a (between_keys b.chain two one s in_b reaches_s least below_one))
-    where
-      between_keys : (chain : List Record) (low key end : Key) → IsTrue (covers chain low) → IsTrue (covers chain end) → IsUpTo low key → IsBelow key end → IsTrue (covers chain key)
-      between_keys chain low key end one two up less =
-          covers_to chain key (record { low = upto_trans (low_in chain) low key (covers_from chain low one).low up; high = under_trans key end (high_in chain) less (covers_from chain end two).high })
-
   -- the page that has the held term is the one above on the way to the left of it
   above_same : (pid : ℕ) (key : Key) (level : ℕ) (h : IsHeld pid key level) (over : LivePage) → On w (suc level) over → StaysLeft (precedes key) over.chain
       → precedes key (low_of over) ≡ true → over ≡ h.above
@@ -46,12 +33,11 @@ module _ (w : Standing) where
       let in_above = (w.tree.child level l.1 h.above l.0 false h.on l.2.has).0 in
       let here = (w.tree.child level pid h.above key true h.on h.term).0 in
       let first : IsTrue (covers over.chain (low_of over)) = covers_to over.chain (low_of over) (record { low = upto_refl (low_of over); high = w.tree.spans (suc level) over on }) in
-      joint (suc level) (low_of over) l.0 key over h.above on h.on pass l.2.passing first stays in_above here
+      joint w (suc level) (low_of over) l.0 key over h.above on h.on pass l.2.passing first stays in_above here
 
   pub term_in : (pid : ℕ) (key : Key) (level : ℕ) → IsHeld pid key level → (over : LivePage) → On w (suc level) over → StaysLeft (precedes key) over.chain
       → precedes key (low_of over) ≡ true → content_in over.chain key ≡ Some (Child pid true)
-  term_in pid key level h over on stays pass =
-      subst (λ (p : LivePage). content_in p.chain key ≡ Some (Child pid true)) (sym (above_same pid key level h over on stays pass)) h.term
+  term_in pid key level h over on stays pass = rw (above_same pid key level h over on stays pass) h.term
 
   -- on its level no removed page is on the way to the left of it
   pub none_under : (pid : ℕ) (key : Key) (level : ℕ) → IsHeld pid key level → (page : LivePage) (above : Option Version) → Under w (precedes key) above level page
@@ -61,8 +47,8 @@ module _ (w : Standing) where
       let in_over = (w.tree.child level page.pid (live u.over) (low_of page) true u.on u.term).0 in
       let in_above = (w.tree.child level l.1 h.above l.0 false h.on l.2.has).0 in
       let here = (w.tree.child level pid h.above key true h.on h.term).0 in
-      let same : live u.over ≡ h.above = joint (suc level) (low_of page) l.0 key (live u.over) h.above u.on h.on pass l.2.passing in_over u.stays in_above here in
-      let term : content_in h.above.chain (low_of page) ≡ Some (Child page.pid true) = subst (λ (p : LivePage). content_in p.chain (low_of page) ≡ Some (Child page.pid true)) same u.term in
+      let same : live u.over ≡ h.above = joint w (suc level) (low_of page) l.0 key (live u.over) h.above u.on h.on pass l.2.passing in_over u.stays in_above here in
+      let term : content_in h.above.chain (low_of page) ≡ Some (Child page.pid true) = rw (← same) u.term in
       let left : content_in u.over.chain l.0 ≡ Some (Child l.1 false) = subst (λ (p : LivePage). content_in p.chain l.0 ≡ Some (Child l.1 false)) (sym same) l.2.has in
       let one = l.2.greatest (low_of page) pass (some_of _ _ term) in
       let two = u.greatest l.0 l.2.passing (some_of _ _ left) in
@@ -82,7 +68,7 @@ module _ (w : Standing) where
       let r = w.tree.right level (live left) pid on is_right in
       let here : live removed ≡ h.page = same_page_as pid key level h (live removed) level stands is in
       let next : r.0 ≡ live removed = same_pid w r.0 (live removed) (chain_on w level r.0 r.1) stands.stands (r.2 ∙ sym is) in
-      let on_removed : On w level (live removed) = subst (λ (p : LivePage). On w level p) next r.1 in
+      let on_removed : On w level (live removed) = rw (← next) r.1 in
       let gone : is_removed removed.chain ≡ true = ap (λ (p : LivePage). is_removed p.chain) here ∙ h.gone in
       record {
         alive = alive;

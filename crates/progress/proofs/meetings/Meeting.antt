@@ -1,22 +1,19 @@
 -- How often a writer's round meets pages that are gone, while nobody changes the tree: by what it makes of a page of the tree.
-use Rattle.std.proofs.Common.{◌≡◌, ◌≢◌, ◌<◌, ◌≤◌, ◌+◌, ◌-◌, ◌⊎◌, ℕ, zero, suc, [], length, Bool, true, false, Option, None, Some, refl, sym, ap, subst, ◌∙◌, inl, inr, arith}
-use Rattle.progress.proofs.Words.{⊤, IsTrue, is_below, Limits, Child, content_in, is_removed, level_in, low_in, LivePage, Version, WayState, Root, Page, Visit, to_page}
-use Rattle.progress.proofs.Words.{StaysLeft, precedes, Key, IsPageOn, covers, cases_lt}
-use Rattle.std.specs.Prelude.{IfSome}
-use Rattle.tree_law.proofs.shape.KeyOrder.{covers_to, upto_refl}
+use Rattle.progress.proofs.Words.{◌≡◌, ◌≢◌, ◌<◌, ◌≤◌, ◌+◌, ◌-◌, ◌⊎◌, ℕ, zero, suc, [], length, Bool, true, false, Option, None, Some, refl, sym, ap, subst, ◌∙◌, inl, inr, arith, ⊤, IsTrue}
+use Rattle.progress.proofs.Words.{is_below, Limits, Child, content_in, is_removed, level_in, low_in, LivePage, Version, WayState, Root, Page, Visit, to_page, StaysLeft, precedes, Key, IsPageOn}
+use Rattle.progress.proofs.Words.{covers, cases_lt, IfSome, covers_to, upto_refl, head_of, slot_of, Plan, WriteGoal, Merge, Unterm, WriteEnd, WriteRound}
+use Rattle.progress.proofs.rounds.Treating.{clash}
 use Rattle.structure_changes.proofs.Few.{few_many}
-use Rattle.structure_changes.specs.Plans.{head_of, slot_of}
 use Rattle.structure_changes.specs.Sizes.{HasFewDeltas, many_of}
 use Rattle.structure_changes.specs.Merges.{CanMerge}
 use Rattle.structure_changes.specs.Unterms.{CanUnterm}
 use Rattle.structure_changes.specs.declared.after.After.{After}
-use Rattle.structure_changes.specs.declared.plan.Plan.{Plan}
-use Rattle.round_model.specs.Courses.{WriteGoal, Seek, Left, Merge, Unterm}
-use Rattle.round_model.specs.WriteEnds.{DueChange, IsPlanned, WriteEnd}
+use Rattle.round_model.specs.Courses.{Seek, Left}
+use Rattle.round_model.specs.WriteEnds.{DueChange, IsPlanned}
 use Rattle.round_model.specs.WriteEnds as end
 use Rattle.round_model.specs.WriteResponses.{EndsBelow, EndsBy, EndsClean, EndsFine, EndsRemoved, EndsUncut, EndsUnmerged, GoesAside, GoesBelow, GoesToMerge}
 use Rattle.round_model.specs.WriteResponses.{GoesToUnterm, IsAtLeft, IsFine, TreatsWrite}
-use Rattle.round_model.specs.WriteRounds.{SeeksLeaf, WriteRound, ends_at, write_way}
+use Rattle.round_model.specs.WriteRounds.{SeeksLeaf, ends_at, write_way}
 use Rattle.round_model.specs.Walks.{HasNoneRead}
 use Rattle.progress.proofs.rounds.KeyWays.{IsWay, precedes_is_way, reaches_is_way}
 use Rattle.progress.proofs.rounds.Pages.{Below, Clear, On, Standing, Under, down, live, low_of, right, right_clear}
@@ -26,13 +23,8 @@ use Rattle.progress.proofs.meetings.Gone.{has_removal, owed, owed_one}
 use Rattle.progress.proofs.meetings.Held.{IsHeld, held_under, may_merge, may_unterm, none_under, term_in}
 
 pub is_way_of : (goal : WriteGoal) (key : Key) → IsWay (write_way goal key)
-is_way_of Seek key = reaches_is_way key
 is_way_of (Left pid) key = precedes_is_way key
-is_way_of (Merge left) key = reaches_is_way key
-is_way_of (Unterm parent left) key = reaches_is_way key
-
-clash : (b : Bool) → b ≡ true → b ≡ false → ⊥
-clash b e f = let both : true ≡ false = sym e ∙ f in cc
+is_way_of goal key = reaches_is_way key
 
 one_less : (few rest owes : ℕ) → 1 ≤ few → few ≤ rest → owes ≤ 1 → (few - 1) + owes ≤ rest
 one_less few rest owes some less one = omega (arith, some, less, one)
@@ -190,7 +182,7 @@ module _ (w : Standing) where
         let a = stays_clear g.seeks g.alive in
         let r = right w way level g.right (live version) a.1.0.on g.leads in
         let clear = right_clear w way level (live version) r.0 a.1.0 r.2 r.3 r.4 in
-        subst (λ (o : WriteRound). MeetsFew o rest) (sym g.goes)
+        rw g.goes
         (arrives old.limits old.goal old.key old.floor old.parent (Some version) r.0 level g.right rest rest (w.tree.each level r.0 r.2) r.1
         (at_way old.goal old.key old.floor old.parent (Some version) level r.0 rest g.seeks (record {
           passing = r.3;
@@ -202,11 +194,9 @@ module _ (w : Standing) where
 
     -- what is left below the page: for a child that isn't removed as much, for one that is one less
     spares_below : (goal : WriteGoal) (l : ℕ) → level ≡ suc l → ends_at goal old.floor < suc l → Spares goal old.key old.floor level rest → Spares goal old.key old.floor l rest
-    spares_below Seek l e index s = s
     spares_below (Left pid) l e index (inl s) = let under : old.floor < suc l = index in inl (s.0, omega (arith, under), s.2)
     spares_below (Left pid) l e index (inr s) = inr s
-    spares_below (Merge left) l e index s = s
-    spares_below (Unterm parent left) l e index s = s
+    spares_below goal l e index s = s
 
     less_below : (goal : WriteGoal) (l : ℕ) (page : LivePage) → level ≡ suc l → l ≤ 15 → ends_at goal old.floor < suc l → Under w (write_way goal old.key) (Some version) l page
         → write_way goal old.key (low_of page) ≡ true → Spares goal old.key old.floor level rest → (1 ≤ rest) × (17 ≤ (rest - 1) + l)
@@ -217,7 +207,7 @@ module _ (w : Standing) where
       | inr le ↦
           let under : old.floor < suc l = index in
           let same : old.floor ≡ l = omega (arith, le, under) in
-          absurd (none_under w pid old.key l (subst (λ (n : ℕ). IsHeld w pid old.key n) same s.0) page (Some version) u pass)
+          absurd (none_under w pid old.key l (rw (← same) s.0) page (Some version) u pass)
     ]
     less_below (Merge left) l page e top index u pass s = absurd s
     less_below (Unterm parent left) l page e top index u pass s = absurd s
@@ -243,31 +233,30 @@ module _ (w : Standing) where
         over = record { on = on; alive = g.here.alive; passing = a.passing; stays = g.here.stays; short = short_of old.limits old.due old.splits version g.fine; as_read = as_read }
 
     below : (new : WriteRound) → GoesBelow old version new → MeetsFew new rest
-    below new g = let a = stays_clear g.here.seeks g.here.alive in subst (λ (o : WriteRound). MeetsFew o rest) (sym g.goes) (by_level a.0 a.1.0.on a.1.1 level refl)
+    below new g = let a = stays_clear g.here.seeks g.here.alive in rw g.goes (by_level a.0 a.1.0.on a.1.1 level refl)
       where
         by_level : IsOnWay old.goal old.key old.floor old.parent old.left level (live version) rest → On w level (live version) → Spares old.goal old.key old.floor level rest
             → (n : ℕ) → level ≡ n → Visits old.goal old.key old.floor (Some version) None (to_page old.limits g.child) rest
         by_level a on spares zero e = let index = g.index in let is : level_in version.chain ≡ level = stands.level_is in absurd (omega (arith, index, is, e))
         by_level a on spares (suc l) e =
-            let here : On w (suc l) (live version) = subst (λ (n : ℕ). On w n (live version)) e on in
+            let here : On w (suc l) (live version) = rw (← e) on in
             let is : level_in version.chain ≡ suc l = stands.level_is ∙ e in
-            let index : ends_at old.goal old.floor < suc l = subst (λ (n : ℕ). ends_at old.goal old.floor < n) is g.index in
+            let index : ends_at old.goal old.floor < suc l = rw (← is) g.index in
             below_page new g a spares l e here index (down w way (is_way_of old.goal old.key) l g.child version here g.here.stays g.leads)
 
     -- the page of the removed one's level
     at_left : (pid : ℕ) → IsAtLeft old version pid → IsOnWay (Left pid) old.key old.floor old.parent old.left level (live version) rest × Clear w (precedes old.key) level (live version)
         × ((IsHeld w pid old.key level × (17 ≤ rest + level)) ⊎ (19 ≤ rest)) × StaysLeft (precedes old.key) version.chain
     at_left pid l =
-        let here : At (Left pid) old.key old.floor old.parent old.left level (live version) rest =
-        subst (λ (g : WriteGoal). At g old.key old.floor old.parent old.left level (live version) rest) l.goal at in
-        let stays : StaysLeft (precedes old.key) version.chain = subst (λ (g : WriteGoal). StaysLeft (write_way g old.key) version.chain) l.goal l.here.stays in
+        let here = rw l.goal at at in
+        let stays : StaysLeft (precedes old.key) version.chain = rw l.goal at l.here.stays in
         let same : old.floor ≡ level = sym l.level ∙ stands.level_is in
         elim here.is [
           | inl clear ↦ (
             here,
             clear.0,
             elim clear.1 [
-              | inl held ↦ inl (subst (λ (n : ℕ). IsHeld w pid old.key n) same held.0, subst (λ (n : ℕ). 17 ≤ rest + n) same held.2)
+              | inl held ↦ inl (rw (← same) held.0, rw (← same) held.2)
               | inr spare ↦ inr spare
             ],
             stays,
@@ -284,33 +273,30 @@ module _ (w : Standing) where
         let l = at_left g.pid g.left in
         let r = w.tree.right level (live version) g.pid l.1.on g.beside in
         let some = some_left (elim l.2 [ inl held ↦ inl held.1 | inr spare ↦ inr spare ]) in
-        subst (λ (o : WriteRound). MeetsFew o rest) (sym g.goes)
+        rw g.goes
         (arrives old.limits (Merge version) old.key old.floor None None r.0 level g.pid (rest - 1) rest (w.tree.each level r.0 r.1) r.2 (
           as_read,
           elim l.2 [
             | inl held ↦ inl (λ removed same. may_merge w g.pid old.key level held.0 version removed l.1.on g.left.here.alive g.beside
                 (short_of old.limits old.due old.splits version g.left.fine) g.roomy
-                (subst (λ (p : LivePage). IsPageOn w.limits w.memory level p) (sym same) (w.tree.each level r.0 r.1)) (ap (λ (p : LivePage). p.pid) same ∙ r.2))
+                (rw same (w.tree.each level r.0 r.1)) (ap (λ (p : LivePage). p.pid) same ∙ r.2))
             | inr spare ↦ inr (omega (arith, spare))
           ],
         )
         (one_less rest rest (owed (is_removed r.0.chain) false) some (omega arith) (owed_one (is_removed r.0.chain) false)))
 
-    over_of : (goal : WriteGoal) (parent : Version) → IsAbove (write_way goal old.key) level old.parent → old.parent ≡ Some parent → IsOver (write_way goal old.key) level parent
-    over_of goal parent above e = subst (λ (o : Option Version). IsAbove (write_way goal old.key) level o) e above
-
     to_unterm : (new : WriteRound) → GoesToUnterm old version new → MeetsFew new rest
     to_unterm new g =
         let l = at_left g.pid g.left in
-        let over = over_of (Left g.pid) g.parent l.0.over g.above in
+        let over = rw g.above at l.0.over in
         let c = w.tree.child level g.pid (live g.parent) old.key true over.on g.term in
         let some = some_left (elim l.2 [ inl held ↦ inl held.1 | inr spare ↦ inr spare ]) in
-        subst (λ (o : WriteRound). MeetsFew o rest) (sym g.goes)
+        rw g.goes
         (arrives old.limits (Unterm g.parent version) old.key old.floor None None c.1.0 level g.pid (rest - 1) rest c.1.2.is_page c.1.1 (
           over.as_read,
           elim l.2 [
             | inl held ↦ inl (λ removed same. may_unterm w g.pid old.key level held.0 g.parent version removed over.alive over.short g.term g.left.here.alive l.0.passing l.3 g.apart level
-                (subst (λ (p : LivePage). IsPageOn w.limits w.memory level p) (sym same) c.1.2.is_page) (ap (λ (p : LivePage). p.pid) same ∙ c.1.1))
+                (rw same c.1.2.is_page) (ap (λ (p : LivePage). p.pid) same ∙ c.1.1))
             | inr spare ↦ inr (omega (arith, spare))
           ],
         )
@@ -319,8 +305,7 @@ module _ (w : Standing) where
     -- no round to the left of a page that has its held term ends below that one's level, or without a change
     too_low : EndsBelow old version → 18 ≤ rest
     too_low g =
-        let here : At (Left g.pid) old.key old.floor old.parent old.left level (live version) rest =
-        subst (λ (o : WriteGoal). At o old.key old.floor old.parent old.left level (live version) rest) g.goal at in
+        let here = rw g.goal at at in
         elim here.is [
           | inl clear ↦ elim clear.1 [
             | inl held ↦ absurd (let low = g.below in let is : level_in version.chain ≡ level = stands.level_is in let up = held.1 in omega (arith, low, is, up))
@@ -340,24 +325,22 @@ module _ (w : Standing) where
         by_above : (parent : Option Version) → old.parent ≡ parent → IsAbove (precedes old.key) level old.parent → IfSome old.parent (λ p. content_in p.chain old.key ≢ Some (Child g.pid true))
             → IsHeld w g.pid old.key level → ⊥
         by_above None e above lacks held =
-            let top : level ≡ w.tree.top = subst (λ (o : Option Version). IsAbove (precedes old.key) level o) e above in
+            let top : level ≡ w.tree.top = rw e at above in
             let under = w.tree.below (suc level) held.above held.on in
             omega (arith, top, under)
         by_above (Some parent) e above lacks held =
-            let over = over_of (Left g.pid) parent above e in
-            let none : content_in parent.chain old.key ≢ Some (Child g.pid true) = subst (λ (o : Option Version). IfSome o (λ p. content_in p.chain old.key ≢ Some (Child g.pid true))) e lacks in
+            let over = rw e at above in
+            let none : content_in parent.chain old.key ≢ Some (Child g.pid true) = rw e at lacks in
             none (term_in w g.pid old.key level held (live parent) over.on over.stays over.passing)
 
     unmerged : EndsUnmerged old version → 18 ≤ rest
     unmerged g =
-        let here : At (Merge g.left) old.key old.floor old.parent old.left level (live version) rest =
-        subst (λ (o : WriteGoal). At o old.key old.floor old.parent old.left level (live version) rest) g.goal at in
+        let here = rw g.goal at at in
         elim here.1 [ inl can ↦ absurd (g.none (can version refl)) | inr spare ↦ spare ]
 
     uncut : EndsUncut old version → 18 ≤ rest
     uncut g =
-        let here : At (Unterm g.parent g.left) old.key old.floor old.parent old.left level (live version) rest =
-        subst (λ (o : WriteGoal). At o old.key old.floor old.parent old.left level (live version) rest) g.goal at in
+        let here = rw g.goal at at in
         elim here.1 [ inl can ↦ absurd (g.none (can version refl)) | inr spare ↦ spare ]
 
     -- a removed page has its held term
@@ -369,60 +352,51 @@ module _ (w : Standing) where
           | inr under ↦
               let held = held_under w way old.parent level (live version) stands under.0 in
               let level_is : level_in version.chain ≡ level = stands.level_is in
-              subst (λ (v : Version). Begins (Left v.pid) (low_in v.chain) (level_in v.chain) rest) (sym g.is)
-              (inl (subst (λ (n : ℕ). IsHeld w version.pid (low_in version.chain) n) (sym level_is) held, subst (λ (n : ℕ). 17 ≤ rest + n) (sym level_is) under.1))
+              rw g.is
+              (inl (rw level_is held, rw level_is under.1))
         ]
 
     -- what is due is due over pages as they were read
-    as_over : (page : Version) → page ≡ version → IsAsRead page
-    as_over page e = subst IsAsRead (sym e) as_read
-
     parent_read : (parent : Version) → SeeksLeaf old.goal → old.parent ≡ Some parent → IsAsRead parent
     parent_read parent seeks e =
         let a = on_way old.goal old.key old.floor old.parent old.left level (live version) rest seeks at in
-        (over_of old.goal parent a.over e).as_read
-
-    by_plan : (plan other : Plan) → plan ≡ other → IsFresh other → IsFresh plan
-    by_plan plan other e is = subst IsFresh (sym e) is
+        (rw e at a.over).as_read
 
     due_is : (change : DueChange) (plan : Plan) (after : After) → IsPlanned change plan after → EndsBy old version change → IsFresh plan
-    due_is (end.Consolidate page base) plan after planned due = by_plan plan _ planned.0 (as_over page due.is, inr page.is_row.0)
+    due_is (end.Consolidate page base) plan after planned due = rw planned.0 (rw due.is as_read, inr page.is_row.0)
     due_is (end.Split page split) plan after planned due =
-        by_plan plan _ planned.0 (ap (λ (v : Version). w.memory.slots v.pid) due.is ∙ as_read ∙ sym due.plan_due.over, inr (rw due.plan_due.over version.is_row.0))
-    due_is (end.Term parent term) plan after planned due = by_plan plan _ planned.0 (parent_read parent due.seeks due.above, inr parent.is_row.0)
-    due_is (end.Root left root) plan after planned due = by_plan plan _ planned.0 (root_read left due.seeks due.above due.aside due.plan.can.lowest, inl refl)
+        rw planned.0 (ap (λ (v : Version). w.memory.slots v.pid) due.is ∙ as_read ∙ sym due.plan_due.over, inr (rw due.plan_due.over version.is_row.0))
+    due_is (end.Term parent term) plan after planned due = rw planned.0 (parent_read parent due.seeks due.above, inr parent.is_row.0)
+    due_is (end.Root left root) plan after planned due = rw planned.0 (root_read left due.seeks due.above due.aside due.plan.can.lowest, inl refl)
       where
         root_read : (left : Version) → SeeksLeaf old.goal → old.parent ≡ None → old.left ≡ Some left → low_in left.chain ≡ [] → w.memory.slots 0 ≡ left.pid
         root_read left seeks above aside_is lowest =
             let a = on_way old.goal old.key old.floor old.parent old.left level (live version) rest seeks at in
-            let top : level ≡ w.tree.top = subst (λ (o : Option Version). IsAbove way level o) above a.over in
-            let b : IsBeside level left = subst (λ (o : Option Version). IsAside level o) aside_is a.beside in
-            let on : On w w.tree.top (live left) = subst (λ (n : ℕ). On w n (live left)) top b.on in
-            let first : IsTrue (covers left.chain []) = subst (λ (k : Key). IsTrue (covers left.chain k)) lowest
+            let top : level ≡ w.tree.top = rw above at a.over in
+            let b : IsBeside level left = rw aside_is at a.beside in
+            let on : On w w.tree.top (live left) = rw (← top) b.on in
+            let first : IsTrue (covers left.chain []) = rw (← lowest)
             (covers_to left.chain (low_in left.chain) (record { low = upto_refl (low_in left.chain); high = w.tree.spans w.tree.top (live left) on })) in
-            let root : IsTrue (covers w.tree.root.0.chain []) = subst (λ (k : Key). IsTrue (covers w.tree.root.0.chain k)) w.tree.root.3
+            let root : IsTrue (covers w.tree.root.0.chain []) = rw (← w.tree.root.3)
             (covers_to w.tree.root.0.chain (low_of w.tree.root.0) (record { low = upto_refl (low_of w.tree.root.0); high = w.tree.spans w.tree.top w.tree.root.0 w.tree.root.1 })) in
             let same = w.tree.one w.tree.top w.tree.root.0 (live left) [] w.tree.root.1 on root first in
             sym w.tree.root.2 ∙ ap (λ (p : LivePage). p.pid) same
     due_is (end.Tend parent page upkeep) plan after planned due = elim due.due.due [
-      | inl removes ↦ by_plan plan _ (planned.0 ∙ removes.is) (as_read, inr version.is_row.0)
-      | inr holds ↦ by_plan plan _ (planned.0 ∙ holds.is) (parent_read parent due.here.seeks due.tended.above, inr parent.is_row.0)
+      | inl removes ↦ rw (planned.0 ∙ removes.is) (as_read, inr version.is_row.0)
+      | inr holds ↦ rw (planned.0 ∙ holds.is) (parent_read parent due.here.seeks due.tended.above, inr parent.is_row.0)
     ]
     due_is (end.Merge left removed merge) plan after planned due =
-        let here : At (Merge left) old.key old.floor old.parent old.left level (live version) rest =
-        subst (λ (o : WriteGoal). At o old.key old.floor old.parent old.left level (live version) rest) due.goal at in
-        by_plan plan _ planned.0 (here.0, inr left.is_row.0)
+        let here = rw due.goal at at in
+        rw planned.0 (here.0, inr left.is_row.0)
     due_is (end.Unterm parent left removed unterm) plan after planned due =
-        let here : At (Unterm parent left) old.key old.floor old.parent old.left level (live version) rest =
-        subst (λ (o : WriteGoal). At o old.key old.floor old.parent old.left level (live version) rest) due.goal at in
-        by_plan plan _ planned.0 (here.0, inr parent.is_row.0)
+        let here = rw due.goal at at in
+        rw planned.0 (here.0, inr parent.is_row.0)
 
     at_leaf : (parent : Option Version) (leaf : Version) → EndsFine old version parent leaf → (18 ≤ rest) × IsAsRead leaf × IfSome parent IsAsRead
     at_leaf parent leaf g =
-        let here : At Seek old.key old.floor old.parent old.left level (live version) rest =
-        subst (λ (o : WriteGoal). At o old.key old.floor old.parent old.left level (live version) rest) g.seeks at in
+        let here = rw g.seeks at at in
         elim here.is [
-          | inl clear ↦ (clear.1, as_over leaf g.is, by_above parent g.above)
+          | inl clear ↦ (clear.1, rw g.is as_read, by_above parent g.above)
           | inr under ↦ absurd (clash (is_removed version.chain) under.0.gone g.here.alive)
         ]
       where

@@ -1,16 +1,14 @@
 -- A writer is paid for whatever others do, and where it begins.
-use Rattle.std.proofs.Common.{◌≡◌, ◌<◌, ◌≤◌, ◌++◌, ℕ, List, [], ◌∷◌, length, take, Bool, true, false, cond, Option, None, Some, refl, sym, ap, subst}
-use Rattle.std.proofs.Common.{◌∙◌, inl, inr, arith, append_assoc, append-nil}
-use Rattle.std.specs.Prelude.{◌&&◌, ◌==◌}
-use Rattle.progress.proofs.Words.{if◌then◌else◌, slice_get, cases_lt, eqb_tells, same_Some, Limits, is_writer, Entry, Begin, Step, Knowledge, knows, Recalled, recalls}
-use Rattle.progress.proofs.Words.{pushed_length, slice_get-push, slice_get_below, take-push_whole, IsActorWith, command_at, Hand, State, Begun, Epoch, Enter, Read, Write, Change}
-use Rattle.progress.proofs.Words.{Leave, Task, UnderWay, IsDirect, IsState}
+use Rattle.progress.proofs.Words.{◌≡◌, ◌<◌, ◌≤◌, ◌++◌, ℕ, List, [], ◌∷◌, length, take, Bool, true, false, cond, Option, None, Some, refl, sym, ap, subst, ◌∙◌, inl, inr, arith, append_assoc}
+use Rattle.progress.proofs.Words.{◌&&◌, ◌==◌, if◌then◌else◌, slice_get, cases_lt, eqb_tells, same_Some, Limits, is_writer, Entry, Begin, Step, Knowledge, knows, Recalled, recalls}
+use Rattle.progress.proofs.Words.{pushed_length, slice_get-push, slice_get_below, take-push_whole, IsActorWith, command_at, Hand, State, Read, Write, Change, Leave, Task, UnderWay, IsDirect}
+use Rattle.progress.proofs.Words.{IsState, ShowsState, PaysForWriter, PaysMeets, PaysWriter, InRound, IsLawfulWriting, WriterState, meets, meets_at}
+use Rattle.std.proofs.Common.{append-nil}
 use Rattle.traces.specs.discipline.Disciplined.{is_entry_of, own_entries}
-use Rattle.op_machine.specs.machine.Shows.{ShowsState}
 use Rattle.tree_law.proofs.shape.Puts.{eqb_false}
 use Rattle.tree_law.proofs.trace.Others.{own_lasts}
-use Rattle.progress.specs.WriterStates.{BegunWritersArePaid, MeetsAt, PaysForWriter, PaysMeets, PaysWriter, WritersStayPaid}
-use Rattle.progress.specs.WritersAmong.{InRound, IsLawfulWriting, ShowsWriter, WriterState, meets, meets_at}
+use Rattle.progress.specs.WriterStates.{BegunWritersArePaid, MeetsAt, WritersStayPaid}
+use Rattle.progress.specs.WritersAmong.{ShowsWriter}
 use Rattle.progress.proofs.ReaderOthers.{begins_nothing, others}
 use Rattle.progress.proofs.ReaderRounds.{last_begun, last_cases, next_of}
 use Rattle.progress.proofs.meetings.Own.{moment_of}
@@ -34,7 +32,7 @@ module _ (limits : Limits) (entries : List Entry) (entry : Entry) (later : IsSta
   from_each left m within few pays = elim (cases_lt (length entries) m) [
     | inl past ↦ let long = pushed_length entries entry in pays_end limits longer actor m left (omega (arith, past, long)) few
     | inr le ↦
-        let none : cond {A = ℕ} (meets_at actor entry) 1 0 ≡ 0 = ap (λ (b : Bool). cond {A = ℕ} b 1 0) (others_meet actor entry other) in
+        let none : cond {A = ℕ} (meets_at actor entry) 1 0 ≡ 0 = rw (others_meet actor entry other) in
         pays_kept limits entries entry actor m left left le (omega (arith, none)) (pays le)
   ]
 
@@ -52,13 +50,11 @@ module _ (limits : Limits) (entries : List Entry) (entry : Entry) (later : IsSta
 
   pub stays_paid : (s : State) (hand : Hand) (task : Task) (r : Recalled) → ShowsState task hand.spares (knows entries actor) r s
       → ((m : ℕ) → start < m → m ≤ length entries → MeetsAt limits entries actor m s) → (m : ℕ) → start < m → m ≤ length longer → MeetsAt limits longer actor m s
-  stays_paid Begun hand task r shows pays m after within = from_each 21 m within (omega arith) (pays m after)
-  stays_paid Epoch hand task r shows pays m after within = from_each 21 m within (omega arith) (pays m after)
-  stays_paid (Enter epoch) hand task r shows pays m after within = from_each 21 m within (omega arith) (pays m after)
   stays_paid (Read round) hand task r shows pays m after within = absurd (pays (length entries) begun (omega arith))
   stays_paid (Write round) hand task r shows pays m after within = stands_on (InRound round) r shows.shows pays m after within
   stays_paid (Change now next) hand task r shows pays m after within = stands_on (change_at now) r tt pays m after within
   stays_paid (Leave reply lacks) hand task r shows pays m after within = from_each 0 m within (omega arith) (pays m after)
+  stays_paid state hand task r shows pays m after within = from_each 21 m within (omega arith) (pays m after)
 
 one_other : (limits : Limits) (entries : List Entry) (entry : Entry) → IsState limits (entries ++ entry ∷ [])
     → IsDirect limits (entries ++ entry ∷ []) → (actor : ℕ) → is_entry_of actor entry ≡ false → (hand : Hand) (o : Option UnderWay)
@@ -77,7 +73,7 @@ one_other limits entries entry later direct actor other hand (Some running) show
 module _ (limits : Limits) (actor : ℕ) (hand : Hand) (o : Option UnderWay) where
   along : (seen rest : List Entry) → own_entries actor rest ≡ [] → ((n : ℕ) → IsState limits (take n (seen ++ rest))) → ((n : ℕ) → IsDirect limits (take n (seen ++ rest)))
       → IsActorWith limits actor (knows seen actor) (recalls seen actor) hand o → PaysWriter limits seen actor o → PaysWriter limits (seen ++ rest) actor o
-  along seen [] none states directs shows pays = subst (λ (es : List Entry). PaysWriter limits es actor o) (sym (append-nil seen)) pays
+  along seen [] none states directs shows pays = rw (append-nil seen) pays
   along seen (entry ∷ rest) none states directs shows pays = elim (is_entry_of actor entry) as
       (λ t. is_entry_of actor entry ≡ t → (if t then entry ∷ own_entries actor rest else own_entries actor rest) ≡ [] → PaysWriter limits (seen ++ entry ∷ rest) actor o) [
         | true ↦ λ e f. cc
@@ -87,34 +83,31 @@ module _ (limits : Limits) (actor : ℕ) (hand : Hand) (o : Option UnderWay) whe
             let here : take (length next) (seen ++ entry ∷ rest) ≡ next = ap (take (length next)) (sym whole) ∙ take-push_whole next rest in
             let later : IsState limits next = subst (IsState limits) here (states (length next)) in
             let direct : IsDirect limits next = subst (IsDirect limits) here (directs (length next)) in
-            let alone : own_entries actor (entry ∷ []) ≡ [] = ap (λ (b : Bool). if b then entry ∷ [] else []) e in
+            let alone : own_entries actor (entry ∷ []) ≡ [] = rw e in
             let lasts = own_lasts limits actor seen next (entry ∷ [], refl, alone) in
-            let shown : IsActorWith limits actor (knows next actor) (recalls next actor) hand o =
-            subst (λ (k : Knowledge). IsActorWith limits actor k (recalls next actor) hand o) (sym lasts.known)
-            (subst (λ (r : Recalled). IsActorWith limits actor (knows seen actor) r hand o) (sym lasts.recalled) shows) in
-            subst (λ (es : List Entry). PaysWriter limits es actor o) whole
-            (along next rest f (λ n. subst (λ (es : List Entry). IsState limits (take n es)) (sym whole) (states n))
-            (λ n. subst (λ (es : List Entry). IsDirect limits (take n es)) (sym whole) (directs n)) shown
+            let shown : IsActorWith limits actor (knows next actor) (recalls next actor) hand o = rw lasts.known
+            (rw lasts.recalled shows) in
+            rw (← whole)
+            (along next rest f (λ n. rw whole (states n))
+            (λ n. rw whole (directs n)) shown
             (one_other limits seen entry later direct actor e hand o shows pays))
       ] refl none
 
 pub writers_stay_paid : WritersStayPaid
 writers_stay_paid limits actor seen run at x kept shows pays =
-    subst (λ (es : List Entry). PaysWriter limits es actor at.running) (sym x.1)
-    (along limits actor at.hand at.running seen x.0 x.2 (λ n. subst (λ (es : List Entry). IsState limits (take n es)) x.1 (kept.states n))
-    (λ n. subst (λ (es : List Entry). IsDirect limits (take n es)) x.1 (kept.directs n)) shows pays)
+    rw x.1
+    (along limits actor at.hand at.running seen x.0 x.2 (λ n. rw (← x.1) (kept.states n))
+    (λ n. rw (← x.1) (kept.directs n)) shows pays)
 
 -- a writer that begins
 module _ (limits : Limits) (entries : List Entry) (actor : ℕ) (m : ℕ) (past : length entries ≤ m) where
   at_begin : (s : State) (task : Task) (hand : Hand) (k : Knowledge) (r : Recalled) → ShowsState task hand.spares k r s → k.inside ≡ false
       → is_writer task.command ≡ true → MeetsAt limits entries actor m s
-  at_begin Begun task hand k r shows out writer = pays_end limits entries actor m 21 past (omega arith)
-  at_begin Epoch task hand k r shows out writer = pays_end limits entries actor m 21 past (omega arith)
-  at_begin (Enter epoch) task hand k r shows out writer = pays_end limits entries actor m 21 past (omega arith)
   at_begin (Read round) task hand k r shows out writer = let both : true ≡ false = sym shows.seeks.inside ∙ out in absurd (cc both)
   at_begin (Write round) task hand k r shows out writer = let both : true ≡ false = sym shows.seeks.inside ∙ out in absurd (cc both)
   at_begin (Change now next) task hand k r shows out writer = let both : true ≡ false = sym shows.shows.may.inside ∙ out in absurd (cc both)
   at_begin (Leave reply lacks) task hand k r shows out writer = pays_end limits entries actor m 0 past (omega arith)
+  at_begin state task hand k r shows out writer = pays_end limits entries actor m 21 past (omega arith)
 
 pub begun_writers_paid : BegunWritersArePaid
 begun_writers_paid limits entries actor command k r new shown out runs = by_running new.running shown runs

@@ -1,27 +1,23 @@
 -- A writer is paid for after its own step.
-use Rattle.std.proofs.Common.{◌≡◌, ◌<◌, ◌≤◌, ◌++◌, ◌⊎◌, ℕ, List, [], ◌∷◌, length, Bool, true, false, cond, Option, None, Some, refl, sym, ap, subst, ◌∙◌, inl, inr, arith}
-use Rattle.std.specs.Prelude.{◌&&◌, ◌==◌}
-use Rattle.progress.proofs.Words.{IsSome, slice_get_below, cases_lt, same_Some, Limits, is_writer, Reply, Answer, StepOf, Record, Entry, Step, Knowledge}
-use Rattle.progress.proofs.Words.{knows, Recalled, recalls, pushed_length, Hand, State, Begun, Epoch, Enter, Read, Write, Change, Leave, Task, is_leaving}
-use Rattle.progress.proofs.Words.{IsDirect, IsState, command_at, wanted_by, IsActorWith, UnderWay}
+use Rattle.progress.proofs.Words.{◌≡◌, ◌<◌, ◌≤◌, ◌++◌, ◌⊎◌, ℕ, List, [], ◌∷◌, length, true, false, cond, Option, None, Some, refl, sym, ap, ◌∙◌, inl, inr, arith, ◌==◌, IsSome, slice_get_below}
+use Rattle.progress.proofs.Words.{cases_lt, same_Some, Limits, is_writer, Reply, Answer, StepOf, Record, Entry, Step, Knowledge, knows, Recalled, recalls, pushed_length, Hand, State, Begun}
+use Rattle.progress.proofs.Words.{Epoch, Enter, Read, Write, Change, Leave, Task, is_leaving, IsDirect, IsState, command_at, wanted_by, IsActorWith, UnderWay, and-false, May, Fits, WriteRound}
+use Rattle.progress.proofs.Words.{ShowsState, PaysForWriter, PaysMeets, PaysWriter, InRound, IsLawfulWriting, StepsOn, WriterMoment, WriterState, meets, meets_at}
 use Rattle.bw_model.specs.declared.step.Step.TheVariants as step_of
-use Rattle.traces.specs.discipline.Discipline.{May}
-use Rattle.traces.specs.discipline.Fitting.{Fits}
 use Rattle.traces.specs.discipline.Recalled.{recall}
-use Rattle.round_model.specs.WriteRounds.{WriteRound, wanted_step}
+use Rattle.round_model.specs.WriteRounds.{wanted_step}
 use Rattle.change_machine.specs.Changes.{Change as ChangeOf, wanted_at as wanted_of_change}
 use Rattle.op_machine.specs.machine.Actors.{command_left, knows_then}
 use Rattle.op_machine.specs.machine.Ops.{HoldsLimbo, Op, asked_by, wanted_of}
 use Rattle.op_machine.specs.machine.RoundSteps.{StepsInRound}
-use Rattle.op_machine.specs.machine.Shows.{ShowsState, wanted_at}
+use Rattle.op_machine.specs.machine.Shows.{wanted_at}
 use Rattle.op_machine.specs.machine.UnderWay.{StepsAt}
 use Rattle.sweep.specs.Sweeps.{Sweep, wanted_step as wanted_of_sweep, wanted_at as wanted_in_sweep}
 use Rattle.sweep.specs.declared.sweep.State.{State as SweepState}
 use Rattle.sweep.specs.declared.sweep.State.TheVariants as sweep_state
 use Rattle.epochs.specs.declared.item.Reuse.TheVariants.{Rows, Pids}
 use Rattle.tree_law.specs.TraceLaws.{AnswersFit}
-use Rattle.progress.specs.WriterStates.{MeetsAt, PaysForWriter, PaysMeets, PaysWriter, WriterStepsArePaid}
-use Rattle.progress.specs.WritersAmong.{InRound, IsLawfulWriting, StepsOn, WriterMoment, WriterState, meets, meets_at}
+use Rattle.progress.specs.WriterStates.{MeetsAt, WriterStepsArePaid}
 use Rattle.progress.proofs.ReaderRounds.{last_cases, next_of}
 use Rattle.progress.proofs.ReaderSteps.{asked_last, going, no_sweep}
 use Rattle.progress.proofs.meetings.Pays.{goes_on, pays_end, pays_kept, pays_less, writer_fresh}
@@ -46,63 +42,47 @@ pub calm_begin : (op : Op) (hand : Hand) (k : Knowledge) (asked : StepOf Record)
     → wanted_of op hand ≡ Some asked → meets asked answer ≡ false
 calm_begin op hand k asked answer first holds is = (elim (op.sweep) as (λ o. asked_by o (wanted_at hand.spares op.state) ≡ Some asked → meets asked answer ≡ false) [
   | None ↦ λ e. let none : None ≡ Some asked = ap (wanted_at hand.spares) (sym first) ∙ e in cc
-  | Some sweep ↦ λ e. subst (λ (s : StepOf Record). meets s answer ≡ false) (same_Some (wanted_of_sweep sweep) asked e) (calm_sweep sweep answer)
+  | Some sweep ↦ λ e. rw (← same_Some (wanted_of_sweep sweep) asked e) (calm_sweep sweep answer)
 ]) is
 
 is_begun : (s : State) → (s ≡ Begun) ⊎ (s ≡ Begun → ⊥)
 is_begun Begun = inl refl
-is_begun Epoch = inr (λ e. cc e)
-is_begun (Enter epoch) = inr (λ e. cc e)
-is_begun (Read round) = inr (λ e. cc e)
-is_begun (Write round) = inr (λ e. cc e)
-is_begun (Change now after) = inr (λ e. cc e)
-is_begun (Leave reply lacks) = inr (λ e. cc e)
+is_begun state = inr (λ e. cc e)
 
 pub meets_none : (actor other : ℕ) (step : StepOf Record) (answer : Answer Record) (reply : Option Reply) → meets step answer ≡ false → meets_at actor (Step other step answer reply) ≡ false
-meets_none actor other step answer reply calm = rw calm (never (other == actor))
-  where
-    never : (b : Bool) → (b && false) ≡ false
-    never true = refl
-    never false = refl
+meets_none actor other step answer reply calm = rw calm (and-false (other == actor))
 
 -- what a state pays for yet
 pub paid_some : (limits : Limits) (entries : List Entry) (actor m : ℕ) (state : State) → MeetsAt limits entries actor m state → PaysMeets limits entries actor m 0
-paid_some limits entries actor m Begun pays = pays_less limits entries actor m 21 0 (omega arith) pays
-paid_some limits entries actor m Epoch pays = pays_less limits entries actor m 21 0 (omega arith) pays
-paid_some limits entries actor m (Enter epoch) pays = pays_less limits entries actor m 21 0 (omega arith) pays
 paid_some limits entries actor m (Read round) pays = absurd pays
 paid_some limits entries actor m (Write round) pays = pays_less limits entries actor m pays.left 0 (omega arith) pays.pays
 paid_some limits entries actor m (Change now after) pays = pays_less limits entries actor m pays.left 0 (omega arith) pays.pays
 paid_some limits entries actor m (Leave reply lacks) pays = pays
+paid_some limits entries actor m state pays = pays_less limits entries actor m 21 0 (omega arith) pays
 
 -- in the memory of a state, wherever a writer stands
 pub at_fresh : (limits : Limits) (entries : List Entry) (actor m : ℕ) (task : Task) (hand : Hand) (k : Knowledge) (r : Recalled) → IsState limits entries
     → (t : State) → ShowsState task hand.spares k r t
     → is_writer task.command ≡ true → PaysMeets limits entries actor m 21 → MeetsAt limits entries actor m t
-at_fresh limits entries actor m task hand k r state Begun shows writer pays = pays
-at_fresh limits entries actor m task hand k r state Epoch shows writer pays = pays
-at_fresh limits entries actor m task hand k r state (Enter epoch) shows writer pays = pays
 at_fresh limits entries actor m task hand k r state (Read round) shows writer pays = absurd (let both : true ≡ false = sym writer ∙ shows.reader in cc)
 at_fresh limits entries actor m task hand k r state (Write round) shows writer pays = writer_fresh limits entries actor (InRound round) m state pays
 at_fresh limits entries actor m task hand k r state (Change now after) shows writer pays = writer_fresh limits entries actor (change_at now) m state pays
 at_fresh limits entries actor m task hand k r state (Leave reply lacks) shows writer pays = pays_less limits entries actor m 21 0 (omega arith) pays
+at_fresh limits entries actor m task hand k r state other shows writer pays = pays
 
 -- where a writer stands that is paid for
 pub at_state : (limits : Limits) (entries : List Entry) (actor m : ℕ) (writer : WriterState) (t : State) → (is_leaving t ≡ true) ⊎ IsStanding t writer → PaysForWriter limits entries actor writer m
     → MeetsAt limits entries actor m t
 at_state limits entries actor m writer (Write round) goes pays = elim goes [
   | inl e ↦ absurd (cc e)
-  | inr stands ↦ subst (λ (w : WriterState). PaysForWriter limits entries actor w m) stands pays
+  | inr stands ↦ rw (← stands) pays
 ]
 at_state limits entries actor m writer (Change now after) goes pays = elim goes [
   | inl e ↦ absurd (cc e)
-  | inr stands ↦ subst (λ (w : WriterState). PaysForWriter limits entries actor w m) stands pays
+  | inr stands ↦ rw (← stands) pays
 ]
 at_state limits entries actor m writer (Leave reply lacks) goes pays = pays_less limits entries actor m pays.left 0 (omega arith) pays.pays
-at_state limits entries actor m writer Begun goes pays = elim goes [ inl e ↦ absurd (cc e) | inr stands ↦ absurd stands ]
-at_state limits entries actor m writer Epoch goes pays = elim goes [ inl e ↦ absurd (cc e) | inr stands ↦ absurd stands ]
-at_state limits entries actor m writer (Enter epoch) goes pays = elim goes [ inl e ↦ absurd (cc e) | inr stands ↦ absurd stands ]
-at_state limits entries actor m writer (Read round) goes pays = elim goes [ inl e ↦ absurd (cc e) | inr stands ↦ absurd stands ]
+at_state limits entries actor m writer state goes pays = elim goes [ inl e ↦ absurd (cc e) | inr stands ↦ absurd stands ]
 
 module _ (limits : Limits) (entries : List Entry) (actor : ℕ) (step : StepOf Record) (answer : Answer Record) (fit : AnswersFit) (state : IsState limits entries)
     (later : IsState limits (entries ++ Step actor step answer None ∷ [])) (direct : IsDirect limits (entries ++ Step actor step answer None ∷ [])) (start : ℕ)
@@ -114,14 +94,14 @@ module _ (limits : Limits) (entries : List Entry) (actor : ℕ) (step : StepOf R
   longer = entries ++ entry ∷ []
 
   fits : Fits limits (knows entries actor) step answer
-  fits = fit limits entries actor step answer state (subst (λ (a : ℕ). May a (knows entries actor) step) own_actor may) (next_of limits entries entry later).2
+  fits = fit limits entries actor step answer state (rw own_actor at may) (next_of limits entries entry later).2
 
   -- what was paid for from an earlier entry on, and from the end on
   from_each : meets step answer ≡ false → (left m : ℕ) → m ≤ length longer → left ≤ 21 → (m ≤ length entries → PaysMeets limits entries actor m left) → PaysMeets limits longer actor m left
   from_each calm left m within few pays = elim (cases_lt (length entries) m) [
     | inl past ↦ let long = pushed_length entries entry in pays_end limits longer actor m left (omega (arith, past, long)) few
     | inr le ↦
-        let none : cond {A = ℕ} (meets_at actor entry) 1 0 ≡ 0 = ap (λ (b : Bool). cond {A = ℕ} b 1 0) (meets_none actor actor step answer None calm) in
+        let none : cond {A = ℕ} (meets_at actor entry) 1 0 ≡ 0 = rw (meets_none actor actor step answer None calm) in
         pays_kept limits entries entry actor m left left le (omega (arith, none)) (pays le)
   ]
 
@@ -169,13 +149,13 @@ module _ (limits : Limits) (entries : List Entry) (actor : ℕ) (step : StepOf R
   ]
   from_state Epoch t k r new_r new_task new_hand shows wants calm stays new_shows writer steps pays m after within = elim wants [
     | inl is ↦
-        let quiet : meets step answer ≡ false = subst (λ (s : StepOf Record). meets s answer ≡ false) (same_Some step_of.Epoch step is) refl in
+        let quiet : meets step answer ≡ false = rw (← same_Some step_of.Epoch step is) refl in
         at_fresh limits longer actor m new_task new_hand k new_r later t new_shows writer (from_each quiet 21 m within (omega arith) (pays m after))
     | inr e ↦ absurd (cc e)
   ]
   from_state (Enter epoch) t k r new_r new_task new_hand shows wants calm stays new_shows writer steps pays m after within = elim wants [
     | inl is ↦
-        let quiet : meets step answer ≡ false = subst (λ (s : StepOf Record). meets s answer ≡ false) (same_Some (step_of.Enter epoch) step is) refl in
+        let quiet : meets step answer ≡ false = rw (← same_Some (step_of.Enter epoch) step is) refl in
         at_fresh limits longer actor m new_task new_hand k new_r later t new_shows writer (from_each quiet 21 m within (omega arith) (pays m after))
     | inr e ↦ absurd (cc e)
   ]
@@ -184,16 +164,16 @@ module _ (limits : Limits) (entries : List Entry) (actor : ℕ) (step : StepOf R
     | inl is ↦
         let same : wanted_step round ≡ step = same_Some (wanted_step round) step is in
         turned (InRound round) t (lawful_round round r shows)
-        (subst (λ (s : StepOf Record). Turns (knows entries actor) (InRound round) s answer t) same (turns_round task round (knows entries actor) answer t steps)) pays m after within
+        (rw (← same) (turns_round task round (knows entries actor) answer t steps)) pays m after within
     | inr e ↦ absurd (cc e)
   ]
   from_state (Change now next) t k r new_r new_task new_hand shows wants calm stays new_shows writer steps pays m after within = elim wants [
     | inl is ↦
         let asked : wanted_of_change now.limits now.plan hand.spares now.state ≡ step = same_Some (wanted_of_change now.limits now.plan hand.spares now.state) step is in
         turned (change_at now) t (lawful_change now r)
-        (subst (λ (s : StepOf Record). Turns (knows entries actor) (change_at now) s answer t) asked
-        (turns_change limits task hand.spares (knows entries actor) r now next shows answer (subst (λ (s : StepOf Record). Fits limits (knows entries actor) s answer) (sym asked) fits)
-        (subst (λ (s : StepOf Record). May task.actor (knows entries actor) s) (sym asked) may) t steps)) pays m after within
+        (rw (← asked)
+        (turns_change limits task hand.spares (knows entries actor) r now next shows answer (rw asked fits)
+        (rw asked may) t steps)) pays m after within
     | inr e ↦ absurd (cc e)
   ]
   from_state (Leave reply lacks) t k r new_r new_task new_hand shows wants calm stays new_shows writer steps pays m after within = elim wants [
@@ -231,8 +211,7 @@ writer_steps_paid fit limits entries actor step answer reply old new state shown
                 | inl first ↦ inl (calm_begin running.op old.hand (knows entries actor) step answer first goes.shows.limbo wanted)
                 | inr other ↦ inr other
               ] in
-              let may : May running.op.task.actor (knows entries actor) step =
-              subst (λ (s : StepOf Record). May running.op.task.actor (knows entries actor) s) (same_Some running.wanted step wants) goes.may.may in
+              let may : May running.op.task.actor (knows entries actor) step = rw (← same_Some running.wanted step wants) goes.may.may in
               from_state limits entries actor step answer fit state later direct start running.op.task old.hand shows.own_actor may (slice_get_below entries start _ before.begun)
               running.op.state now.op.state (knows_then (knows entries actor) step answer reply) (recalls entries actor)
               (recall (recalls entries actor) step answer) now.op.task new.hand goes.shows.stands step_is calm

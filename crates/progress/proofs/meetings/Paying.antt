@@ -1,27 +1,20 @@
 -- Whatever was removed, what hinders an operation pays for its steps, where writers meet what is gone seldom.
-use Rattle.std.proofs.Common.{◌≡◌, ◌<◌, ◌≤◌, ◌+◌, ◌-◌, ◌*◌, ℕ, zero, suc, List, [], ◌∷◌, Option, Some, Bool, true, false, cond, length, refl, sym, ap, subst, ◌∙◌, inl, inr, arith}
-use Rattle.progress.proofs.Words.{◌||◌, if◌then◌else◌, Command, add-mul, mul-le-mul_left, eqb_tells, All, IsStrictlyIncreasing, count_by, slice_get}
-use Rattle.progress.proofs.Words.{slice_range, Limits, is_writer, Answer, StepOf, Number, Whether, either}
-use Rattle.progress.proofs.Words.{Memory, Record, Entry, Step, cause_worth, IsRun, Happens, memory_at, IsCause, IsDirect, IsOperation, IsOwnStep}
-use Rattle.progress.proofs.Words.{Operation, TakesOwnStep}
-use Rattle.progress.proofs.Words.{AreAmong, ChangesTree, steps_from, one_memory, ◌==◌}
+use Rattle.progress.proofs.Words.{◌≡◌, ◌<◌, ◌≤◌, ◌+◌, ◌-◌, ◌*◌, ℕ, zero, suc, List, [], ◌∷◌, Option, Some, Bool, true, false, cond, length, refl, sym, ap, subst, ◌∙◌, inl, inr, arith, ◌||◌}
+use Rattle.progress.proofs.Words.{if◌then◌else◌, Command, add-mul, mul-le-mul_left, All, IsStrictlyIncreasing, count_by, slice_get, slice_range, Limits, is_writer, Answer, StepOf, Number}
+use Rattle.progress.proofs.Words.{Whether, either, Memory, Record, Entry, Step, cause_worth, IsRun, Happens, memory_at, IsCause, IsDirect, IsOperation, IsOwnStep, Operation, TakesOwnStep}
+use Rattle.progress.proofs.Words.{AreAmong, ChangesTree, steps_from, one_memory, All-head, All-tail, ◌&&◌, Content, Exchange, ReadersEnd, MeetsSeldom, hindrance_worth, meets, meets_at}
 use Rattle.std.proofs.Math.Nat.{mul-le-mul_right, mul_assoc}
-use Rattle.std.proofs.lemmas.List.Elements.{All-from_recursion, All-head, All-tail}
+use Rattle.std.proofs.lemmas.List.Elements.{All-from_recursion}
 use Rattle.std.specs.List.{AllByRecursion}
-use Rattle.std.specs.Prelude.{◌&&◌}
-use Rattle.bw_model.specs.declared.step.Answer.TheVariants.{Content}
-use Rattle.bw_model.specs.declared.step.Step.TheVariants.{Exchange, Row, Slot}
+use Rattle.bw_model.specs.declared.step.Step.TheVariants.{Row, Slot}
 use Rattle.deltas.specs.declared.record.Record.TheVariants as delta
-use Rattle.linearization.specs.ReadersEnd.{ReadersEnd}
-use Rattle.progress.specs.Writers.{MeetsSeldom}
-use Rattle.linearization.specs.Whole.{hindrance_worth, most_meets, most_worth}
-use Rattle.progress.specs.WritersAmong.{meets, meets_at}
+use Rattle.linearization.specs.Whole.{most_meets, most_worth}
 use Rattle.progress.proofs.Counted.{AreDistinct, Each, IsNotAmong}
-use Rattle.progress.proofs.Hindering.{beside, changes_at, changes_by, beside_by, hinder, is_change, takes_beside}
+use Rattle.progress.proofs.Hindering.{beside, both_at_most, changes_at, changes_by, beside_by, hinder, is_change, takes_beside}
 use Rattle.progress.proofs.Numbered.{IsIn}
 use Rattle.progress.proofs.Payers.{Pays, all_distinct, paid_by}
 use Rattle.progress.proofs.Spans.{missed_by_take, of_own}
-use Rattle.progress.proofs.Tallies.{counted_range, passes, passes_in, tally, tally_either, tally_most}
+use Rattle.progress.proofs.Tallies.{counted_range, passes, passes_in, tally, tally_either, tally_most, itself}
 
 -- a list of places, by a test
 pub record Parted (t : ℕ → Bool) (P : ℕ → Type 0) (cs : List ℕ) : Type 0 where
@@ -108,8 +101,7 @@ both_false false b e f = cc
 
 pub other_false : (a b : Bool) → b ≡ true → (a || b) ≡ false → ⊥
 other_false true b e f = cc
-other_false false true e f = cc
-other_false false false e f = cc
+other_false false b e f = cc
 
 -- a writer's causes, and a reader's changes, by hindrances
 pub writer_scaled : (limits : Limits) (command : Command) (steps causes hinders : ℕ) → is_writer command ≡ true → causes ≤ (most_meets + 1) * hinders → steps ≤ cause_worth limits * causes
@@ -152,12 +144,9 @@ module _ (limits : Limits) (entries : List Entry) where
   abbrev pub told : ℕ → ℕ → Bool
   told a k = is_change limits entries k || gone a k
 
-  own_is : (a : ℕ) → (a == a) ≡ true
-  own_is a = elim (eqb_tells a a) [ inl same ↦ same.0 | inr apart ↦ absurd (apart.1 refl) ]
-
   pub meets_here : (op : Operation) (c : ℕ) (step : StepOf Record) (answer : Answer Record) → TakesOwnStep entries op c step answer → meets step answer ≡ true → gone op.actor c ≡ true
   meets_here op c step answer took e =
-      ap (passes (meets_at op.actor)) took.1.entry ∙ ap (λ (b : Bool). b && meets step answer) (own_is op.actor) ∙ e
+      ap (passes (meets_at op.actor)) took.1.entry ∙ ap (λ (b : Bool). b && meets step answer) (itself op.actor) ∙ e
 
   -- a change in the list is one that is counted
   happens_is : (k : ℕ) → Happens limits entries k ChangesTree → is_change limits entries k ≡ true
@@ -204,16 +193,11 @@ module _ (limits : Limits) (entries : List Entry) where
   met_few a m n extra causes changes among few all =
       let changed = changes_count m n changes among in
       let counts : count_by (meets_at a) (slice_range entries m (suc n)) ≡ tally (gone a) m (suc n - m) = counted_range (meets_at a) entries m (suc n - m) in
-      let parts = tally_either (told a) (is_change limits entries) (gone a) m (suc n - m) (λ k. at_most_both (is_change limits entries k) (gone a k)) in
+      let parts = tally_either (told a) (is_change limits entries) (gone a) m (suc n - m) (λ k. both_at_most (is_change limits entries k) (gone a k)) in
       let both = two_tallies a m (suc n - m) in
       enough causes (tally (told a) m (suc n - m)) (tally (beside limits entries a) m (suc n - m)) (tally (is_change limits entries) m (suc n - m)) (tally (gone a) m (suc n - m))
-      (tally (hinder limits entries a) m (suc n - m)) (length changes) extra all parts both changed (subst (λ (x : ℕ). x ≤ (1 + length changes) * most_meets) counts few)
+      (tally (hinder limits entries a) m (suc n - m)) (length changes) extra all parts both changed (rw (← counts) few)
     where
-      at_most_both : (b c : Bool) → cond (b || c) 1 0 ≤ cond b 1 0 + cond c 1 0
-      at_most_both true true = omega arith
-      at_most_both true false = omega arith
-      at_most_both false c = omega arith
-
       enough : (causes told taken changed met hinders list extra : ℕ) → causes ≤ told + taken + extra → told ≤ changed + met → changed + taken ≤ hinders → list ≤ changed → met ≤ (1 + list) * 22
           → causes ≤ (22 + 1) * hinders + 22 + extra
       enough causes told taken changed met hinders list extra one two three four five = omega (arith, one, two, three, four, five)

@@ -1,22 +1,18 @@
 -- What changes of the tree pay for of what a writer meets, after one entry more.
-use Rattle.std.proofs.Common.{◌≡◌, ◌<◌, ◌≤◌, ◌+◌, ◌-◌, ◌*◌, ◌++◌, ℕ, suc, List, [], ◌∷◌, length, drop, Bool, true, false, cond, refl, sym, ap, ◌∙◌, arith}
-use Rattle.std.specs.Prelude.{◌&&◌, ◌==◌}
-use Rattle.std.proofs.lemmas.List.{drop-append-le, drop_all}
-use Rattle.progress.proofs.Words.{either, Memory, add-mul, if◌then◌else◌, All-push, All-weaker, All, count_by, Limits, Entry, Happens, memory_of}
-use Rattle.progress.proofs.Words.{increasing_push, pushed_length, ChangesTree, IsState, changes_tree}
-use Rattle.traces.proofs.TraceLaws.{Happens-kept, Happens-last}
-use Rattle.progress.specs.WriterStates.{MeetsFewer, PaysForWriter, PaysMeets}
-use Rattle.progress.specs.WritersAmong.{few_meets, IsLawfulWriting, WriterMoment, WriterState, changes_among, meets_at, own_meets}
-use Rattle.progress.proofs.ReaderPays.{change_is, count_push}
+use Rattle.progress.proofs.Words.{◌≡◌, ◌<◌, ◌≤◌, ◌+◌, ◌-◌, ◌*◌, ◌++◌, ℕ, suc, List, [], ◌∷◌, length, drop, Bool, true, false, cond, refl, sym, ap, ◌∙◌, arith, ◌==◌, drop-append-le, either}
+use Rattle.progress.proofs.Words.{Memory, add-mul, if◌then◌else◌, All-push, count_by, Limits, Entry, Happens, memory_of, increasing_push, pushed_length, ChangesTree, IsState, changes_tree}
+use Rattle.progress.proofs.Words.{and-false, PaysForWriter, PaysMeets, few_meets, IsLawfulWriting, WriterMoment, WriterState, meets_at}
+use Rattle.std.proofs.lemmas.List.{drop_all}
+use Rattle.traces.proofs.TraceLaws.{Happens-last}
+use Rattle.progress.specs.WriterStates.{MeetsFewer}
+use Rattle.progress.specs.WritersAmong.{changes_among, own_meets}
+use Rattle.progress.proofs.ReaderPays.{change_is, changes_kept, count_push, kept_enough}
 use Rattle.progress.proofs.meetings.Among.{writers_meet_few}
 use Rattle.progress.proofs.rounds.Counts.{many}
 use Rattle.progress.proofs.rounds.Ending.{many_is_count}
 
 end_enough : (left met : ℕ) → met ≡ 0 → left ≤ 21 → met + left ≤ (1 + 0) * 21
 end_enough left met none few = omega (arith, none, few)
-
-kept_enough : (bound before own left rest met : ℕ) → met ≡ before + own → rest + own ≤ left → before + left ≤ bound → met + rest ≤ bound
-kept_enough bound before own left rest met same less paid = omega (arith, same, less, paid)
 
 more_enough : (changes more before own left rest met : ℕ) → met ≡ before + own → own ≡ 0 → more ≡ suc changes → rest ≤ left + 21
     → before + left ≤ (1 + changes) * 21 → met + rest ≤ (1 + more) * 21
@@ -42,18 +38,11 @@ module _ (limits : Limits) (entries : List Entry) (last : Entry) (actor : ℕ) w
   pub counted : (m : ℕ) → m ≤ length entries → count_by (meets_at actor) (drop m longer) ≡ count_by (meets_at actor) (drop m entries) + cond (meets_at actor last) 1 0
   counted m within = ap (count_by (meets_at actor)) (drop-append-le m entries (last ∷ []) within) ∙ count_push (meets_at actor) (drop m entries) last
 
-  pub changes_kept : (m : ℕ) (changes : List ℕ) → All (λ place. (m ≤ place) × (place < length entries) × Happens limits entries place ChangesTree) changes
-      → All (λ place. (m ≤ place) × (place < length longer) × Happens limits longer place ChangesTree) changes
-  changes_kept m changes each =
-      All-weaker (λ place. (m ≤ place) × (place < length entries) × Happens limits entries place ChangesTree) (λ place. (m ≤ place) × (place < length longer) × Happens limits longer place ChangesTree)
-      (λ place h. let long : length longer ≡ suc (length entries) = pushed_length entries last in let below : place < length entries = h.1 in (h.0, omega arith, Happens-kept (last ∷ []) h.2))
-      changes each
-
   pub pays_kept : (m left rest : ℕ) → m ≤ length entries → rest + cond (meets_at actor last) 1 0 ≤ left → PaysMeets limits entries actor m left → PaysMeets limits longer actor m rest
   pays_kept m left rest within less h = record {
     changes = h.changes;
     increasing = h.increasing;
-    each = changes_kept m h.changes h.each;
+    each = changes_kept limits entries last actor m h.changes h.each;
     paid =
         kept_enough ((1 + length h.changes) * few_meets) (count_by (meets_at actor) (drop m entries)) (cond (meets_at actor last) 1 0) left rest
         (count_by (meets_at actor) (drop m longer)) (counted m within) less h.paid;
@@ -65,11 +54,11 @@ module _ (limits : Limits) (entries : List Entry) (last : Entry) (actor : ℕ) w
   pays_more m left rest within change none less h = record {
     changes = h.changes ++ length entries ∷ [];
     increasing = increasing_push h.changes (length entries) h.increasing
-        (All-weaker (λ place. (m ≤ place) × (place < length entries) × Happens limits entries place ChangesTree) (λ place. place < length entries) (λ place g. g.1) h.changes h.each);
+        (λ k d lt. (h.each k d lt).1);
     each =
         let long : length longer ≡ suc (length entries) = pushed_length entries last in
         All-push (λ place. (m ≤ place) × (place < length longer) × Happens limits longer place ChangesTree) h.changes (length entries)
-        (changes_kept m h.changes h.each) (within, omega arith, Happens-last limits entries last ChangesTree change);
+        (changes_kept limits entries last actor m h.changes h.each) (within, omega arith, Happens-last limits entries last ChangesTree change);
     paid =
         more_enough (length h.changes) (length (h.changes ++ length entries ∷ [])) (count_by (meets_at actor) (drop m entries)) (cond (meets_at actor last) 1 0) left rest
         (count_by (meets_at actor) (drop m longer)) (counted m within) (ap (λ (b : Bool). cond {A = ℕ} b 1 0) none) (pushed_length h.changes (length entries)) less h.paid;
@@ -130,11 +119,7 @@ pays_less limits entries actor m left rest less h = record {
 
 -- an exchange that changes the tree has won
 change_won : (memory : Memory) (actor : ℕ) (entry : Entry) → ChangesTree memory entry → meets_at actor entry ≡ false
-change_won memory actor entry c = rw c.5.0.1 (never (c.0 == actor))
-  where
-    never : (b : Bool) → (b && false) ≡ false
-    never true = refl
-    never false = refl
+change_won memory actor entry c = rw c.5.0.1 (and-false (c.0 == actor))
 
 -- One moment more, the writer's own or another actor's: what it meets was left, and a change of the tree pays for more.
 pub goes_on : (limits : Limits) (entries : List Entry) (actor : ℕ) (writer : WriterState) (moment : WriterMoment) (m : ℕ) → IsLawfulWriting limits actor entries writer moment → m ≤ length entries
@@ -164,7 +149,7 @@ goes_on limits entries actor writer moment m lawful within pays = either (change
 
     same : changes_tree (memory_of limits entries) moment.entry ≡ false → PaysForWriter limits (entries ++ moment.entry ∷ []) actor moment.state m
     same off =
-        let zeroth : ◌≡◌ {A = ℕ} (if changes_tree (memory_of limits entries) moment.entry then 1 else 0) 0 = ap (λ (b : Bool). if◌then◌else◌ {A = ℕ} b 1 0) off in
+        let zeroth : ◌≡◌ {A = ℕ} (if changes_tree (memory_of limits entries) moment.entry then 1 else 0) 0 = rw off in
         let some = few_some limits actor entries writer moment 0 pays.left lawful zeroth pays.few in
         record {
           left = pays.left - cond (meets_at actor moment.entry) 1 0;

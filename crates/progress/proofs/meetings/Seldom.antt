@@ -1,20 +1,20 @@
 -- Writers have met what is gone seldom still with one entry more.
-use Rattle.std.proofs.Common.{◌≡◌, ◌<◌, ◌≤◌, ◌+◌, ◌-◌, ◌*◌, ◌++◌, ℕ, suc, List, [], ◌∷◌, length, drop, take, Bool, true, cond, Option, None, Some, sym, ap, subst, ◌∙◌, inl, inr, arith}
-use Rattle.progress.proofs.Words.{cases_lt, All, IsStrictlyIncreasing, All-weaker, count_by, slice_get, slice_range, Limits, is_writer, Reply, Answer, StepOf, Record, Entry, Begin, Step, Happens}
-use Rattle.progress.proofs.Words.{Happens-kept, wanted_by, UnderWay, IsDirect, IsOperation, IsOwnStep, Operation, AreAmong, ChangesTree, IsLast, IsState}
+use Rattle.progress.proofs.Words.{◌≡◌, ◌<◌, ◌≤◌, ◌+◌, ◌-◌, ◌*◌, ◌++◌, ℕ, suc, List, [], ◌∷◌, length, drop, Bool, true, cond, Option, None, Some, sym, ap, subst, ◌∙◌, inl, inr, arith, cases_lt}
+use Rattle.progress.proofs.Words.{All, IsStrictlyIncreasing, count_by, slice_get, slice_range, Limits, is_writer, Reply, Answer, StepOf, Record, Entry, Begin, Step, Happens, Happens-kept}
+use Rattle.progress.proofs.Words.{wanted_by, UnderWay, IsDirect, IsOperation, IsOwnStep, Operation, AreAmong, ChangesTree, IsLast, IsState, pushed_length, slice_get_below, PaysMeets}
+use Rattle.progress.proofs.Words.{PaysWriter, MeetsSeldom, few_meets, meets_at}
 use Rattle.std.proofs.lemmas.List.{take_all, take_rest}
-use Rattle.traces.proofs.Pushes.{pushed_length, slice_get_below, take-push}
+use Rattle.traces.proofs.Pushes.{take-push}
 use Rattle.tree_law.specs.TraceLaws.{Opens}
 use Rattle.tree_law.proofs.trace.Owned.{operation_old, step_below, step_cases}
 use Rattle.tree_law.specs.Direct.{IsDirectState}
-use Rattle.progress.specs.WriterStates.{BeginsKeepWriters, IsWritersState, PaysMeets, PaysWriter, StepsKeepWriters}
-use Rattle.progress.specs.Writers.{MeetsSeldom}
+use Rattle.progress.specs.WriterStates.{BeginsKeepWriters, IsWritersState, StepsKeepWriters}
 use Rattle.linearization.specs.Whole.{most_meets}
-use Rattle.progress.specs.WritersAmong.{few_meets, meets_at}
 use Rattle.progress.proofs.ReaderStates.{range_kept}
 use Rattle.progress.proofs.Tallies.{one_at_most, counted_range, passes, passes_in, tally, tally_none, tally_split}
 use Rattle.progress.proofs.meetings.Own.{paid_some}
-use Rattle.progress.proofs.meetings.Pays.{changes_kept, counted}
+use Rattle.progress.proofs.ReaderPays.{changes_kept}
+use Rattle.progress.proofs.meetings.Pays.{counted}
 
 abbrev meets_from : List Entry → ℕ → ℕ → ℕ → ℕ
 meets_from entries actor m n = count_by (meets_at actor) (slice_range entries m (suc n))
@@ -50,11 +50,10 @@ since_last limits entries actor m n whole h = (
   h.changes,
   record {
     increasing = h.increasing;
-    each = All-weaker (λ place. (m ≤ place) × (place < length entries) × Happens limits entries place ChangesTree) (λ place. (m ≤ place) × (place ≤ n) × Happens limits entries place ChangesTree)
-        (λ place g. let below : place < length entries = g.1 in (g.0, omega arith, g.2)) h.changes h.each;
+    each = λ k d lt. let g = h.each k d lt in (g.0, (let below = g.1 in omega (arith, whole, below)), g.2);
   },
   (
-      let same : slice_range entries m (suc n) ≡ drop m entries = ap (λ end. take (end - m) (drop m entries)) whole ∙ take_rest entries m in
+      let same : slice_range entries m (suc n) ≡ drop m entries = rw whole (take_rest entries m) in
       let counted : meets_from entries actor m n ≡ count_by (meets_at actor) (drop m entries) = ap (count_by (meets_at actor)) same in
       less (meets_from entries actor m n) (count_by (meets_at actor) (drop m entries)) (length h.changes) counted h.met
       ),
@@ -87,12 +86,9 @@ module _ (limits : Limits) (entries : List Entry) where
     h.0,
     record {
       increasing = h.1.increasing;
-      each =
-          All-weaker (λ place. (suc op.start ≤ place) × (place ≤ n) × Happens limits entries place ChangesTree)
-          (λ place. (op.start ≤ place) × (place ≤ n) × Happens limits entries place ChangesTree)
-          (λ place g. let low : suc op.start ≤ place = g.0 in (omega (arith, low), g.1, g.2)) h.0 h.1.each;
+      each = λ k d lt. let g = h.1.each k d lt in ((let low = g.0 in omega (arith, low)), g.1, g.2);
     },
-    subst (λ (met : ℕ). met ≤ (1 + length h.0) * most_meets) (sym (from_begin op n begun after)) h.2,
+    rw (from_begin op n begun after) h.2,
   )
 
   -- where the changes since each later entry pay, all is so
@@ -117,11 +113,9 @@ module _ (limits : Limits) (entries : List Entry) (last : Entry) (kept : IsWrite
         h.0,
         record {
           increasing = h.1.increasing;
-          each = All-weaker (λ place. (m ≤ place) × (place ≤ n) × Happens limits entries place ChangesTree) (λ place. (m ≤ place) × (place ≤ n) × Happens limits longer place ChangesTree)
-              (λ place g. (g.0, g.1, Happens-kept (last ∷ []) g.2)) h.0 h.1.each;
+          each = λ k d lt. let g = h.1.each k d lt in (g.0, g.1, Happens-kept (last ∷ []) g.2);
         },
-        subst (λ (met : ℕ). met ≤ (1 + length h.0) * most_meets)
-            (sym (ap (count_by (meets_at op.actor)) (range_kept entries last m (suc n) (omega (arith, le)) (omega (arith, below))))) h.2,
+        rw (range_kept entries last m (suc n) (omega (arith, le)) (omega (arith, below))) h.2,
       )
 
   -- where the last entry is paid for
@@ -170,5 +164,5 @@ steps_keep limits entries actor step answer reply old kept pays wants later dire
     by_running None pays wants op s x given m latest writer is after within = absurd (cc wants)
     by_running (Some running) pays wants op s x given m latest writer is after within =
         let mine : actor ≡ op.actor = cc in
-        let theirs : PaysWriter limits entries op.actor (Some running) = subst (λ (a : ℕ). PaysWriter limits entries a (Some running)) mine pays in
+        let theirs : PaysWriter limits entries op.actor (Some running) = rw (← mine) pays in
         met_once limits entries (Step actor step answer reply) op.actor m within (paid_some limits entries op.actor m running.op.state (theirs op.start m op.command latest writer after within))

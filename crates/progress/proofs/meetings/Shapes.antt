@@ -1,12 +1,11 @@
 -- Which steps of a change lose: the exchange that decides alone.
-use Rattle.std.proofs.Common.{◌≡◌, ◌<◌, ◌⊎◌, ℕ, zero, suc, Bool, true, false, Option, None, Some, refl, sym, ap, subst, ◌∙◌, inl, inr, arith}
-use Rattle.progress.proofs.Words.{is_some, Limits, Answer, Whether, Exchange, Record, Knowledge, Recalled, Task}
-use Rattle.std.specs.Prelude.{IfSome, unwrap_or, not}
-use Rattle.structure_changes.specs.Plans.{cleared_page, cleared_row, clears, head_of, needs_pid, slot_of}
-use Rattle.structure_changes.specs.declared.plan.Plan.{Plan}
+use Rattle.progress.proofs.Words.{◌≡◌, ◌<◌, ◌⊎◌, ℕ, zero, suc, Bool, true, false, Option, None, Some, refl, sym, ap, ◌∙◌, inl, inr, arith, is_some, Limits, Answer, Whether, Exchange, Record}
+use Rattle.progress.proofs.Words.{Knowledge, Recalled, Task, IfSome, not, head_of, slot_of, Plan, May, Fits, meets}
+use Rattle.std.specs.Prelude.{unwrap_or}
+use Rattle.structure_changes.specs.Plans.{cleared_page, cleared_row, clears, needs_pid}
 use Rattle.structure_changes.specs.declared.plan.Plan.TheVariants as plan_is
-use Rattle.traces.specs.discipline.Discipline.{May, MayExchange}
-use Rattle.traces.specs.discipline.Fitting.{Fits, FitsExchange, ReadsRemoved}
+use Rattle.traces.specs.discipline.Discipline.{MayExchange}
+use Rattle.traces.specs.discipline.Fitting.{FitsExchange, ReadsRemoved}
 use Rattle.traces.specs.discipline.Knowledge.{Gone, Ready}
 use Rattle.change_machine.specs.Changes.{AreEnough, Change, IsSoundState, MayLinkAs, ShowsState, StandsReady, base_row, linked_number, record_row, wanted_at}
 use Rattle.change_machine.specs.Spares.{IsUnlinked, Spares, pid_of}
@@ -19,7 +18,7 @@ use Rattle.change_machine.specs.declared.taking.Taking.TheVariants.{Bits, Take}
 use Rattle.change_machine.proofs.Following.{record_is}
 use Rattle.op_machine.specs.machine.Shows.{IsInChange}
 use Rattle.op_parts.specs.declared.then.Then.{Then}
-use Rattle.progress.specs.WritersAmong.{Decides, meets}
+use Rattle.progress.specs.WritersAmong.{Decides}
 
 -- what an exchange is told that it has to win
 calm_exchange : (limits : Limits) (k : Knowledge) (slot old new : ℕ) (answer : Answer Record) → Fits limits k (Exchange slot old new) answer
@@ -73,16 +72,14 @@ module _ (limits : Limits) (task : Task) (spares : Spares) (k : Knowledge) (r : 
       placed = (record_is task.actor now.limits k now.plan spares shows.sound.room enough shows.shows.may shows.shows.keeps shows.shows.are).1
 
       by_plan : (plan : Plan) → now.plan ≡ plan → (slot_of now.plan ≡ 0) ⊎ (0 < linked_number now.limits now.plan spares)
-      by_plan (plan_is.Install pid head content) e = inr (rw e (rw e at placed))
-      by_plan (plan_is.Split pid plan) e = inr (rw e (rw e at placed))
       by_plan (plan_is.Root left root) e = inl (ap slot_of e)
-      by_plan (plan_is.Unlink pid head unterm removal) e = inr (rw e (rw e at placed))
+      by_plan plan e = inr (rw e (rw e at placed))
 
   pub decides : now.state ≡ at.Link → May task.actor k (wanted_at now.limits now.plan spares now.state)
       → Decides k (slot_of now.plan) (head_of now.plan) (wanted_at now.limits now.plan spares now.state)
   decides is may =
-      let enough : AreEnough now.limits now.plan spares = subst (λ (s : State). IsSoundState now.limits now.plan spares s) is shows.sound.state in
-      let here : May task.actor k (wanted_at now.limits now.plan spares at.Link) = subst (λ (s : State). May task.actor k (wanted_at now.limits now.plan spares s)) is may in
+      let enough : AreEnough now.limits now.plan spares = rw is at shows.sound.state in
+      let here : May task.actor k (wanted_at now.limits now.plan spares at.Link) = rw is at may in
       record {
         number = linked_number now.limits now.plan spares;
         is = ap (wanted_at now.limits now.plan spares) is;
@@ -111,18 +108,18 @@ module _ (limits : Limits) (task : Task) (spares : Spares) (k : Knowledge) (r : 
   by_state (at.Taking taking) is other asks = calm_taking taking answer
   by_state at.Base is other asks = refl
   by_state at.Ready is other asks =
-      let sound = subst (λ (s : State). IsSoundState now.limits now.plan spares s) is shows.sound.state in
+      let sound = rw is at shows.sound.state in
       calm_exchange limits k (pid_of spares) 0 (base_row now.limits now.plan spares) answer asks.0 (fills limits k (pid_of spares) (base_row now.limits now.plan spares) (spare_pid sound.0 sound.1))
   by_state at.Place is other asks = refl
   by_state at.Link is other asks = absurd (other refl)
   by_state at.Undo is other asks =
-      let sound = subst (λ (s : State). IsSoundState now.limits now.plan spares s) is shows.sound.state in
-      let ready = subst (λ (s : State). ShowsState now.limits now.plan spares k s) is shows.shows.stands in
+      let sound = rw is at shows.sound.state in
+      let ready = rw is at shows.shows.stands in
       calm_exchange limits k (pid_of spares) (base_row now.limits now.plan spares) 0 answer asks.0
       (empties limits k (pid_of spares) (base_row now.limits now.plan spares) (spare_pid sound.0 sound.1) (undone sound ready))
   by_state at.Clear is other asks =
-      let sound = subst (λ (s : State). IsSoundState now.limits now.plan spares s) is shows.sound.state in
-      let gone = subst (λ (s : State). ShowsState now.limits now.plan spares k s) is shows.shows.stands in
+      let sound = rw is at shows.sound.state in
+      let gone = rw is at shows.shows.stands in
       calm_exchange limits k (cleared_page now.plan) (cleared_row now.plan) 0 answer asks.0
       (clears_it limits k task.actor (cleared_page now.plan) (cleared_row now.plan) gone.1 (cleared sound) asks.1.1)
 

@@ -1,11 +1,7 @@
 -- From any later entry on: one take may miss by what the operation had read before, and what hinders it since pays for the rest.
-use Rattle.std.proofs.Common.{◌≡◌, ◌<◌, ◌≤◌, ◌+◌, ◌-◌, ◌*◌, ◌⊎◌, ℕ, zero, suc, List, [], ◌∷◌, Bool, true, false, length, refl, ap, subst, ◌∙◌, inl, inr, arith}
-use Rattle.progress.proofs.Words.{either, cases_lt, All, IsStrictlyIncreasing, Limits, is_writer, Whether, Entry, IsRun, IsCause, IsDirect}
-use Rattle.progress.proofs.Words.{IsOperation, IsOwnStep, Operation, steps_from}
-use Rattle.bw_model.specs.declared.step.Step.TheVariants.{Exchange}
-use Rattle.linearization.specs.ReadersEnd.{ReadersEnd}
-use Rattle.linearization.specs.Whole.{hindrance_worth}
-use Rattle.progress.specs.Writers.{MeetsSeldom}
+use Rattle.progress.proofs.Words.{◌≡◌, ◌<◌, ◌≤◌, ◌+◌, ◌-◌, ◌*◌, ◌⊎◌, ℕ, zero, suc, List, [], ◌∷◌, Bool, true, false, length, refl, ap, ◌∙◌, inl, inr, arith, either, cases_lt, All}
+use Rattle.progress.proofs.Words.{IsStrictlyIncreasing, Limits, is_writer, Whether, Entry, IsRun, IsCause, IsDirect, IsOperation, IsOwnStep, Operation, steps_from, Exchange, ReadersEnd}
+use Rattle.progress.proofs.Words.{hindrance_worth, MeetsSeldom}
 use Rattle.progress.proofs.Counted.{AreDistinct, Each}
 use Rattle.progress.proofs.Hindering.{beside, hinder, is_change}
 use Rattle.progress.proofs.Numbered.{IsIn, numbered}
@@ -33,7 +29,7 @@ module _ (limits : Limits) (entries : List Entry) (run : IsRun limits entries) (
   same_number j c d (is, inr (k, low, e, p)) (is', inl q) = absurd (let none : j ≡ 0 = q.0 in omega (arith, none, e))
   same_number j c d (is, inr (k, low, e, p)) (is', inr (i, low', e', q)) =
       let same : i ≡ k = omega (arith, low, low', e, e') in
-      same_cause limits entries run op k c d p (subst (λ x. Pays limits entries run op x d) same q)
+      same_cause limits entries run op k c d p (rw (← same) q)
 
   number_of : (c : ℕ) → IsMissed c → (j : ℕ) × HasNumber j c
   number_of c is =

@@ -1,28 +1,23 @@
 -- A step of a writer while nobody changes the tree: how often it meets pages that are gone from there on.
-use Rattle.std.proofs.Common.{◌≡◌, ◌<◌, ◌≤◌, ◌+◌, ◌-◌, ◌⊎◌, ◌++◌, append_assoc, ℕ, suc, List, [], ◌∷◌, length, Bool, true, false, cond, Option, None, Some, refl, sym, ap, subst, ◌∙◌, inl, inr, arith}
-use Rattle.progress.proofs.Words.{⊤, IsTrue, ◌==◌, Answer, Number, StepOf, Record, IsChainFrom, IsChainOf, IsPageChain, is_below, is_removed, low_in, LivePage, Version, Key}
-use Rattle.progress.proofs.Words.{IsAnswer, Memory, WayState, Root, Page, Visit, VisitState, Sight, Empty, Whole, to_page, by_step, same_page, IsPageOn, eqb_tells, either}
-use Rattle.std.specs.Prelude.{IfSome}
-use Rattle.bw_model.specs.declared.step.Answer.TheVariants.{Content}
+use Rattle.progress.proofs.Words.{◌≡◌, ◌<◌, ◌≤◌, ◌+◌, ◌-◌, ◌⊎◌, ◌++◌, append_assoc, ℕ, suc, List, [], ◌∷◌, length, Bool, true, false, cond, Option, None, Some, refl, sym, ap, subst, ◌∙◌, inl}
+use Rattle.progress.proofs.Words.{inr, arith, ⊤, IsTrue, ◌==◌, Answer, Number, StepOf, Record, IsChainFrom, IsPageChain, is_below, is_removed, low_in, Version, Key, IsAnswer, Memory, WayState}
+use Rattle.progress.proofs.Words.{Root, Page, Visit, VisitState, Sight, Empty, Whole, to_page, by_step, same_page, eqb_tells, either, Content, IsFitted, WriteGoal, Merge, Unterm, Responds}
+use Rattle.progress.proofs.Words.{Sees, Slot, Row, WriteEnd, WriteRound, above_empty, AtChange, InRound, WriterState, meets}
+use Rattle.progress.proofs.Tallies.{one_at_most}
 use Rattle.bw_model.specs.declared.step.Step.TheVariants as step
-use Rattle.traces.specs.chain.Fitted.{IsFitted}
 use Rattle.traces.specs.discipline.Recalled.{is_removal}
-use Rattle.round_model.specs.Courses.{WriteGoal, Seek, Left, Merge, Unterm}
-use Rattle.round_model.specs.Rounds.{Responds, Sees}
-use Rattle.round_model.specs.Visits.{Completes, Continues, FindsHead, Slot, Row}
+use Rattle.round_model.specs.Courses.{Seek, Left}
+use Rattle.round_model.specs.Visits.{Completes, Continues, FindsHead}
 use Rattle.round_model.specs.Visits as page
-use Rattle.round_model.specs.Walks.{HasNoneRead}
-use Rattle.round_model.specs.WriteEnds.{WriteEnd}
 use Rattle.round_model.specs.WriteEnds as end
 use Rattle.round_model.specs.WriteResponses.{TreatsWrite, writing}
-use Rattle.round_model.specs.WriteRounds.{WriteRound, at, wanted_step, write_way}
-use Rattle.round_model.proofs.PageLaws.{above_empty}
+use Rattle.round_model.specs.WriteRounds.{at, wanted_step, write_way}
 use Rattle.round_model.proofs.WayLaws.{lowest}
-use Rattle.progress.specs.WritersAmong.{AfterRound, AtChange, BeginsRound, InRound, WriterState, meets}
+use Rattle.progress.specs.WritersAmong.{AfterRound, BeginsRound}
 use Rattle.progress.proofs.rounds.Pages.{Standing, live, root_clear}
-use Rattle.progress.proofs.rounds.Visiting.{GoesOn, IsAtHead, IsLeft, finds, goes_on, heads, not_empty, visits}
+use Rattle.progress.proofs.rounds.Visiting.{GoesOn, IsLeft, finds, goes_on, heads, not_empty, visits}
 use Rattle.progress.proofs.meetings.Gone.{gone_read, has_removal, last_stands, once_next, owed, owed_next}
-use Rattle.progress.proofs.meetings.Meeting.{At, Begins, IsAsRead, MeetsFew, StandsAt, Then, Visits, treats}
+use Rattle.progress.proofs.meetings.Meeting.{At, Begins, IsAsRead, MeetsFew, StandsAt, Then, treats}
 
 -- how often a step meets a page that is gone
 abbrev pub meets_now : StepOf Record → Answer Record → ℕ
@@ -48,7 +43,7 @@ module _ (w : Standing) where
 
   root_passes : (goal : WriteGoal) (key : Key) (floor most : ℕ) → Begins w goal key floor most → write_way goal key [] ≡ true
   root_passes Seek key floor most b = lowest key
-  root_passes (Left pid) key floor most (inl held) = subst (λ (k : Key). IsTrue (is_below [] k)) held.0.begins (above_empty held.0.page.chain held.0.stands.fits.fitted held.0.gone)
+  root_passes (Left pid) key floor most (inl held) = rw (← held.0.begins) (above_empty held.0.page.chain held.0.stands.fits.fitted held.0.gone)
   root_passes (Left pid) key floor most (inr far) = far.0
   root_passes (Merge left) key floor most b = absurd b
   root_passes (Unterm parent left) key floor most b = absurd b
@@ -75,12 +70,12 @@ module _ (w : Standing) where
       let same : root ≡ w.memory.slots 0 = (let both : Number root ≡ Number (w.memory.slots 0) = answer in cc) in
       let alive = (root_clear w (write_way Seek [])).alive in
       let stands = w.tree.each w.tree.top w.tree.root.0 w.tree.root.1 in
-      let some : 0 < root = subst (λ (n : ℕ). 0 < n) (w.tree.root.2 ∙ sym same) stands.stands.page in
+      let some : 0 < root = rw (← (w.tree.root.2 ∙ sym same)) stands.stands.page in
       let none : meets_now (wanted_step (at old Root)) (Number root) ≡ 0 = meets_none 0 root (Number root) refl some in (
         most,
         omega (arith, none),
-        subst (λ (o : Option Version). Visits w old.goal old.key old.floor o old.left (to_page old.limits root) most) (sym few.0)
-            (subst (λ (o : Option Version). Visits w old.goal old.key old.floor None o (to_page old.limits root) most) (sym few.1) (record {
+        rw few.0
+            (rw few.1 (record {
               page = w.tree.root.0;
               level = w.tree.top;
               stands = stands;
@@ -108,8 +103,8 @@ module _ (w : Standing) where
       is_left = g.is_left;
       at_head = heads w.memory visit next told answer r v.at_head;
       bare = elim r [
-        | inl f ↦ subst (λ (n : Visit). HasNoneRead n.state n.part) (sym f.goes) tt
-        | inr c ↦ subst (λ (n : Visit). HasNoneRead n.state n.part) (sym c.goes) tt
+        | inl f ↦ rw f.goes tt
+        | inr c ↦ rw c.goes tt
       ];
       rest = v.rest;
       here = v.here;
@@ -118,33 +113,28 @@ module _ (w : Standing) where
   )
     where
       g : GoesOn w.memory visit next v.page.chain v.left
-      g = visits w.memory visit next v.page.chain v.left told (subst (λ (n : ℕ). IsChainOf w.memory n v.page.chain) v.is_pid v.stands.stands) v.is_left answer r
+      g = visits w.memory visit next v.page.chain v.left told (rw (← v.is_pid) v.stands.stands) v.is_left answer r
 
       enough : v.rest + owed (is_removed v.page.chain) (has_removal next.part) + meets_now (page.wanted_step visit) told ≤ most
       enough = elim r [
         | inl f ↦
-            let bare : visit.part ≡ [] = subst (λ (s : VisitState). HasNoneRead s visit.part) f.asked v.bare in
-            let before : owed (is_removed v.page.chain) (has_removal visit.part) ≡ owed (is_removed v.page.chain) false =
-            ap (λ (p : List Record). owed (is_removed v.page.chain) (has_removal p)) bare in
-            let after : owed (is_removed v.page.chain) (has_removal next.part) ≡ owed (is_removed v.page.chain) false =
-            ap (λ (n : Visit). owed (is_removed v.page.chain) (has_removal n.part)) f.goes in
-            let none : meets_now (page.wanted_step visit) told ≡ 0 = ap (λ (s : VisitState). meets_now (page.wanted_at visit.pid s) told) f.asked ∙ meets_none visit.pid f.row told f.is f.some in
+            let bare : visit.part ≡ [] = rw f.asked at v.bare in
+            let before : owed (is_removed v.page.chain) (has_removal visit.part) ≡ owed (is_removed v.page.chain) false = rw bare in
+            let after : owed (is_removed v.page.chain) (has_removal next.part) ≡ owed (is_removed v.page.chain) false = rw f.goes in
+            let none : meets_now (page.wanted_step visit) told ≡ 0 = rw f.asked (meets_none visit.pid f.row told f.is f.some) in
             let few = v.few in
             omega (arith, before, after, none, few)
         | inr c ↦
-            let part : next.part ≡ visit.part ++ c.content ∷ [] = ap (λ (n : Visit). n.part) c.goes in
+            let part : next.part ≡ visit.part ++ c.content ∷ [] = rw c.goes in
             let is_left : IsLeft w.memory v.page.chain (visit.part ++ c.content ∷ []) (Row c.head c.under) g.left =
             subst (λ (n : Visit). IsLeft w.memory v.page.chain n.part n.state g.left) c.goes g.is_left in
             let whole : visit.part ++ c.content ∷ is_left.0 ≡ v.page.chain = sym (append_assoc visit.part (c.content ∷ []) is_left.0) ∙ is_left.3 in
             let fitted = subst IsFitted (sym whole) v.stands.fits.fitted in
             let pays = owed_next visit.part is_left.0 c.content fitted in
-            let here : owed (is_removed v.page.chain) (has_removal (visit.part ++ c.content ∷ [])) + cond (is_removal c.content) 1 0 ≤ owed (is_removed v.page.chain) (has_removal visit.part) = subst
-            (λ (chain : List Record). owed (is_removed chain) (has_removal (visit.part ++ c.content ∷ [])) + cond (is_removal c.content) 1 0 ≤ owed
-            (is_removed chain) (has_removal visit.part)) whole pays in
+            let here : owed (is_removed v.page.chain) (has_removal (visit.part ++ c.content ∷ [])) + cond (is_removal c.content) 1 0 ≤ owed (is_removed v.page.chain) (has_removal visit.part) = rw (← whole) pays in
             let after : owed (is_removed v.page.chain) (has_removal next.part) ≡ owed (is_removed v.page.chain) (has_removal (visit.part ++ c.content ∷ [])) =
-            ap (λ (p : List Record). owed (is_removed v.page.chain) (has_removal p)) part in
-            let one : meets_now (page.wanted_step visit) told ≡ cond (is_removal c.content) 1 0 =
-            ap (λ (s : VisitState). meets_now (page.wanted_at visit.pid s) told) c.asked ∙ meets_record c.row c.content told c.is in
+            rw part in
+            let one : meets_now (page.wanted_step visit) told ≡ cond (is_removal c.content) 1 0 = rw c.asked (meets_record c.row c.content told c.is) in
             let few = v.few in
             omega (arith, here, after, one, few)
       ]
@@ -152,20 +142,20 @@ module _ (w : Standing) where
   found : (old : WriteRound) (visit next : Visit) (sight : Sight) (new : WriteRound) (result : Option WriteEnd) (told : Answer Record) → page.Responds visit told next (Some sight)
       → Sees writing (at old (Page visit)) sight new result → Kept (at old (Page visit)) told new result
   found old visit next Empty new result told r sees most v answer =
-      absurd (not_empty w.memory visit next v.page.chain told (subst (λ (n : ℕ). IsChainOf w.memory n v.page.chain) v.is_pid v.stands.stands) answer r)
+      absurd (not_empty w.memory visit next v.page.chain told (rw (← v.is_pid) v.stands.stands) answer r)
   found old visit next (Whole version) new result told r sees most v answer =
       let f = finds w.memory visit next v.page.chain v.left told version v.is_left answer r in
       let same : v.page ≡ live version = same_page v.page (live version) (v.is_pid ∙ sym f.0) (sym f.1) in
-      let head : version.head ≡ w.memory.slots visit.pid = subst (λ (s : VisitState). IsAtHead w.memory visit.pid s) r.asked v.at_head in
+      let head : version.head ≡ w.memory.slots visit.pid = rw r.asked at v.at_head in
       let as_read : IsAsRead w version = ap w.memory.slots f.0 ∙ sym head in
       let none : meets_now (page.wanted_step visit) told ≡ 0 =
-      ap (λ (s : VisitState). meets_now (page.wanted_at visit.pid s) told) r.asked ∙ meets_record r.row r.content told r.is ∙ ap (λ (b : Bool). cond {A = ℕ} b 1 0) (last_stands r.content r.last) in
+      rw r.asked (meets_record r.row r.content told r.is ∙ ap (λ (b : Bool). cond {A = ℕ} b 1 0) (last_stands r.content r.last)) in
       let few = v.few in
       let enough : v.rest + meets_now (page.wanted_step visit) told ≤ most = omega (arith, none, few) in (
         v.rest,
         enough,
-        treats w (at old (Page visit)) version v.level v.rest (subst (λ (p : LivePage). IsPageOn w.limits w.memory v.level p) same v.stands) as_read
-            (subst (λ (p : LivePage). At w old.goal old.key old.floor old.parent old.left v.level p v.rest) same v.here) new result sees,
+        treats w (at old (Page visit)) version v.level v.rest (rw (← same) v.stands) as_read
+            (rw (← same) v.here) new result sees,
       )
 
   -- a round that has read this memory alone
@@ -186,28 +176,28 @@ module _ (w : Standing) where
 
   begun_at : (goal : WriteGoal) (key : Key) (floor : ℕ) (above aside : Option Version) (state : WayState) (most : ℕ) → goal ≡ Seek → above ≡ None → aside ≡ None → state ≡ Root → 18 ≤ most
       → StandsAt w goal key floor above aside state most
-  begun_at goal key floor above aside state most is_goal is_above is_aside is_state few = subst (λ (s : WayState). StandsAt w goal key floor above aside s most) (sym is_state)
-      (is_above, is_aside, subst (λ (g : WriteGoal). Begins w g key floor most) (sym is_goal) few)
+  begun_at goal key floor above aside state most is_goal is_above is_aside is_state few = rw is_state
+      (is_above, is_aside, rw is_goal few)
 
   pub begins_few : (new : WriterState) (most : ℕ) → BeginsRound new → 18 ≤ most → Stands new most
-  begins_few new most b few = subst (λ (s : WriterState). Stands s most) (sym b.is)
+  begins_few new most b few = rw b.is
       (inl (begun_at b.round.goal b.round.key b.round.floor b.round.parent b.round.left b.round.state most b.seeks b.above b.aside b.first few))
 
   pub over_read : (version : Version) (new : WriterState) (most : ℕ) → IsAsRead w version → new ≡ AtChange version.pid version.head false → Stands new most
-  over_read version new most as_read e = subst (λ (s : WriterState). Stands s most) (sym e) (inl (refl, as_read, inr version.is_row.0))
+  over_read version new most as_read e = rw e (inl (refl, as_read, inr version.is_row.0))
 
   -- what follows the end of such a round
   pub fresh_after : (next : WriteRound) (result : Option WriteEnd) (new : WriterState) (left : ℕ) → Then w next result left → AfterRound next result new → Stands new left
-  fresh_after next None new left t goes = subst (λ (s : WriterState). Stands s left) (sym goes) (inl t)
+  fresh_after next None new left t goes = rw goes (inl t)
   fresh_after next (Some end.Again) new left t goes = begins_few new left goes t
   fresh_after next (Some end.Done) new left t goes = begins_few new left goes t
-  fresh_after next (Some (end.Removed removed)) new left t goes = subst (λ (s : WriterState). Stands s left) (sym goes.1) (inl (refl, refl, t))
-  fresh_after next (Some (end.Due plan after)) new left t goes = subst (λ (s : WriterState). Stands s left) (sym goes) (inl (refl, t.0, t.1))
+  fresh_after next (Some (end.Removed removed)) new left t goes = rw goes.1 (inl (refl, refl, t))
+  fresh_after next (Some (end.Due plan after)) new left t goes = rw goes (inl (refl, t.0, t.1))
   fresh_after next (Some (end.Leaf parent leaf)) new left t goes = elim goes [
     | inl begins ↦ begins_few new left begins t.0
     | inr more ↦ elim more [
       | inl at_leaf ↦ over_read leaf new left t.1 at_leaf
-      | inr above ↦ over_read above.0 new left (subst (λ (o : Option Version). IfSome o (IsAsRead w)) above.1 t.2) above.2
+      | inr above ↦ over_read above.0 new left (rw above.1 at t.2) above.2
     ]
   ]
 
@@ -234,65 +224,53 @@ module _ (w : Standing) (memory : Memory) where
   KeptStale old told new result = (most : ℕ) → IsStale w old.state most → FitsRound memory old.state → IsAnswer memory (wanted_step old) told
       → (left : ℕ) × (left + meets_now (wanted_step old) told ≤ most) × StaleThen w new result left
 
-  at_row : (visit : Visit) (head row : ℕ) → visit.state ≡ Row head row → FitsAt memory visit visit.state → (rest : List Record) × IsChainFrom memory.rows row rest × IsPageChain (visit.part ++ rest)
-  at_row visit head row e f = subst (λ (s : VisitState). FitsAt memory visit s) e f
-
   stale_reads : (old : WriteRound) (visit next : Visit) (told : Answer Record) → page.Responds visit told next None → KeptStale (at old (Page visit)) told (at old (Page next)) None
   stale_reads old visit next told r most few fits answer = elim r [
     | inl f ↦
-        let bare : visit.part ≡ [] = subst (λ (s : VisitState). FitsAt memory visit s) f.asked fits in
-        let before : cond {A = ℕ} (has_removal visit.part) 1 0 ≡ 0 = ap (λ (p : List Record). cond {A = ℕ} (has_removal p) 1 0) bare in
-        let after : cond {A = ℕ} (has_removal next.part) 1 0 ≡ 0 = ap (λ (n : Visit). cond {A = ℕ} (has_removal n.part) 1 0) f.goes in
-        let none : meets_now (page.wanted_step visit) told ≡ 0 = ap (λ (s : VisitState). meets_now (page.wanted_at visit.pid s) told) f.asked ∙ meets_none visit.pid f.row told f.is f.some in
+        let bare : visit.part ≡ [] = rw f.asked at fits in
+        let before : cond {A = ℕ} (has_removal visit.part) 1 0 ≡ 0 = rw bare in
+        let after : cond {A = ℕ} (has_removal next.part) 1 0 ≡ 0 = rw f.goes in
+        let none : meets_now (page.wanted_step visit) told ≡ 0 = rw f.asked (meets_none visit.pid f.row told f.is f.some) in
         (most, omega (arith, none), omega (arith, before, after, few))
     | inr c ↦
-        let rest = at_row visit c.head c.row c.asked fits in
-        let part : next.part ≡ visit.part ++ c.content ∷ [] = ap (λ (n : Visit). n.part) c.goes in
-        let asked : IsAnswer memory (page.wanted_at visit.pid (Row c.head c.row)) told = subst (λ (s : VisitState). IsAnswer memory (page.wanted_at visit.pid s) told) c.asked answer in
+        let rest = rw c.asked at fits in
+        let part : next.part ≡ visit.part ++ c.content ∷ [] = rw c.goes in
+        let asked : IsAnswer memory (page.wanted_at visit.pid (Row c.head c.row)) told = rw c.asked at answer in
         let g = goes_on memory visit.limits visit.pid visit.part (visit.part ++ rest.0) (Row c.head c.row) (length rest.0) told next (rest.0, refl, rest.1, refl) asked
         (record { head = c.head; row = c.row; content = c.content; under = c.under; asked = refl; is = c.is; more = c.more; goes = c.goes }) in
         let is_left : IsLeft memory (visit.part ++ rest.0) (visit.part ++ c.content ∷ []) (Row c.head c.under) g.left =
         subst (λ (n : Visit). IsLeft memory (visit.part ++ rest.0) n.part n.state g.left) c.goes g.is_left in
         let whole : visit.part ++ c.content ∷ is_left.0 ≡ visit.part ++ rest.0 = sym (append_assoc visit.part (c.content ∷ []) is_left.0) ∙ is_left.3 in
         let once = once_next visit.part is_left.0 c.content (subst IsFitted (sym whole) rest.2.fitted) in
-        let after : cond {A = ℕ} (has_removal next.part) 1 0 ≡ cond (has_removal (visit.part ++ c.content ∷ [])) 1 0 = ap (λ (p : List Record). cond {A = ℕ} (has_removal p) 1 0) part in
-        let one : meets_now (page.wanted_step visit) told ≡ cond (is_removal c.content) 1 0 =
-        ap (λ (s : VisitState). meets_now (page.wanted_at visit.pid s) told) c.asked ∙ meets_record c.row c.content told c.is in
+        let after : cond {A = ℕ} (has_removal next.part) 1 0 ≡ cond (has_removal (visit.part ++ c.content ∷ [])) 1 0 = rw part in
+        let one : meets_now (page.wanted_step visit) told ≡ cond (is_removal c.content) 1 0 = rw c.asked (meets_record c.row c.content told c.is) in
         less most (meets_now (page.wanted_step visit) told) (cond {A = ℕ} (is_removal c.content) 1 0) (cond {A = ℕ} (has_removal visit.part) 1 0)
         (cond {A = ℕ} (has_removal next.part) 1 0) one (omega (arith, once, after)) few
-        (one_bool (has_removal visit.part)) (one_bool (is_removal c.content))
+        (one_at_most (has_removal visit.part)) (one_at_most (is_removal c.content))
   ]
     where
-      one_bool : (b : Bool) → cond {A = ℕ} b 1 0 ≤ 1
-      one_bool true = omega arith
-      one_bool false = omega arith
-
       less : (most now here before after : ℕ) → now ≡ here → before + here ≤ after → 21 ≤ most + before → before ≤ 1 → here ≤ 1 → (left : ℕ) × (left + now ≤ most) × (21 ≤ left + after)
       less most now here before after same once few some one = (most - here, omega (arith, same, once, few, some, one), omega (arith, same, once, few, some, one))
 
   stale_found : (old : WriteRound) (visit next : Visit) (sight : Sight) (new : WriteRound) (result : Option WriteEnd) (told : Answer Record) → page.Responds visit told next (Some sight)
       → Sees writing (at old (Page visit)) sight new result → KeptStale (at old (Page visit)) told new result
   stale_found old visit next Empty new result told r sees most few fits answer =
-      let bare : visit.part ≡ [] = subst (λ (s : VisitState). FitsAt memory visit s) r.asked fits in
-      let before : cond {A = ℕ} (has_removal visit.part) 1 0 ≡ 0 = ap (λ (p : List Record). cond {A = ℕ} (has_removal p) 1 0) bare in
-      let one : meets_now (page.wanted_step visit) told ≤ 1 = at_most (meets (page.wanted_step visit) told) in
-      (19, enough most (cond {A = ℕ} (has_removal visit.part) 1 0) (meets_now (page.wanted_step visit) told) few before one, subst (λ (o : Option WriteEnd). StaleThen w new o 19) (sym sees) some)
+      let bare : visit.part ≡ [] = rw r.asked at fits in
+      let before : cond {A = ℕ} (has_removal visit.part) 1 0 ≡ 0 = rw bare in
+      let one : meets_now (page.wanted_step visit) told ≤ 1 = one_at_most (meets (page.wanted_step visit) told) in
+      (19, enough most (cond {A = ℕ} (has_removal visit.part) 1 0) (meets_now (page.wanted_step visit) told) few before one, rw sees some)
     where
-      at_most : (b : Bool) → cond {A = ℕ} b 1 0 ≤ 1
-      at_most true = omega arith
-      at_most false = omega arith
-
       enough : (most before now : ℕ) → 21 ≤ most + before → before ≡ 0 → now ≤ 1 → 19 + now ≤ most
       enough most before now some none one = omega (arith, some, none, one)
 
       some : 18 ≤ 19
       some = omega arith
   stale_found old visit next (Whole version) new result told r sees most few fits answer =
-      let rest = at_row visit version.head r.row r.asked fits in
+      let rest = rw r.asked at fits in
       let f = finds memory visit next (visit.part ++ rest.0) (length rest.0) told version
       (subst (λ (s : VisitState). IsLeft memory (visit.part ++ rest.0) visit.part s (length rest.0)) (sym r.asked) (rest.0, refl, rest.1, refl)) answer r in
       let none : meets_now (page.wanted_step visit) told ≡ 0 =
-      ap (λ (s : VisitState). meets_now (page.wanted_at visit.pid s) told) r.asked ∙ meets_record r.row r.content told r.is ∙ ap (λ (b : Bool). cond {A = ℕ} b 1 0) (last_stands r.content r.last) in
+      rw r.asked (meets_record r.row r.content told r.is ∙ ap (λ (b : Bool). cond {A = ℕ} b 1 0) (last_stands r.content r.last)) in
       let fitted : IsPageChain version.chain = subst IsPageChain (sym f.1) rest.2 in
       let gone : has_removal visit.part ≡ true → is_removed version.chain ≡ true = λ e. ap is_removed f.1 ∙ gone_read visit.part rest.0 rest.2.fitted e in
       let enough : most + meets_now (page.wanted_step visit) told ≤ most = omega (arith, none) in
@@ -303,33 +281,23 @@ module _ (w : Standing) (memory : Memory) where
           (λ read. absurd (let both : true ≡ false = sym (gone read) ∙ alive in cc))
           (λ unread. ap (λ (b : Bool). cond {A = ℕ} b 1 0) unread)
 
-      on : (new : WriteRound) (goes : WriteRound) (most : ℕ) → new ≡ goes → IsStale w goes.state most → IsStale w new.state most
-      on new goes most e s = subst (λ (o : WriteRound). IsStale w o.state most) (sym e) s
-
-      small : (b : Bool) → cond {A = ℕ} b 1 0 ≤ 1
-      small true = omega arith
-      small false = omega arith
-
       treated : (old : WriteRound) (visit : Visit) (version : Version) (new : WriteRound) (result : Option WriteEnd) (most : ℕ)
           → 21 ≤ most + cond (has_removal visit.part) 1 0 → IsPageChain version.chain
           → (has_removal visit.part ≡ true → is_removed version.chain ≡ true) → TreatsWrite (at old (Page visit)) version new result → StaleThen w new result most
       treated old visit version new None most few fitted gone t = elim t [
-        | inl g ↦ let none = none_read visit.part version.chain gone g.alive in let le : 21 ≤ most + 0 = omega (arith, few, none) in on new _ most g.goes le
+        | inl g ↦ let none = none_read visit.part version.chain gone g.alive in let le : 21 ≤ most + 0 = omega (arith, few, none) in rw g.goes le
         | inr more ↦ elim more [
-          | inl g ↦ let none = none_read visit.part version.chain gone g.here.alive in let le : 21 ≤ most + 0 = omega (arith, few, none) in on new _ most g.goes le
+          | inl g ↦ let none = none_read visit.part version.chain gone g.here.alive in let le : 21 ≤ most + 0 = omega (arith, few, none) in rw g.goes le
           | inr last ↦ elim last [
-            | inl g ↦ let none = none_read visit.part version.chain gone g.left.here.alive in let le : 21 ≤ most + 0 = omega (arith, few, none) in on new _ most g.goes le
-            | inr g ↦ let none = none_read visit.part version.chain gone g.left.here.alive in let le : 21 ≤ most + 0 = omega (arith, few, none) in on new _ most g.goes le
+            | inl g ↦ let none = none_read visit.part version.chain gone g.left.here.alive in let le : 21 ≤ most + 0 = omega (arith, few, none) in rw g.goes le
+            | inr g ↦ let none = none_read visit.part version.chain gone g.left.here.alive in let le : 21 ≤ most + 0 = omega (arith, few, none) in rw g.goes le
           ]
         ]
       ]
-      treated old visit version new (Some end.Again) most few fitted gone t = let one = small (has_removal visit.part) in omega (arith, few, one)
-      treated old visit version new (Some end.Done) most few fitted gone t = let one = small (has_removal visit.part) in omega (arith, few, one)
       treated old visit version new (Some (end.Removed removed)) most few fitted gone t =
-          let one = small (has_removal visit.part) in
-          (subst (λ (v : Version). IsTrue (is_below [] (low_in v.chain))) (sym t.is) (above_empty version.chain fitted.fitted t.gone), omega (arith, few, one))
-      treated old visit version new (Some (end.Due plan after)) most few fitted gone t = let one = small (has_removal visit.part) in omega (arith, few, one)
-      treated old visit version new (Some (end.Leaf parent leaf)) most few fitted gone t = let one = small (has_removal visit.part) in omega (arith, few, one)
+          let one = one_at_most (has_removal visit.part) in
+          (rw t.is (above_empty version.chain fitted.fitted t.gone), omega (arith, few, one))
+      treated old visit version new (Some other) most few fitted gone t = let one = one_at_most (has_removal visit.part) in omega (arith, few, one)
 
   pub stale_responds : (old new : WriteRound) (told : Answer Record) (result : Option WriteEnd) → Responds writing old told new result → KeptStale old told new result
   stale_responds old new told result responds = by_step writing (λ round. refl) KeptStale old new told result responds
@@ -338,15 +306,15 @@ module _ (w : Standing) (memory : Memory) where
       (λ visit next sight r sees. stale_found old visit next sight new result told r sees)
 
   pub stale_after : (next : WriteRound) (result : Option WriteEnd) (new : WriterState) (left : ℕ) → StaleThen w next result left → AfterRound next result new → Stands w new left
-  stale_after next None new left t goes = subst (λ (s : WriterState). Stands w s left) (sym goes) (inr t)
+  stale_after next None new left t goes = rw goes (inr t)
   stale_after next (Some end.Again) new left t goes = begins_few w new left goes t
   stale_after next (Some end.Done) new left t goes = begins_few w new left goes t
-  stale_after next (Some (end.Removed removed)) new left t goes = subst (λ (s : WriterState). Stands w s left) (sym goes.1) (inl (refl, refl, inr t))
-  stale_after next (Some (end.Due plan after)) new left t goes = subst (λ (s : WriterState). Stands w s left) (sym goes) (inr (inr t))
+  stale_after next (Some (end.Removed removed)) new left t goes = rw goes.1 (inl (refl, refl, inr t))
+  stale_after next (Some (end.Due plan after)) new left t goes = rw goes (inr (inr t))
   stale_after next (Some (end.Leaf parent leaf)) new left t goes = elim goes [
     | inl begins ↦ begins_few w new left begins (omega (arith, t))
     | inr more ↦ elim more [
-      | inl at_leaf ↦ subst (λ (s : WriterState). Stands w s left) (sym at_leaf) (inr (inr t))
-      | inr above ↦ subst (λ (s : WriterState). Stands w s left) (sym above.2) (inr (inr t))
+      | inl at_leaf ↦ rw at_leaf (inr (inr t))
+      | inr above ↦ rw above.2 (inr (inr t))
     ]
   ]

@@ -1,13 +1,8 @@
 -- Where a writer's operation stands, and how it goes on there by what it makes of an answer.
-use Rattle.std.proofs.Common.{◌≡◌, ◌⊎◌, ℕ, Bool, true, false, Option, None, Some, refl, sym, ap, subst, ◌∙◌, inl, inr}
-use Rattle.progress.proofs.Words.{either, Limits, Answer, StepOf, Record, Knowledge, Recalled, is_leaving, State, Write, Change, Task}
-use Rattle.structure_changes.specs.Plans.{head_of, slot_of}
-use Rattle.structure_changes.specs.declared.plan.Plan.{Plan}
-use Rattle.traces.specs.discipline.Discipline.{May}
-use Rattle.traces.specs.discipline.Fitting.{Fits}
-use Rattle.round_model.specs.WriteEnds.{WriteEnd}
+use Rattle.progress.proofs.Words.{◌≡◌, ◌⊎◌, ℕ, Bool, true, false, Option, None, Some, refl, sym, ap, ◌∙◌, inl, inr, either, Limits, Answer, StepOf, Record, Knowledge, Recalled, is_leaving}
+use Rattle.progress.proofs.Words.{State, Write, Change, Task, head_of, slot_of, Plan, May, Fits, WriteEnd, WriteRound, AtChange, InRound, StepsOn, WriterState, meets}
 use Rattle.round_model.specs.WriteEnds as end
-use Rattle.round_model.specs.WriteRounds.{WriteRound, wanted_step}
+use Rattle.round_model.specs.WriteRounds.{wanted_step}
 use Rattle.change_machine.specs.Changes.{CanDecide, Change as ChangeOf, has_decided, wanted_at}
 use Rattle.change_machine.specs.Spares.{Spares}
 use Rattle.change_machine.specs.declared.change.State.{State as StateOf}
@@ -17,7 +12,7 @@ use Rattle.op_machine.specs.machine.RoundSteps as op
 use Rattle.op_machine.specs.machine.RoundSteps.{StepsChanging, StepsWriting}
 use Rattle.op_machine.specs.machine.Shows.{IsInChange}
 use Rattle.op_parts.specs.declared.then.Then.{Then}
-use Rattle.progress.specs.WritersAmong.{AfterRound, AtChange, BeginsRound, HasDecided, InRound, StepsOn, WriterState, meets}
+use Rattle.progress.specs.WritersAmong.{AfterRound, BeginsRound, HasDecided}
 use Rattle.progress.proofs.meetings.Shapes.{calm, decides}
 
 abbrev pub change_at : ChangeOf → WriterState
@@ -37,7 +32,7 @@ pub anew : (task : Task) → BeginsRound (InRound (first_write task))
 anew task = record { round = first_write task; is = refl; seeks = refl; above = refl; aside = refl; first = refl }
 
 stands_as : (new other : State) (writer : WriterState) → new ≡ other → IsStanding other writer → IsStanding new writer
-stands_as new other writer e stands = subst (λ (s : State). IsStanding s writer) (sym e) stands
+stands_as new other writer e stands = rw e stands
 
 -- at the change that is due
 planned : (now : ChangeOf) (plan : Plan) (slot head : ℕ) → now.plan ≡ plan → has_decided now.state ≡ false → slot_of plan ≡ slot → head_of plan ≡ head → AtChange slot head false ≡ change_at now
@@ -87,13 +82,8 @@ module _ (task : Task) (round : WriteRound) (k : Knowledge) (answer : Answer Rec
       )
 
 is_link : (state : StateOf) → (state ≡ at.Link) ⊎ (state ≡ at.Link → ⊥)
-is_link (at.Taking taking) = inr (λ e. cc e)
-is_link at.Base = inr (λ e. cc e)
-is_link at.Ready = inr (λ e. cc e)
-is_link at.Place = inr (λ e. cc e)
 is_link at.Link = inl refl
-is_link at.Undo = inr (λ e. cc e)
-is_link at.Clear = inr (λ e. cc e)
+is_link state = inr (λ e. cc e)
 
 module _ (limits : Limits) (task : Task) (spares : Spares) (k : Knowledge) (r : Recalled) (now : ChangeOf) (after : Then) (shows : IsInChange task spares k r now after) (answer : Answer Record)
     (fits : Fits limits k (wanted_at now.limits now.plan spares now.state) answer) (may : May task.actor k (wanted_at now.limits now.plan spares now.state)) (new : State) where
@@ -117,8 +107,7 @@ module _ (limits : Limits) (task : Task) (spares : Spares) (k : Knowledge) (r : 
   at_link : now.state ≡ at.Link → StepsChanging now new → Takes
   at_link link steps =
       let fresh : has_decided now.state ≡ false = ap has_decided link in
-      let decided : HasDecided k slot head (has_decided now.state) step answer =
-      subst (λ (t : Bool). HasDecided k slot head t step answer) (sym fresh) (decides limits task spares k r now after shows answer link may) in
+      let decided : HasDecided k slot head (has_decided now.state) step answer = rw fresh (decides limits task spares k r now after shows answer link may) in
       elim steps.goes [
         | inl on ↦ (
           AtChange slot head true,
@@ -150,7 +139,7 @@ module _ (limits : Limits) (task : Task) (spares : Spares) (k : Knowledge) (r : 
             | inl link ↦ absurd (other link)
             | inr taken ↦ (
               InRound (first_write begins.1.0),
-              record { goes = inr (subst (λ (t : Bool). HasDecided k slot head t step answer) (sym taken) quiet, inl (anew begins.1.0)) },
+              record { goes = inr (rw taken quiet, inl (anew begins.1.0)) },
               inr (stands_as new (Write (first_write begins.1.0)) (InRound (first_write begins.1.0)) begins.1.1 refl),
             )
           ]

@@ -1,12 +1,10 @@
 -- Changes of the tree and numbers that others take pay for all steps of a run, an operation that runs alone ends, and all together are lock-free, where
 -- writers meet what is gone seldom.
-use Rattle.std.proofs.Common.{◌<◌, ◌≤◌, ◌+◌, ◌-◌, ◌*◌, ℕ, suc, List, length, take, inl, inr, arith}
-use Rattle.progress.proofs.Words.{mul-le-mul_left, cases_lt, count_by, Limits, Entry, IsRun, HasFewChanges, IsDirect, IsOperation, IsOwnStep}
-use Rattle.progress.proofs.Words.{Operation, is_begin, steps_from}
+use Rattle.progress.proofs.Words.{◌<◌, ◌≤◌, ◌+◌, ◌-◌, ◌*◌, ℕ, suc, List, length, take, inl, inr, arith, mul-le-mul_left, cases_lt, count_by, Limits, Entry, IsRun, HasFewChanges, IsDirect}
+use Rattle.progress.proofs.Words.{IsOperation, IsOwnStep, Operation, is_begin, steps_from, ReadersEnd, hindrance_worth, MeetsSeldom}
 use Rattle.linearization.specs.Progress.{is_end, is_step}
-use Rattle.linearization.specs.ReadersEnd.{ReadersEnd}
-use Rattle.linearization.specs.Whole.{AlwaysEndAlone, AreLockFree, OperationsEnd, hindrance_worth, most_worth}
-use Rattle.progress.specs.Writers.{MeetsSeldom, RunsMakeProgress}
+use Rattle.linearization.specs.Whole.{AlwaysEndAlone, AreLockFree, OperationsEnd, most_worth}
+use Rattle.progress.specs.Writers.{RunsMakeProgress}
 use Rattle.progress.proofs.Alone.{enough, lone_changes, lone_pays}
 use Rattle.progress.proofs.Hindering.{among_hinder, hinder}
 use Rattle.progress.proofs.Tallies.{listed, tally}

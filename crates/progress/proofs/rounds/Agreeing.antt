@@ -1,11 +1,10 @@
 -- What a reader's round reads is as in the memory in which its steps are counted.
-use Rattle.progress.proofs.Words.{◌≡◌, ◌⊎◌, ◌++◌, ℕ, List, [], ◌∷◌, Option, Some, refl, sym, ap, subst, ◌∙◌, inl, inr, Limits, Answer, Number, Memory, Record, IsChainFrom, IsChainOf}
-use Rattle.progress.proofs.Words.{level_in, low_in, Entry, Knowledge, knows, Recalled, IsAnswer, memory_of, IsChainFrom-unique, WayState, Root, Page, ReadGoal, Leg, Down, Round, Past}
-use Rattle.progress.proofs.Words.{IsOnWay, Key, IsInTree, IsState}
+use Rattle.progress.proofs.Words.{◌≡◌, ◌⊎◌, ◌++◌, ℕ, List, [], ◌∷◌, Option, Some, refl, sym, ap, ◌∙◌, inl, inr, Limits, Answer, Number, Memory, Record, IsChainFrom, IsChainOf, level_in, low_in}
+use Rattle.progress.proofs.Words.{Entry, Knowledge, knows, Recalled, IsAnswer, memory_of, IsChainFrom-unique, WayState, Root, Page, ReadGoal, Leg, Down, Round, Past, IsOnWay, Key, IsInTree}
+use Rattle.progress.proofs.Words.{IsState, ReadRound, wanted_step, Slot, Row, Visit, VisitState}
 use Rattle.round_model.specs.Descents as way
-use Rattle.round_model.specs.ReadRounds.{ReadRound, ShowsState, ShowsVisit, wanted_step}
+use Rattle.round_model.specs.ReadRounds.{ShowsState, ShowsVisit}
 use Rattle.round_model.specs.ReadRounds as read
-use Rattle.round_model.specs.Visits.{Slot, Row, Visit, VisitState}
 use Rattle.round_model.specs.Visits as seen
 use Rattle.progress.proofs.rounds.Known.{expected_reached, read_front}
 use Rattle.progress.proofs.rounds.Pages.{Standing}
@@ -51,15 +50,15 @@ module _ (limits : Limits) (entries : List Entry) (state : IsState limits entrie
       → IsChainOf w.memory visit.pid chain → IsLeft w.memory chain visit.part (Row head row) left → head ≡ w.memory.slots visit.pid
       → (content : Record) → memory.rows row ≡ Some content → w.memory.rows row ≡ Some content
   row_same within r visit head row left chain o at is_chain is_left at_head content there =
-      let reads : seen.Reads k visit.pid head visit.part row = subst (λ (s : VisitState). seen.ShowsState k visit.pid visit.part s) at o.on_way.shows.stands in
+      let reads : seen.Reads k visit.pid head visit.part row = rw at at o.on_way.shows.stands in
       let f = read_front limits entries state actor visit.pid head row visit.part reads.in_slot reads.seen in
       let in_tree : IsInTree (state.owners.page visit.pid) = reached_in 0 (level_in (visit.part ++ f.0)) (low_in (visit.part ++ f.0)) (state.owners.page visit.pid) f.2.reached in
       let here = same.chains visit.pid chain in_tree is_chain in
       let slot : memory.slots visit.pid ≡ head = same.slots visit.pid is_chain.page in_tree ∙ sym at_head in
-      let from : IsChainFrom memory.rows head chain = subst (λ (n : ℕ). IsChainFrom memory.rows n chain) slot here.records in
+      let from : IsChainFrom memory.rows head chain = rw (← slot) here.records in
       let whole : chain ≡ visit.part ++ f.0 = IsChainFrom-unique memory.rows head chain (visit.part ++ f.0) from f.2.is_chain in
       let rest : is_left.0 ≡ f.0 = cancel visit.part is_left.0 f.0 (is_left.3 ∙ whole) in
-      first_same memory.rows w.memory.rows row is_left.0 content (subst (λ (c : List Record). IsChainFrom memory.rows row c) (sym rest) f.1) is_left.2 there
+      first_same memory.rows w.memory.rows row is_left.0 content (rw rest f.1) is_left.2 there
 
   -- a page that is being read
   pub record Reading (visit : Visit) : Type 0 where
@@ -72,21 +71,21 @@ module _ (limits : Limits) (entries : List Entry) (state : IsState limits entrie
   at_visit : (leg : Leg) (goal : ReadGoal) (key : Key) (visit : Visit) (steps : ℕ)
       → StandsAt w leg goal key (Page visit) steps ⊎ SettledAt w leg goal (Page visit) steps → (visit.state ≡ Slot) ⊎ Reading visit
   at_visit leg goal key visit steps (inl v) =
-      inr (record { chain = v.page.chain; left = v.left; is_chain = subst (λ (n : ℕ). IsChainOf w.memory n v.page.chain) v.is_pid v.stands.stands; is_left = v.is_left; at_head = v.at_head })
+      inr (record { chain = v.page.chain; left = v.left; is_chain = rw (← v.is_pid) v.stands.stands; is_left = v.is_left; at_head = v.at_head })
   at_visit leg goal key visit steps (inr (inl v)) =
-      inr (record { chain = v.page.chain; left = v.left; is_chain = subst (λ (n : ℕ). IsChainOf w.memory n v.page.chain) v.is_pid v.loose.stands.stands; is_left = v.is_left; at_head = v.at_head })
+      inr (record { chain = v.page.chain; left = v.left; is_chain = rw (← v.is_pid) v.loose.stands.stands; is_left = v.is_left; at_head = v.at_head })
   at_visit leg goal key visit steps (inr (inr v)) = inl v.at_slot
 
   pub visit_same : (within : Limits) (r : Recalled) (visit : Visit) → OnItsWay within r visit → (visit.state ≡ Slot) ⊎ Reading visit → (answer : Answer Record)
       → (state : VisitState) → visit.state ≡ state → IsAnswer memory (seen.wanted_at visit.pid state) answer
       → IsAnswer w.memory (seen.wanted_at visit.pid state) answer
-  visit_same within r visit o here answer Slot e is = is ∙ ap (λ (n : ℕ). Number n) (slot_same within r visit o)
+  visit_same within r visit o here answer Slot e is = is ∙ ap Number (slot_same within r visit o)
   visit_same within r visit o here answer (Row head row) e (content, there, is) = elim here [
     | inl at_slot ↦ absurd (let both : Slot ≡ Row head row = sym at_slot ∙ e in cc)
     | inr v ↦ (
       content,
-      row_same within r visit head row v.left v.chain o e v.is_chain (subst (λ (s : VisitState). IsLeft w.memory v.chain visit.part s v.left) e v.is_left)
-          (subst (λ (s : VisitState). IsAtHead w.memory visit.pid s) e v.at_head) content there,
+      row_same within r visit head row v.left v.chain o e v.is_chain (rw e at v.is_left)
+          (rw e at v.at_head) content there,
       is,
     )
   ]
@@ -94,7 +93,7 @@ module _ (limits : Limits) (entries : List Entry) (state : IsState limits entrie
   state_same : (within : Limits) (key : Key) (goal : ReadGoal) (leg : Leg) (r : Recalled) (steps : ℕ) (at : WayState) → ShowsState within key goal leg k r at
       → StandsAt w leg goal key at steps ⊎ SettledAt w leg goal at steps
       → (answer : Answer Record) → IsAnswer memory (way.wanted_at at) answer → IsAnswer w.memory (way.wanted_at at) answer
-  state_same within key goal leg r steps Root shows has answer is = is ∙ ap (λ (n : ℕ). Number n) same.root
+  state_same within key goal leg r steps Root shows has answer is = is ∙ ap Number same.root
   state_same within key goal leg r steps (Page visit) shows has answer is =
       visit_same within r visit (way_of within key goal leg r visit shows) (at_visit leg goal key visit steps has) answer visit.state refl is
 

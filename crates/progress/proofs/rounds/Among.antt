@@ -1,23 +1,22 @@
 -- A reader's steps among the entries of others that change the tree.
-use Rattle.std.proofs.Common.{◌≡◌, ◌<◌, ◌≤◌, ◌+◌, ◌*◌, ◌⊎◌, ◌++◌, ℕ, zero, suc, List, [], ◌∷◌, length, Bool, true, false, cond, Option, Some, None, refl, sym, ap, subst, ◌∙◌, inl, inr, arith}
-use Rattle.progress.proofs.Words.{add-mul, suc-mul, eqb_tells, length-append, if◌then◌else◌, Limits, Answer, StepOf, either, Memory, Record, Entry, Begin, Step, knows, Recalled, IsNext}
+use Rattle.progress.proofs.Words.{◌≡◌, ◌<◌, ◌≤◌, ◌+◌, ◌*◌, ◌⊎◌, ◌++◌, ℕ, zero, suc, List, [], ◌∷◌, length, Bool, true, false, cond, Option, Some, None, refl, sym, ap, subst, ◌∙◌, inl, inr}
+use Rattle.progress.proofs.Words.{arith, add-mul, suc-mul, eqb_tells, length-append, if◌then◌else◌, Limits, Answer, StepOf, either, Memory, Record, Entry, Begin, Step, knows, Recalled, IsNext}
 use Rattle.progress.proofs.Words.{IsAnswer, memory_of, WayState, Root, Page, ReadEnd, Again, Removed, Leaf, Beside, ReadGoal, Leg, Visit, VisitState, by_step, first_read, read_left_of}
-use Rattle.progress.proofs.Words.{is_leaving, AfterReading, State, Read, Task, is_step_of, IsState, ReadsIn, one_walk}
+use Rattle.progress.proofs.Words.{is_leaving, AfterReading, State, Read, Task, is_step_of, IsState, ReadsIn, one_walk, ReadRound, at, reading, wanted_step, Responds, IsLawfulMoment, IsOthers}
+use Rattle.progress.proofs.Words.{Moment, all_changes, changes_tree, own_steps, IsRoundIn, IsStateIn, IsVisitIn}
 use Rattle.bw_model.specs.declared.step.Step.TheVariants.{Row, Slot}
 use Rattle.round_model.specs.Descents as way
-use Rattle.round_model.specs.ReadRounds.{ReadRound, at, reading, wanted_step}
 use Rattle.round_model.specs.ReadRounds as read
-use Rattle.round_model.specs.Rounds.{Responds}
 use Rattle.round_model.specs.Visits as seen
-use Rattle.progress.specs.ReadersAmong.{AreLawful, IsLawfulMoment, IsOtherMoment, IsOthers, IsOwnMoment, Moment, ReadersEndAmongChanges, all_changes, changes_tree, own_steps}
-use Rattle.progress.specs.RoundsIn.{IsReadIn, IsRoundIn, IsStateIn, IsVisitIn}
+use Rattle.progress.specs.ReadersAmong.{AreLawful, IsOtherMoment, IsOwnMoment, ReadersEndAmongChanges}
+use Rattle.progress.specs.RoundsIn.{IsReadIn}
 use Rattle.progress.proofs.Tallies.{one_at_most}
 use Rattle.progress.proofs.rounds.Agreeing.{answer_same}
 use Rattle.progress.proofs.rounds.Counts.{many}
 use Rattle.progress.proofs.rounds.Ending.{enough, many_is_count}
 use Rattle.progress.proofs.rounds.Known.{tree}
 use Rattle.progress.proofs.rounds.Pages.{Standing}
-use Rattle.progress.proofs.rounds.Resuming.{AnyAt, Comes, SettledAt, SettledLeft, StaleVisit, from_place, settled_any, settles, some_left, stale_ends, stale_on, stands_at}
+use Rattle.progress.proofs.rounds.Resuming.{AnyAt, Comes, SettledLeft, StaleVisit, from_place, settled_any, settles, some_left, stale_ends, stale_on, stands_at}
 use Rattle.progress.proofs.rounds.Running.{HasLeft, one_step}
 use Rattle.progress.proofs.rounds.Showing.{shown_in}
 use Rattle.progress.proofs.rounds.Unchanged.{IsSame, same_next}
@@ -117,8 +116,7 @@ module _ (limits : Limits) (actor : ℕ) (task : Task) where
         → IsVisitIn (tree limits entries state actor) round.goal round.leg visit.pid visit.part visit.state → price ≤ steps + length visit.part
         → StaleVisit now round.leg round.goal visit steps × (length visit.part ≤ 13)
     stale_visit steps visit head row at_row is few =
-        let reads : IsReadIn (tree limits entries state actor) round.goal round.leg visit.pid visit.part row = subst
-        (λ (s : VisitState). IsVisitIn (tree limits entries state actor) round.goal round.leg visit.pid visit.part s) at_row is in
+        let reads : IsReadIn (tree limits entries state actor) round.goal round.leg visit.pid visit.part row = rw at_row at is in
         let short = reads.fits.short in
         let all = length-append visit.part reads.rest in
         let enough_here = placed in (
@@ -127,7 +125,7 @@ module _ (limits : Limits) (actor : ℕ) (task : Task) where
             is_pid = refl;
             stale = record { fits = reads.fits; names = reads.names; kept = reads.kept; left = reads.left; round = reads.round; leg_is = is_in.leg; goal_is = is_in.goal };
             left = length reads.rest;
-            is_left = subst (λ (s : VisitState). IsLeft (memory_of limits entries) (visit.part ++ reads.rest) visit.part s (length reads.rest)) (sym at_row) (reads.rest, refl, reads.stands, refl);
+            is_left = rw at_row (reads.rest, refl, reads.stands, refl);
             head = head;
             row = row;
             at_row = at_row;
@@ -146,16 +144,16 @@ module _ (limits : Limits) (actor : ℕ) (task : Task) where
         by_visit visit (seen.Row head row) e is v any =
             let s = stale_visit price visit head row e v (omega arith) in
             inr (record { visit = visit; head = head; row = row; at_page = is; at_row = e; few = omega arith; short = s.1 })
-        by_visit visit seen.Slot e is v (inl settled) = inl (now, same_now, inr (subst (λ (s : WayState). SettledAt now round.leg round.goal s price) (sym is) settled))
+        by_visit visit seen.Slot e is v (inl settled) = inl (now, same_now, inr (rw is settled))
         by_visit visit seen.Slot e is v (inr stale) = absurd (let both : seen.Slot ≡ seen.Row stale.head stale.row = sym e ∙ stale.at_row in cc)
 
         by_state : (state_at : WayState) → round.state ≡ state_at → IsStateIn (tree limits entries state actor) round.goal round.leg round.state
             → AnyAt now round.leg round.goal round.state price → Here entries state round price
         by_state Root is v any =
-            inl (now, same_now, inr (subst (λ (s : WayState). SettledAt now round.leg round.goal s price) (sym is) (subst (λ (s : WayState). AnyAt now round.leg round.goal s price) is any)))
+            inl (now, same_now, inr (rw is (rw is at any)))
         by_state (Page visit) is v any =
-            by_visit visit visit.state refl is (subst (λ (s : WayState). IsStateIn (tree limits entries state actor) round.goal round.leg s) is v)
-            (subst (λ (s : WayState). AnyAt now round.leg round.goal s price) is any)
+            by_visit visit visit.state refl is (rw is at v)
+            (rw is at any)
 
     -- a page is read on
     abbrev StaleState : Leg → ReadGoal → WayState → ℕ → Type 0
@@ -224,7 +222,7 @@ module _ (limits : Limits) (actor : ℕ) (task : Task) where
     stale_step new steps s reads = by_end reads.steps.end (stale_responds round reads.steps.next reads.answer reads.steps.end reads.steps.responds steps stale reads.told) reads.steps.goes
       where
         v : IsVisitIn (tree limits entries state actor) round.goal round.leg s.visit.pid s.visit.part s.visit.state
-        v = subst (λ (t : WayState). IsStateIn (tree limits entries state actor) round.goal round.leg t) s.at_page is_in.state
+        v = rw s.at_page at is_in.state
 
         stale : StaleState round.leg round.goal round.state steps
         stale = subst (λ (t : WayState). StaleState round.leg round.goal t steps) (sym s.at_page) ((stale_visit steps s.visit s.head s.row s.at_row v s.few).0, s.few)
@@ -278,19 +276,19 @@ module _ (limits : Limits) (actor : ℕ) (task : Task) where
         rest (entries ++ moment.entry ∷ []) m.later moment.round left are
         (stays_here entries moment.entry state m.later moment.round left
         (λ w same. same_next limits w entries moment.entry state m.next m.later m.direct off same)
-        (subst (λ (o : ReadRound). Here entries state o left) (sym is) found))
+        (rw is found))
 
     none_more : changes_tree (memory_of limits entries) moment.entry ≡ false → all_changes limits entries (moment ∷ moments) ≡ changes
-    none_more off = let zeroth : ◌≡◌ {A = ℕ} (if changes_tree (memory_of limits entries) moment.entry then 1 else 0) 0 = ap (λ (b : Bool). if◌then◌else◌ {A = ℕ} b 1 0) off in omega (arith, zeroth)
+    none_more off = let zeroth : ◌≡◌ {A = ℕ} (if changes_tree (memory_of limits entries) moment.entry then 1 else 0) 0 = rw off in omega (arith, zeroth)
 
     one_more : changes_tree (memory_of limits entries) moment.entry ≡ true → all_changes limits entries (moment ∷ moments) ≡ 1 + changes
-    one_more on = let one : ◌≡◌ {A = ℕ} (if changes_tree (memory_of limits entries) moment.entry then 1 else 0) 1 = ap (λ (b : Bool). if◌then◌else◌ {A = ℕ} b 1 0) on in omega (arith, one)
+    one_more on = let one : ◌≡◌ {A = ℕ} (if changes_tree (memory_of limits entries) moment.entry then 1 else 0) 1 = rw on in omega (arith, one)
 
     own_case : IsOwnMoment actor task round moment → Goal
     own_case own = by_found (own_step entries state round m.r m.shows (Read moment.round) steps here (record { answer = own.answer; told = told; steps = own.steps }))
       where
         next : IsNext limits entries (Step actor (wanted_step round) own.answer None)
-        next = subst (λ (e : Entry). IsNext limits entries e) own.entry_is m.next
+        next = rw own.entry_is at m.next
 
         told : IsAnswer (memory_of limits entries) (wanted_step round) own.answer
         told = next.2
@@ -311,7 +309,7 @@ module _ (limits : Limits) (actor : ℕ) (task : Task) where
     other_case other = either (changes_tree (memory_of limits entries) moment.entry) changed same_tree
       where
         not_own : cond {A = ℕ} (is_own moment) 1 0 ≡ 0
-        not_own = ap (λ (b : Bool). cond {A = ℕ} b 1 0) (others_no_step actor moment.entry other.others)
+        not_own = rw (others_no_step actor moment.entry other.others)
 
         changed : changes_tree (memory_of limits entries) moment.entry ≡ true → Goal
         changed on =

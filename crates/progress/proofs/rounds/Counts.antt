@@ -1,5 +1,6 @@
 -- How many elements of a list pass a test.
-use Rattle.progress.proofs.Words.{◌≡◌, ◌<◌, ◌≤◌, ◌+◌, ℕ, zero, suc, List, [], ◌∷◌, Bool, true, false, cond, length, refl, ap, subst, ◌∙◌, ◌⊎◌, inl, inr, arith, cases_lt, ◌||◌, Contains}
+use Rattle.progress.proofs.Words.{◌≡◌, ◌<◌, ◌≤◌, ◌+◌, ℕ, zero, suc, List, [], ◌∷◌, Bool, true, false, cond, length, refl, ap, ◌∙◌, inl, inr, arith, cases_lt, ◌||◌, Contains, or_left, or_right}
+use Rattle.std.proofs.lemmas.Bool.{or_cases}
 use Rattle.progress.proofs.Tallies.{one_at_most}
 
 abbrev pub many : {X : Type 0} → (X → Bool) → List X → ℕ
@@ -19,7 +20,7 @@ has_later x y xs (k, lt, e) = (suc k, omega arith, e)
 
 as_many : (b c : Bool) → (b ≡ true → c ≡ true) → cond b 1 0 ≤ cond c 1 0
 as_many false c f = omega arith
-as_many true c f = let e : cond {A = ℕ} c 1 0 ≡ 1 = ap (λ (d : Bool). cond {A = ℕ} d 1 0) (f refl) in omega (arith, e)
+as_many true c f = let e : cond {A = ℕ} c 1 0 ≡ 1 = rw (f refl) in omega (arith, e)
 
 -- where each that passes one test passes the other, too
 pub many_up : {X : Type 0} (p q : X → Bool) (xs : List X) → ((x : X) → Contains xs x → p x ≡ true → q x ≡ true) → many p xs ≤ many q xs
@@ -30,7 +31,7 @@ many_up p q (x ∷ xs) up =
     omega (arith, rest, here)
 
 one_more : (b c : Bool) → b ≡ false → c ≡ true → cond b 1 0 < cond c 1 0
-one_more b c e f = let g : cond {A = ℕ} b 1 0 ≡ 0 = ap (λ (d : Bool). cond {A = ℕ} d 1 0) e in let h : cond {A = ℕ} c 1 0 ≡ 1 = ap (λ (d : Bool). cond {A = ℕ} d 1 0) f in omega (arith, g, h)
+one_more b c e f = let g : cond {A = ℕ} b 1 0 ≡ 0 = rw e in let h : cond {A = ℕ} c 1 0 ≡ 1 = rw f in omega (arith, g, h)
 
 -- and one passes the other test alone
 pub many_more : {X : Type 0} (p q : X → Bool) (xs : List X) (x : X) → ((y : X) → Contains xs y → p y ≡ true → q y ≡ true) → Contains xs x → p x ≡ false → q x ≡ true → many p xs < many q xs
@@ -48,7 +49,7 @@ pub many_none : {X : Type 0} (p : X → Bool) (xs : List X) → ((x : X) → Con
 many_none p [] none = refl
 many_none p (x ∷ xs) none =
     let rest = many_none p xs (λ y c. none y (has_later x y xs c)) in
-    let here : cond {A = ℕ} (p x) 1 0 ≡ 0 = ap (λ (d : Bool). cond {A = ℕ} d 1 0) (none x (has_first x xs)) in
+    let here : cond {A = ℕ} (p x) 1 0 ≡ 0 = rw (none x (has_first x xs)) in
     omega (arith, rest, here)
 
 -- whether an element passes
@@ -56,21 +57,9 @@ abbrev pub any : {X : Type 0} → (X → Bool) → List X → Bool
 any p [] = false
 any p (x ∷ xs) = p x || any p xs
 
-or_of : (b c : Bool) → (b || c) ≡ true → (b ≡ true) ⊎ (c ≡ true)
-or_of true c e = inl refl
-or_of false c e = inr e
-
 pub any_of : {X : Type 0} (p : X → Bool) (xs : List X) → any p xs ≡ true → (x : X) × Contains xs x × (p x ≡ true)
 any_of p [] e = absurd (cc)
-any_of p (x ∷ xs) e = elim (or_of (p x) (any p xs) e) [ inl here ↦ (x, has_first x xs, here) | inr there ↦ let f = any_of p xs there in (f.0, has_later x f.0 xs f.1, f.2) ]
-
-or_left : (b c : Bool) → b ≡ true → (b || c) ≡ true
-or_left true c e = refl
-or_left false c e = absurd (cc)
-
-or_right : (b c : Bool) → c ≡ true → (b || c) ≡ true
-or_right true c e = refl
-or_right false c e = e
+any_of p (x ∷ xs) e = elim (or_cases (p x) (any p xs) e) [ inl here ↦ (x, has_first x xs, here) | inr there ↦ let f = any_of p xs there in (f.0, has_later x f.0 xs f.1, f.2) ]
 
 pub any_in : {X : Type 0} (p : X → Bool) (xs : List X) (x : X) → Contains xs x → p x ≡ true → any p xs ≡ true
 any_in p [] x (k, lt, e) so = absurd (omega (arith, lt))
@@ -90,5 +79,5 @@ pub has_number : (n k : ℕ) → k < n → Contains (numbers n) k
 has_number zero k lt = absurd (omega (arith, lt))
 has_number (suc n) k lt = elim (cases_lt k n) [
   | inl less ↦ has_later n k (numbers n) (has_number n k less)
-  | inr least ↦ let same : n ≡ k = omega (arith, lt, least) in subst (λ (m : ℕ). Contains (n ∷ numbers n) m) same (has_first n (numbers n))
+  | inr least ↦ let same : n ≡ k = omega (arith, lt, least) in rw (← same) (has_first n (numbers n))
 ]

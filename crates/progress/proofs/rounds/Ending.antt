@@ -1,9 +1,9 @@
 -- How many steps a reader's rounds take in one memory, by the limits.
-use Rattle.progress.proofs.Words.{◌≡◌, ◌≤◌, ◌+◌, ◌*◌, ℕ, zero, suc, List, Bool, true, false, cond, refl, ap, subst, inl, inr, arith, count_by, Limits, Memory, is_removed, low_in, LivePage}
-use Rattle.progress.proofs.Words.{Version, Left, ReadRound, first_read, read_left_of, Task, memory_of, HasWholeTree, EndsWithin, FindsEach, IsRoundIn, WasRemovedLeaf}
-use Rattle.std.proofs.Math.Nat.{add-mul, mul-le-mul_right, suc-mul}
+use Rattle.progress.proofs.Words.{◌≡◌, ◌≤◌, ◌+◌, ◌*◌, ℕ, zero, suc, List, Bool, true, false, cond, refl, ap, inl, inr, arith, count_by, Limits, Memory, is_removed, low_in, LivePage, Version}
+use Rattle.progress.proofs.Words.{Left, ReadRound, first_read, read_left_of, Task, memory_of, HasWholeTree, EndsWithin, FindsEach, IsRoundIn, WasRemovedLeaf, add-mul, suc-mul, one_walk}
+use Rattle.std.proofs.Math.Nat.{mul-le-mul_right}
 use Rattle.std.proofs.lemmas.List.Recursion.{is_count_by}
-use Rattle.progress.specs.RoundsEnd.{IsRemovedLeaf, LeftRoundsEnd, LookupsEnd, LookupsEndInStates, RoundsEndInStates, StaleRoundsEnd, StandingRoundsEnd, one_walk, removed_leaves}
+use Rattle.progress.specs.RoundsEnd.{IsRemovedLeaf, LeftRoundsEnd, LookupsEnd, LookupsEndInStates, RoundsEndInStates, StaleRoundsEnd, StandingRoundsEnd, removed_leaves}
 use Rattle.progress.proofs.rounds.Counts.{many, many_within}
 use Rattle.progress.proofs.rounds.Known.{tree}
 use Rattle.progress.proofs.rounds.Measures.{after_few, all_removed, one_round, removed_after, times, times_up}
@@ -74,7 +74,7 @@ module _ (limits : Limits) (memory : Memory) (tree : HasWholeTree limits memory)
       let product = add-mul 1 (removed_leaves tree) (one_walk limits) in
       let few : one_round standing + times standing (all_removed standing) ≤ (1 + removed_leaves tree) * one_walk limits = omega (arith, one, all, same, product) in
       let rounds : 1 + (1 + removed_leaves tree) ≡ 2 + removed_leaves tree = omega arith in
-      subst (λ (n : ℕ). EndsWithin memory task (read_left_of leaf round) (n * one_walk limits) × FindsEach memory task (read_left_of leaf round)) rounds
+      rw (← rounds)
       (begin_left task leaf round (1 + removed_leaves tree) (inr (removed, few)))
 
   pub standing_round_ends : (task : Task) (round : ReadRound) → IsRoundIn tree round → EndsWithin memory task round ((4 + removed_leaves tree) * one_walk limits + 14)

@@ -1,21 +1,18 @@
 -- Ways of keys: where one key is on a way, each key below it is.
-use Rattle.std.proofs.Common.{◌≡◌, List, Bool, true, false, Option, Some, None, refl, sym, ◌∙◌}
-use Rattle.progress.proofs.Words.{IsTrue, not, is_below, not_true, Record, covers, high_in, low_in, StaysLeft, precedes, reaches, by_below, covers_from, covers_to, upto_below, upto_trans}
-use Rattle.tree_law.specs.Keys.{IsUnder, IsUpTo, Key}
+use Rattle.progress.proofs.Words.{◌≡◌, List, Bool, true, false, Option, Some, None, refl, sym, ◌∙◌, IsTrue, is_below, not_true, Record, covers, high_in, low_in, StaysLeft, precedes, reaches}
+use Rattle.progress.proofs.Words.{by_below, covers_from, covers_to, upto_below, upto_trans, IsUpTo, Key}
+use Rattle.std.proofs.lemmas.Bool.{not_from_false}
+use Rattle.tree_law.specs.Keys.{IsUnder}
 
 abbrev pub IsWay : (Key → Bool) → Type 0
 IsWay way = (a b : Key) → way b ≡ true → IsUpTo a b → way a ≡ true
-
-not_false : (b : Bool) → b ≡ false → not b ≡ true
-not_false false e = refl
-not_false true e = absurd (cc)
 
 -- a key is reached where it isn't above
 pub reached : (key low : Key) → reaches key low ≡ true → IsUpTo low key
 reached key low e = not_true (is_below key low) e
 
 pub reaching : (key low : Key) → IsUpTo low key → reaches key low ≡ true
-reaching key low e = not_false (is_below key low) e
+reaching key low e = not_from_false (is_below key low) e
 
 pub reaches_is_way : (key : Key) → IsWay (reaches key)
 reaches_is_way key a b on up = reaching key a (upto_trans a b key up (reached key b on))

@@ -1,22 +1,22 @@
 -- Where a reader's round stands in the memory of a state, by what its actor knows.
-use Rattle.std.proofs.Common.{◌≡◌, ◌<◌, ◌≤◌, ◌⊎◌, ◌++◌, ℕ, zero, suc, List, [], Bool, true, false, Option, Some, None, refl, sym, ap, subst, ◌∙◌, inl, inr, arith}
-use Rattle.progress.proofs.Words.{IsTrue, Limits, Child, Memory, Record, Contains, IsPageChain, LivePage, Entry, Knowledge, knows, memory_of, IsChainFrom-unique, same_page, Version, Key}
-use Rattle.progress.proofs.Words.{HasWholeTree, IsState, phase_of, covers_from, KeepsItsPlace, IsPlace, NamesPlaces}
+use Rattle.progress.proofs.Words.{◌≡◌, ◌<◌, ◌≤◌, ◌⊎◌, ◌++◌, ℕ, zero, suc, List, [], Bool, true, false, Some, None, refl, sym, ap, ◌∙◌, inl, inr, arith, IsTrue, Limits, Child, Memory, Record}
+use Rattle.progress.proofs.Words.{IsPageChain, Entry, Knowledge, knows, memory_of, IsChainFrom-unique, same_page, Version, Key, HasWholeTree, IsState, phase_of, covers_from, KeepsItsPlace}
+use Rattle.progress.proofs.Words.{IsPlace, NamesPlaces, IsChainFrom, content_in, covers, is_removed, level_in, low_in, right_in, shared_part, slot_some}
 use Rattle.linearization.specs.Phases as phase
-use Rattle.traces.specs.chain.Chains.{IsChainFrom, IsFront, content_in, covers, is_removed, level_in, low_in, right_in}
+use Rattle.traces.specs.chain.Chains.{IsFront}
 use Rattle.structure_changes.specs.Readings.{HasSeen}
 use Rattle.structure_changes.proofs.Due.{covered}
 use Rattle.round_model.specs.Walks.{IsExpected}
 use Rattle.round_model.specs.Ways.{NamesAt}
-use Rattle.tree_law.specs.Owners.{ChainNames, HeadFits, InOrder, IsOut, OrderFits, Reached, SeenFits}
+use Rattle.tree_law.specs.Owners.{ChainNames, InOrder, IsOut, OrderFits, Reached}
 use Rattle.tree_law.specs.Phase.{Cleared, Keeps, Nobody, PageOwner, Placed, Stage, rank, rank_of}
-use Rattle.tree_law.specs.Shared.{row_in, shared_part, slot_in}
+use Rattle.tree_law.specs.Shared.{row_in, slot_in}
 use Rattle.tree_law.specs.Tree.{IsOff}
 use Rattle.tree_law.proofs.links.Keeping.{on_or_merged}
 use Rattle.tree_law.proofs.WholeTrees.{listed_tree}
 use Rattle.tree_law.proofs.shape.Chains.{chain_within, front_of}
 use Rattle.tree_law.proofs.shape.Leaves.{not_free}
-use Rattle.tree_law.proofs.shape.Mapping.{chain_at, slot_some}
+use Rattle.tree_law.proofs.shape.Mapping.{chain_at}
 
 -- a slot without a row holds 0
 no_row : (slots : ℕ → ℕ) (page : ℕ) → 0 < page → slot_in slots page ≡ None → slots page ≡ 0
@@ -99,7 +99,7 @@ module _ (limits : Limits) (entries : List Entry) (state : IsState limits entrie
 
   -- a record that was read stands
   pub stand : (row : ℕ) (content : Record) → k.read.seen row ≡ Some content → memory.rows row ≡ Some content
-  stand row content e = (subst (λ (o : Option Record). SeenFits (state.owners.row row) (memory.rows row) o) e ((state.is_tree.sound actor).seen_fits row)).1
+  stand row content e = (rw e at ((state.is_tree.sound actor).seen_fits row)).1
 
   -- A slot was read, and this is the chain from its row: what it names is in the tree, unless it is removed; and then it stands in the slot still.
   pub record WasRead (pid head : ℕ) (chain : List Record) : Type 0 where
@@ -111,7 +111,7 @@ module _ (limits : Limits) (entries : List Entry) (state : IsState limits entrie
 
   pub was_read : (pid head : ℕ) → k.read.heads pid ≡ Some head → (chain : List Record) × WasRead pid head chain
   was_read pid head e =
-      let h = subst (λ (o : Option ℕ). HeadFits state.owners (shared_part memory) (state.logs actor) pid o) e ((state.is_tree.sound actor).heads_fit pid) in
+      let h = rw e at ((state.is_tree.sound actor).heads_fit pid) in
       (h.2.chain, record { is_chain = h.2.is_chain; fits = state.fitted head h.2.linked h.2.chain h.2.is_chain; reached = h.3; names = h.5; stays = h.4 })
 
   pub read_whole : (version : Version) → HasSeen k version → WasRead version.pid version.head version.chain
@@ -119,14 +119,14 @@ module _ (limits : Limits) (entries : List Entry) (state : IsState limits entrie
       let r = was_read version.pid version.head seen.head in
       let stands : IsChainFrom memory.rows version.head version.chain = chain_within k.read.seen memory.rows stand version.chain (Some version.head) seen.read in
       let same : r.0 ≡ version.chain = IsChainFrom-unique memory.rows version.head r.0 version.chain r.1.is_chain stands in
-      subst (λ (c : List Record). WasRead version.pid version.head c) same r.1
+      rw (← same) r.1
 
   pub read_front : (pid head row : ℕ) (part : List Record) → k.read.heads pid ≡ Some head → IsFront k.read.seen head part row
       → (rest : List Record) × IsChainFrom memory.rows row rest × WasRead pid head (part ++ rest)
   read_front pid head row part e front =
       let r = was_read pid head e in
       let f = front_of k.read.seen memory.rows stand head part row r.0 front r.1.is_chain in
-      (f.0, f.1, subst (λ (c : List Record). WasRead pid head c) f.2 r.1)
+      (f.0, f.1, rw (← f.2) r.1)
 
   pub read_names : (pid head : ℕ) (chain : List Record) → WasRead pid head chain → is_removed chain ≡ false → NamesPlaces tree chain
   read_names pid head chain r alive = names_of chain r.fits (r.names alive)
@@ -136,14 +136,14 @@ module _ (limits : Limits) (entries : List Entry) (state : IsState limits entrie
   read_kept pid head chain r gone level other on is_right =
       let q = tree.right level other pid on is_right in
       let stands = (tree.each level q.0 q.1).stands in
-      let linked : 0 < memory.slots pid = subst (λ (n : ℕ). 0 < memory.slots n) q.2 stands.linked in
-      let some : 0 < pid = subst (λ (n : ℕ). 0 < n) q.2 stands.page in
+      let linked : 0 < memory.slots pid = rw (← q.2) stands.linked in
+      let some : 0 < pid = rw (← q.2) stands.page in
       elim (r.stays gone) [
         | inl still ↦
             let slot = slot_some memory.slots pid head still in
-            let here : IsChainFrom memory.rows head q.0.chain = subst (λ (n : ℕ). IsChainFrom memory.rows n q.0.chain) (ap memory.slots q.2 ∙ slot.1) stands.records in
+            let here : IsChainFrom memory.rows head q.0.chain = rw (← (ap memory.slots q.2 ∙ slot.1)) stands.records in
             let chains : q.0.chain ≡ chain = IsChainFrom-unique memory.rows head q.0.chain chain here r.is_chain in
-            subst (λ (p : LivePage). Contains (tree.pages level) p) (same_page q.0 (record { pid = pid; chain = chain }) q.2 chains) q.1
+            rw (← same_page q.0 (record { pid = pid; chain = chain }) q.2 chains) q.1
         | inr out ↦ absurd (let zeroth = no_row memory.slots pid some out.0 in omega (arith, linked, zeroth))
       ]
 
@@ -153,10 +153,8 @@ module _ (limits : Limits) (entries : List Entry) (state : IsState limits entrie
       → is_removed gone_chain ≡ true → is_removed chain ≡ false → right_in chain ≡ Some removed → IsPageChain gone_chain × ChainNames state.owners gone_chain
   beyond_names pid head removed row chain gone_chain r at_head at_row is_chain gone alive is_right =
       let order : OrderFits state.owners (shared_part memory) (state.logs actor) pid removed (k.read.heads pid) (k.read.before pid removed) = (state.is_tree.sound actor).orders_fit pid removed in
-      let head_order : OrderFits state.owners (shared_part memory) (state.logs actor) pid removed (Some head) (k.read.before pid removed) = subst
-      (λ (o : Option ℕ). OrderFits state.owners (shared_part memory) (state.logs actor) pid removed o (k.read.before pid removed)) at_head order in
-      let in_order : InOrder state.owners (shared_part memory) (state.logs actor) pid head removed row = subst
-      (λ (o : Option ℕ). OrderFits state.owners (shared_part memory) (state.logs actor) pid removed (Some head) o) at_row head_order in
+      let head_order : OrderFits state.owners (shared_part memory) (state.logs actor) pid removed (Some head) (k.read.before pid removed) = rw (← at_head) order in
+      let in_order : InOrder state.owners (shared_part memory) (state.logs actor) pid head removed row = rw at_row at head_order in
       (state.fitted row in_order.above gone_chain is_chain, in_order.beyond gone_chain chain is_chain r.is_chain gone alive is_right)
 
   pub read_beyond : (pid head removed row : ℕ) (chain gone_chain : List Record) → WasRead pid head chain → k.read.heads pid ≡ Some head

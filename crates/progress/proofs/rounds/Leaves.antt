@@ -1,7 +1,8 @@
 -- Removed leaves, and the leaf to the left of one.
 use Rattle.progress.proofs.Words.{◌≡◌, ◌≢◌, ℕ, List, Bool, true, false, Option, Some, sym, ap, subst, ◌∙◌, IsTrue, Child, either, content_in, covers, high_in, is_removed, low_in, right_in}
-use Rattle.progress.proofs.Words.{LivePage, Record, Version, LeadsRight, StaysLeft, precedes, reaches, IsBelow, IsUpTo, Key, IsPageOn}
-use Rattle.tree_law.proofs.shape.KeyOrder.{below_not, by_below, covers_from, covers_to, not_below, under_trans, upto_both, upto_trans}
+use Rattle.progress.proofs.Words.{LivePage, Record, Version, LeadsRight, StaysLeft, precedes, reaches, IsBelow, IsUpTo, Key, IsPageOn, below_not, by_below, covers_from, covers_to, not_below}
+use Rattle.progress.proofs.Words.{upto_both, upto_trans}
+use Rattle.tree_law.proofs.shape.KeyOrder.{under_trans}
 use Rattle.progress.proofs.rounds.KeyWays.{precedes_is_way, reaches_is_way, within}
 use Rattle.progress.proofs.rounds.Measures.{none_after, removed_after}
 use Rattle.progress.proofs.rounds.Pages.{On, Standing, Under, chain_on, live, low_of, one_child, right, same_pid, some_of, term_of}
@@ -21,12 +22,12 @@ module _ (w : Standing) where
   pub of_term : (way : Key → Bool) (above : Option Version) (leaf : LivePage) → IsPageOn w.limits w.memory 0 leaf → Under w way above 0 leaf → IsRemovedLeaf leaf
   of_term way above leaf stands u = record { stands = stands; gone = u.gone; above = live u.over; on = u.on; term = u.term }
 
-  -- of two pages one and the same key is in the range
-  joint : (one two s : Key) (a b : LivePage) → On w 1 a → On w 1 b → IsBelow one s → IsBelow two s → IsTrue (covers a.chain one)
+  -- of two pages of a level one and the same key is in the range
+  pub joint : (level : ℕ) (one two s : Key) (a b : LivePage) → On w level a → On w level b → IsBelow one s → IsBelow two s → IsTrue (covers a.chain one)
       → StaysLeft (precedes s) a.chain → IsTrue (covers b.chain two) → IsTrue (covers b.chain s) → a ≡ b
-  joint one two s a b on_a on_b below_one below_two in_a stays in_b reaches_s = by_below one two
-      (λ less. w.tree.one 1 a b two on_a on_b (within (precedes s) (precedes_is_way s) a.chain one two stays in_a (below_not one two less) below_two) in_b)
-      (λ least. w.tree.one 1 a b one on_a on_b in_a (between_keys b.chain two one s in_b reaches_s least below_one))
+  joint level one two s a b on_a on_b below_one below_two in_a stays in_b reaches_s = by_below one two
+      (λ less. w.tree.one level a b two on_a on_b (within (precedes s) (precedes_is_way s) a.chain one two stays in_a (below_not one two less) below_two) in_b)
+      (λ least. w.tree.one level a b one on_a on_b in_a (between_keys b.chain two one s in_b reaches_s least below_one))
     where
       between_keys : (chain : List Record) (low key end : Key) → IsTrue (covers chain low) → IsTrue (covers chain end) → IsUpTo low key → IsBelow key end → IsTrue (covers chain key)
       between_keys chain low key end one two up less =
@@ -39,8 +40,8 @@ module _ (w : Standing) where
       let in_over = (w.tree.child 0 page.pid (live u.over) (low_of page) true u.on u.term).0 in
       let in_above = (w.tree.child 0 l.1 r.above l.0 false r.on l.2.has).0 in
       let here = (w.tree.child 0 leaf.pid r.above (low_of leaf) true r.on r.term).0 in
-      let same : live u.over ≡ r.above = joint (low_of page) l.0 (low_of leaf) (live u.over) r.above u.on r.on pass l.2.passing in_over u.stays in_above here in
-      let term : content_in r.above.chain (low_of page) ≡ Some (Child page.pid true) = subst (λ (p : LivePage). content_in p.chain (low_of page) ≡ Some (Child page.pid true)) same u.term in
+      let same : live u.over ≡ r.above = joint 1 (low_of page) l.0 (low_of leaf) (live u.over) r.above u.on r.on pass l.2.passing in_over u.stays in_above here in
+      let term : content_in r.above.chain (low_of page) ≡ Some (Child page.pid true) = rw (← same) u.term in
       let left : content_in u.over.chain l.0 ≡ Some (Child l.1 false) = subst (λ (p : LivePage). content_in p.chain l.0 ≡ Some (Child l.1 false)) (sym same) l.2.has in
       let one = l.2.greatest (low_of page) pass (some_of _ _ term) in
       let two = u.greatest l.0 l.2.passing (some_of _ _ left) in
@@ -69,7 +70,7 @@ module _ (w : Standing) where
       → (other : LivePage) × (other.pid ≡ next) × (reaches key (low_of other) ≡ true) × IsBelow (low_of leaf) (low_of other) × IsBeyond (low_of leaf) other
   beside_right key next leaf page r on is_right leads =
       let b = w.tree.right 0 page leaf.pid on is_right in
-      let on_leaf : On w 0 leaf = subst (λ (p : LivePage). On w 0 p) (same_pid w b.0 leaf (chain_on w 0 b.0 b.1) r.stands.stands b.2) b.1 in
+      let on_leaf : On w 0 leaf = rw (← same_pid w b.0 leaf (chain_on w 0 b.0 b.1) r.stands.stands b.2) b.1 in
       let q = right w (reaches key) 0 next leaf on_leaf leads in
       (q.0, q.1, q.3, q.4, record { on = q.2; up = below_not (low_of leaf) (low_of q.0) q.4; after = λ gone. q.4 })
 

@@ -1,8 +1,8 @@
 -- What a round makes of a page that began in an earlier memory: it comes to a place, with fewer pages left, or it ends.
-use Rattle.std.proofs.Common.{◌≡◌, ◌<◌, ◌≤◌, ◌+◌, ◌⊎◌, ℕ, zero, suc, List, Bool, true, false, Option, Some, None, refl, sym, ap, subst, ◌∙◌, inl, inr, arith}
-use Rattle.progress.proofs.Words.{⊤, Record, is_removed, level_in, low_in, right_in, IsPageChain, LivePage, Version, Page, ReadEnd, Again, Removed, Leaf, Beside, ReadGoal, Left, Beyond, Leg}
-use Rattle.progress.proofs.Words.{Round, Past, below, level_on, IsLeftLeaf, ReadRound, TreatsRead, reading_on_to, left_of, on, read_way, toward, to_page, LeadsDown, LeadsOn, LeadsRight}
-use Rattle.progress.proofs.Words.{reaches, IsBelow, Key, IsPageOn, below_not, below_upto, IsGoalIn, KeepsItsPlace, IsLegIn, IsPlace, NamesPlaces, WasRemovedLeaf}
+use Rattle.progress.proofs.Words.{◌≡◌, ◌<◌, ◌≤◌, ◌+◌, ◌⊎◌, ℕ, zero, suc, List, Bool, true, false, Option, Some, None, refl, sym, ap, subst, ◌∙◌, inl, inr, arith, ⊤, Record, is_removed}
+use Rattle.progress.proofs.Words.{level_in, low_in, right_in, IsPageChain, LivePage, Version, Page, ReadEnd, Again, Removed, Leaf, Beside, ReadGoal, Left, Beyond, Leg, Round, Past, below}
+use Rattle.progress.proofs.Words.{level_on, IsLeftLeaf, ReadRound, TreatsRead, reading_on_to, left_of, on, read_way, toward, to_page, LeadsDown, LeadsOn, LeadsRight, reaches, IsBelow, Key}
+use Rattle.progress.proofs.Words.{IsPageOn, below_not, below_upto, IsGoalIn, KeepsItsPlace, IsLegIn, IsPlace, NamesPlaces, WasRemovedLeaf}
 use Rattle.progress.proofs.rounds.Measures.{left_less, left_more, left_over, left_within, under_all, under_less}
 use Rattle.progress.proofs.rounds.Pages.{On, Standing, chain_on, live, low_of, right, right_above, same_pid}
 use Rattle.progress.proofs.rounds.Places.{Few, below_plain, child_of, few_above, few_any, few_below, first, kept_here, leg_below, leg_level, most, names_above}
@@ -33,7 +33,7 @@ module _ (w : Standing) where
       → IsLegIn w.tree leg → IsGoalIn w.tree goal → left < cost
       → ((page : LivePage) (level : ℕ) → page.pid ≡ next → IsPageOn w.limits w.memory level page → Few w leg level page left) → Moves new cost
   goes old new leg goal next left cost e place leg_is goal_is fewer few =
-      subst (λ (r : ReadRound). Moves r cost) (sym e) (record { pid = next; place = place; is_state = refl; leg_is = leg_is; goal_is = goal_is; left = left; fewer = fewer; few = few })
+      rw e (record { pid = next; place = place; is_state = refl; leg_is = leg_is; goal_is = goal_is; left = left; fewer = fewer; few = few })
 
   -- of a page that is known
   known : (leg : Leg) (next left level : ℕ) (page : LivePage) → page.pid ≡ next → IsPageOn w.limits w.memory level page → Few w leg level page left
@@ -41,7 +41,7 @@ module _ (w : Standing) where
   known leg next left level page e stands few other other_level f also =
       let same : page ≡ other = same_pid w page other stands.stands also.stands (e ∙ sym f) in
       let levels : level ≡ other_level = sym stands.level_is ∙ ap (λ (p : LivePage). level_in p.chain) same ∙ also.level_is in
-      subst (λ (n : ℕ). Few w leg n other left) levels (subst (λ (p : LivePage). Few w leg level p left) same few)
+      rw (← levels) (rw (← same) few)
 
   goes_known : (old new : ReadRound) (leg : Leg) (goal : ReadGoal) (next left cost level : ℕ) (page : LivePage) → new ≡ reading_on_to next (on leg (toward goal old))
       → page.pid ≡ next → IsPageOn w.limits w.memory level page
@@ -56,7 +56,7 @@ module _ (w : Standing) where
       let on_removed = kept level page on is_right in
       let r = w.tree.right level page removed.pid on is_right in
       let same : r.0 ≡ removed = same_pid w r.0 removed (chain_on w level r.0 r.1) (chain_on w level removed on_removed) r.2 in
-      (on_removed, subst (λ (p : LivePage). IsBelow (low_of page) (low_of p)) same (right_above w level page (low_of r.0) on r.3))
+      (on_removed, rw (← same) (right_above w level page (low_of r.0) on r.3))
 
   -- down from a page of a level
   down_from : (old new : ReadRound) (leg : Leg) (goal : ReadGoal) (way : Key → Bool) (level next cost : ℕ) (version : Version) → level_in version.chain ≡ level
@@ -77,9 +77,9 @@ module _ (w : Standing) where
       → On w 0 (live version) × Few w old.leg 0 (live version) cost × WasRemovedLeaf w.tree removed
   left_zero old version removed cost l left =
       let zeroth : l.level ≡ 0 = sym l.stands.level_is ∙ left.ends.leaf in (
-        subst (λ (n : ℕ). On w n (live version)) zeroth (alive_on old.leg old.goal (live version) cost l left.alive),
-        subst (λ (n : ℕ). Few w old.leg n (live version) cost) zeroth l.few,
-        subst (λ (g : ReadGoal). IsGoalIn w.tree g) left.goal l.goal_is,
+        rw (← zeroth) (alive_on old.leg old.goal (live version) cost l left.alive),
+        rw (← zeroth) l.few,
+        rw left.goal at l.goal_is,
       )
 
   -- a round that goes round a removed page is at a page of its level
@@ -89,13 +89,13 @@ module _ (w : Standing) where
     height = level_in removed.chain
 
     here : On w height (live version)
-    here = let levels : l.level ≡ height = sym l.stands.level_is ∙ same in subst (λ (n : ℕ). On w n (live version)) levels (alive_on old.leg old.goal (live version) cost l alive)
+    here = let levels : l.level ≡ height = sym l.stands.level_is ∙ same in rw (← levels) (alive_on old.leg old.goal (live version) cost l alive)
 
     few_here : second w height (low_in version.chain) ≤ cost
-    few_here = (subst (λ (g : Leg). Few w g l.level (live version) cost) leg l.few) here
+    few_here = (rw leg at l.few) here
 
     kept : KeepsItsPlace w.tree (live removed)
-    kept = subst (λ (g : Leg). IsLegIn w.tree g) leg l.leg_is
+    kept = rw leg at l.leg_is
 
     onward : (new : ReadRound) (way : Key → Bool) (next : ℕ) (page other : LivePage) → On w height page → LeadsRight way page.chain next
         → (IsBelow (low_in version.chain) (low_of page) ⊎ (low_of page ≡ low_in version.chain)) → new ≡ reading_on_to next (on (Past None) old) → Moves new cost
@@ -103,7 +103,7 @@ module _ (w : Standing) where
         let q = right w way height next page on_page leads in
         let beyond : IsBelow (low_in version.chain) (low_of q.0) = elim after [
           | inl less ↦ below_upto (low_in version.chain) (low_of page) (low_of q.0) less (below_not (low_of page) (low_of q.0) q.4)
-          | inr is ↦ subst (λ (k : Key). IsBelow k (low_of q.0)) is q.4
+          | inr is ↦ rw (← is) q.4
         ] in
         let less = left_less w height (live version) (low_of q.0) here beyond in
         let few = few_here in
@@ -134,7 +134,7 @@ module _ (w : Standing) where
         → new ≡ reading_on_to next (on (Past (Some version)) old) → Moves new cost
     merged_down new next index leads e =
         down_from old new (Past (Some version)) old.goal (read_way old.goal old.key) height next cost version same index here leads more_below e
-        (λ n is. names_here w n (live version) (subst (λ (m : ℕ). On w m (live version)) is here)) l.goal_is (λ n page is. omega arith)
+        (λ n is. names_here w n (live version) (rw (← is) here)) l.goal_is (λ n page is. omega arith)
 
   loose_on : (old : ReadRound) (version : Version) (new : ReadRound) (cost : ℕ) → Loose old.leg old.goal (live version) cost → TreatsRead old version new None → Moves new cost
   loose_on old version new cost l treats = elim treats [
@@ -148,7 +148,7 @@ module _ (w : Standing) where
           let here = alive_on old.leg old.goal (live version) cost l r.alive in
           down_from old new (below version old.leg) old.goal way l.level r.next cost version l.stands.level_is r.index here r.leads
           (below_plain w old.leg l.level (live version) cost r.plain here l.few) r.goes
-          (λ n is. leg_below w old.leg version r.plain (names_here w n (live version) (subst (λ (m : ℕ). On w m (live version)) is here))) l.goal_is
+          (λ n is. leg_below w old.leg version r.plain (names_here w n (live version) (rw (← is) here))) l.goal_is
           (λ n page is. few_below w old.leg version n page (first w n (low_of page)) r.plain (omega arith))
       | inr rest ↦ elim rest [
         | inl r ↦
@@ -199,7 +199,7 @@ module _ (w : Standing) where
               let within = left_within w (level_in version.chain) (low_of page) in
               let over = left_over w l.level (low_in version.chain) in
               let is : under_all w (level_in version.chain) ≡ under_all w l.level = ap (under_all w) l.stands.level_is in
-              let more : under_all w (suc (level_in version.chain)) ≡ under_all w (suc l.level) = ap (λ n. under_all w (suc n)) l.stands.level_is in
+              let more : under_all w (suc (level_in version.chain)) ≡ under_all w (suc l.level) = rw l.stands.level_is in
               omega (arith, within, over, is, more, le))
 
   -- by how the round ends
@@ -214,7 +214,7 @@ module _ (w : Standing) where
       → TreatsRead old version new result → LooseThen new result cost
   loosely old version new cost None l treats = loose_on old version new cost l treats
   loosely old version new cost (Some (Removed removed)) l at =
-      subst (λ (v : Version). WasRemovedLeaf w.tree v) (sym at.is) (record { fits = l.stands.fits; gone = at.gone; kept = kept_here w (live version) l.stands.stands })
+      rw at.is (record { fits = l.stands.fits; gone = at.gone; kept = kept_here w (live version) l.stands.stands })
   loosely old version new cost other l treats = tt
 
   -- A page was read whole, maybe as it was in an earlier memory.
@@ -268,5 +268,5 @@ module _ (w : Standing) where
   pub stalely : (old : ReadRound) (version : Version) (new : ReadRound) (result : Option ReadEnd) → Stale old.leg old.goal (live version)
       → TreatsRead old version new result → LooseThen new result (suc (most w))
   stalely old version new None s treats = stale_on old version new s treats
-  stalely old version new (Some (Removed removed)) s at = subst (λ (v : Version). WasRemovedLeaf w.tree v) (sym at.is) (record { fits = s.fits; gone = at.gone; kept = s.kept at.gone })
+  stalely old version new (Some (Removed removed)) s at = rw at.is (record { fits = s.fits; gone = at.gone; kept = s.kept at.gone })
   stalely old version new other s treats = tt

@@ -1,33 +1,11 @@
 -- How many pages a round may still come to, and how many removed leaves are ahead.
-use Rattle.progress.proofs.Words.{◌≡◌, ◌<◌, ◌≤◌, ◌+◌, ◌*◌, ℕ, zero, suc, Bool, true, false, refl, sym, ap, subst, ◌∙◌, inl, inr, arith, Contains, eqb_tells, is_below, is_removed, level_in}
-use Rattle.progress.proofs.Words.{LivePage, reaches, IsBelow, IsUpTo, Key}
-use Rattle.std.specs.Prelude.{not, ◌&&◌, ◌||◌, ◌==◌}
-use Rattle.base_page.proofs.KeyLaws.{and_both, and_left, and_right, either, not_true}
-use Rattle.tree_law.proofs.shape.KeyOrder.{below_not, below_upto, not_below, upto_refl}
+use Rattle.progress.proofs.Words.{◌≡◌, ◌<◌, ◌≤◌, ◌+◌, ◌*◌, ℕ, zero, suc, Bool, true, false, refl, sym, ap, ◌∙◌, arith, Contains, is_below, is_removed, level_in, LivePage, reaches, IsBelow, Key}
+use Rattle.progress.proofs.Words.{or_left, or_right, not, ◌&&◌, ◌||◌, ◌==◌, either, not_true, below_not, below_upto, not_below, upto_refl}
+use Rattle.progress.proofs.Tallies.{itself}
+use Rattle.std.proofs.lemmas.Bool.{not_from_false, or_from, eqb-true}
+use Rattle.base_page.proofs.KeyLaws.{and_both, and_left, and_right}
 use Rattle.progress.proofs.rounds.Counts.{any, any_in, any_of, has_number, many, many_more, many_none, many_up, many_within, numbers, numbers_length}
 use Rattle.progress.proofs.rounds.Pages.{On, Standing, chain_on, low_of, same_pid}
-
-flipped : (b : Bool) → b ≡ false → not b ≡ true
-flipped false e = refl
-flipped true e = absurd (cc)
-
-equal : (a b : ℕ) → (a == b) ≡ true → a ≡ b
-equal a b so = elim (eqb_tells a b) [ inl same ↦ same.1 | inr apart ↦ let both : true ≡ false = sym so ∙ apart.0 in absurd (cc) ]
-
-itself : (a : ℕ) → (a == a) ≡ true
-itself a = elim (eqb_tells a a) [ inl same ↦ same.0 | inr apart ↦ absurd (apart.1 refl) ]
-
-either_false : (b c : Bool) → b ≡ false → c ≡ false → (b || c) ≡ false
-either_false true c e f = absurd (cc)
-either_false false c e f = f
-
-left_true : (b c : Bool) → b ≡ true → (b || c) ≡ true
-left_true true c e = refl
-left_true false c e = absurd (cc)
-
-right_true : (b c : Bool) → c ≡ true → (b || c) ≡ true
-right_true true c e = refl
-right_true false c e = e
 
 or_cases : {G : Type 0} (b c : Bool) → (b || c) ≡ true → (b ≡ true → G) → (c ≡ true → G) → G
 or_cases true c e f g = f refl
@@ -57,13 +35,13 @@ module _ (w : Standing) where
   not_under : (level : ℕ) (page : LivePage) (high : ℕ) → On w high page → level ≤ high → is_under level page.pid ≡ false
   unfolding is_under is_there
   not_under zero page high on le = refl
-  not_under (suc level) page high on le = either_false (is_there level page.pid) (is_under level page.pid) not_there (not_under level page high on (omega (arith, le)))
+  not_under (suc level) page high on le = or_from (is_there level page.pid) (is_under level page.pid) not_there (not_under level page high on (omega (arith, le)))
     where
       not_there : is_there level page.pid ≡ false
       not_there = either (is_there level page.pid)
           (λ so.
           let f = any_of (λ (q : LivePage). q.pid == page.pid) (w.tree.pages level) so in
-          let same : f.0 ≡ page = same_pid w f.0 page (chain_on w level f.0 f.1) (chain_on w high page on) (equal f.0.pid page.pid f.2) in
+          let same : f.0 ≡ page = same_pid w f.0 page (chain_on w level f.0 f.1) (chain_on w high page on) (eqb-true f.0.pid page.pid f.2) in
           let one = (w.tree.each level f.0 f.1).level_is in
           let two = (w.tree.each high page on).level_is in
           let levels : level ≡ high = sym one ∙ ap (λ (q : LivePage). level_in q.chain) same ∙ two in
@@ -78,14 +56,14 @@ module _ (w : Standing) where
       let f = any_of (λ (q : LivePage). (q.pid == page.pid) && not (is_below (low_of q) low)) (w.tree.pages level) so in
       let pids = and_left (f.0.pid == page.pid) (not (is_below (low_of f.0) low)) f.2 in
       let up = not_true (is_below (low_of f.0) low) (and_right (f.0.pid == page.pid) (not (is_below (low_of f.0) low)) f.2) in
-      let same : f.0 ≡ page = same_pid w f.0 page (chain_on w level f.0 f.1) (chain_on w level page on) (equal f.0.pid page.pid pids) in
-      absurd (not_below (low_of page) low less (subst (λ (q : LivePage). IsUpTo low (low_of q)) same up)))
+      let same : f.0 ≡ page = same_pid w f.0 page (chain_on w level f.0 f.1) (chain_on w level page on) (eqb-true f.0.pid page.pid pids) in
+      absurd (not_below (low_of page) low less (rw (← same) up)))
       (λ off. off)
 
   ahead_itself : (level : ℕ) (page : LivePage) → On w level page → is_ahead level (low_of page) page.pid ≡ true
   unfolding is_ahead
   ahead_itself level page on = any_in (λ (q : LivePage). (q.pid == page.pid) && not (is_below (low_of q) (low_of page))) (w.tree.pages level) page on
-      (and_both (page.pid == page.pid) (not (is_below (low_of page) (low_of page))) (itself page.pid) (flipped (is_below (low_of page) (low_of page)) (upto_refl (low_of page))))
+      (and_both (page.pid == page.pid) (not (is_below (low_of page) (low_of page))) (itself page.pid) (not_from_false (is_below (low_of page) (low_of page)) (upto_refl (low_of page))))
 
   is_number : (level : ℕ) (page : LivePage) → On w level page → Contains (numbers w.limits.pids) page.pid
   is_number level page on = has_number w.limits.pids page.pid (w.tree.each level page on).pid
@@ -97,32 +75,32 @@ module _ (w : Standing) where
       let more = many_more (λ pid. is_under level pid || is_ahead level low pid) (λ pid. is_under level pid || is_ahead level (low_of page) pid) (numbers w.limits.pids) page.pid
       (λ pid among so. more_ahead pid so)
       (is_number level page on)
-      (either_false (is_under level page.pid) (is_ahead level low page.pid) (not_under level page level on (omega arith)) (not_ahead level page low on less))
-      (right_true (is_under level page.pid) (is_ahead level (low_of page) page.pid) (ahead_itself level page on))
+      (or_from (is_under level page.pid) (is_ahead level low page.pid) (not_under level page level on (omega arith)) (not_ahead level page low on less))
+      (or_right (is_under level page.pid) (is_ahead level (low_of page) page.pid) (ahead_itself level page on))
       in
       omega (arith, more)
     where
       more_ahead : (pid : ℕ) → (is_under level pid || is_ahead level low pid) ≡ true → (is_under level pid || is_ahead level (low_of page) pid) ≡ true
       more_ahead pid so = or_cases (is_under level pid) (is_ahead level low pid) so
-          (λ here. left_true (is_under level pid) (is_ahead level (low_of page) pid) here)
+          (λ here. or_left (is_under level pid) (is_ahead level (low_of page) pid) here)
           (λ here.
           let f = any_of (λ (q : LivePage). (q.pid == pid) && not (is_below (low_of q) low)) (w.tree.pages level) here in
           let pids = and_left (f.0.pid == pid) (not (is_below (low_of f.0) low)) f.2 in
           let up = not_true (is_below (low_of f.0) low) (and_right (f.0.pid == pid) (not (is_below (low_of f.0) low)) f.2) in
-          right_true (is_under level pid) (is_ahead level (low_of page) pid)
+          or_right (is_under level pid) (is_ahead level (low_of page) pid)
           (any_in (λ (q : LivePage). (q.pid == pid) && not (is_below (low_of q) (low_of page))) (w.tree.pages level) f.0 f.1
           (and_both (f.0.pid == pid) (not (is_below (low_of f.0) (low_of page))) pids
-          (flipped (is_below (low_of f.0) (low_of page)) (below_not (low_of page) (low_of f.0) (below_upto (low_of page) low (low_of f.0) less up))))))
+          (not_from_false (is_below (low_of f.0) (low_of page)) (below_not (low_of page) (low_of f.0) (below_upto (low_of page) low (low_of f.0) less up))))))
 
   -- below a page fewer are left
   pub left_more : (level : ℕ) (page : LivePage) → On w level page → under_all level < left_from level (low_of page)
   unfolding left_from under_all
   left_more level page on =
       let more = many_more (is_under level) (λ pid. is_under level pid || is_ahead level (low_of page) pid) (numbers w.limits.pids) page.pid
-      (λ pid among so. left_true (is_under level pid) (is_ahead level (low_of page) pid) so)
+      (λ pid among so. or_left (is_under level pid) (is_ahead level (low_of page) pid) so)
       (is_number level page on)
       (not_under level page level on (omega arith))
-      (right_true (is_under level page.pid) (is_ahead level (low_of page) page.pid) (ahead_itself level page on))
+      (or_right (is_under level page.pid) (is_ahead level (low_of page) page.pid) (ahead_itself level page on))
       in
       omega (arith, more)
 
@@ -133,10 +111,10 @@ module _ (w : Standing) where
   unfolding left_from under_all is_under is_there is_ahead
   left_within level low =
       let up = many_up (λ pid. is_under level pid || is_ahead level low pid) (is_under (suc level)) (numbers w.limits.pids) (λ pid among so. or_cases (is_under level pid) (is_ahead level low pid) so
-      (λ here. right_true (is_there level pid) (is_under level pid) here)
+      (λ here. or_right (is_there level pid) (is_under level pid) here)
       (λ here.
       let f = any_of (λ (q : LivePage). (q.pid == pid) && not (is_below (low_of q) low)) (w.tree.pages level) here in
-      left_true (is_there level pid) (is_under level pid) (any_in (λ (q : LivePage). q.pid == pid) (w.tree.pages level) f.0 f.1 (and_left (f.0.pid == pid) (not (is_below (low_of f.0) low)) f.2))))
+      or_left (is_there level pid) (is_under level pid) (any_in (λ (q : LivePage). q.pid == pid) (w.tree.pages level) f.0 f.1 (and_left (f.0.pid == pid) (not (is_below (low_of f.0) low)) f.2))))
       in
       omega (arith, up)
 
@@ -152,13 +130,13 @@ module _ (w : Standing) where
   -- those below a level are fewer than those below the next one
   pub under_less : (level : ℕ) → under_all level < under_all (suc level)
   unfolding under_all is_under
-  under_less level = let up = many_up (is_under level) (is_under (suc level)) (numbers w.limits.pids) (λ pid among so. right_true (is_there level pid) (is_under level pid) so) in omega (arith, up)
+  under_less level = let up = many_up (is_under level) (is_under (suc level)) (numbers w.limits.pids) (λ pid among so. or_right (is_there level pid) (is_under level pid) so) in omega (arith, up)
 
   -- those below a level, and on it from a key on
   pub left_over : (level : ℕ) (low : Key) → under_all level ≤ left_from level low
   unfolding left_from under_all
   left_over level low =
-      let up = many_up (is_under level) (λ pid. is_under level pid || is_ahead level low pid) (numbers w.limits.pids) (λ pid among so. left_true (is_under level pid) (is_ahead level low pid) so) in
+      let up = many_up (is_under level) (λ pid. is_under level pid || is_ahead level low pid) (numbers w.limits.pids) (λ pid among so. or_left (is_under level pid) (is_ahead level low pid) so) in
       omega (arith, up)
 
   pub level_under : (level : ℕ) → level ≤ under_all level

@@ -1,9 +1,9 @@
 -- The pages of a whole tree that a reader's way comes to.
-use Rattle.progress.proofs.Words.{◌≡◌, ◌⊎◌, ℕ, suc, Bool, true, false, Option, Some, refl, sym, ap, subst, ◌∙◌, inl, inr, arith, Contains, IsTrue, IsSome, is_some, Limits, is_below, Child}
-use Rattle.progress.proofs.Words.{either, Memory, IsChainOf, content_in, covers, high_in, is_removed, low_in, LivePage, Version, LeadsDown, LeadsRight, StaysLeft, IsBelow, IsUpTo, Key}
-use Rattle.progress.proofs.Words.{IsPageOn, HasWholeTree, IsChildAt, below_not, below_upto, not_below}
+use Rattle.progress.proofs.Words.{◌≡◌, ◌⊎◌, ℕ, suc, Bool, true, false, Option, Some, refl, sym, ap, ◌∙◌, inl, inr, arith, Contains, IsTrue, IsSome, is_some, Limits, is_below, Child, either}
+use Rattle.progress.proofs.Words.{Memory, IsChainOf, content_in, covers, high_in, is_removed, low_in, LivePage, Version, LeadsDown, LeadsRight, StaysLeft, IsBelow, Key, IsPageOn, HasWholeTree}
+use Rattle.progress.proofs.Words.{IsChildAt, below_not, below_upto, not_below, same_page}
 use Rattle.base_page.specs.declared.item.Content.{Content}
-use Rattle.traces.proofs.ChainLaws.{IsChainOf-unique, same_page}
+use Rattle.traces.proofs.ChainLaws.{IsChainOf-unique}
 use Rattle.round_model.proofs.PageLaws.{spans}
 use Rattle.progress.proofs.rounds.KeyWays.{IsWay, within}
 
@@ -34,7 +34,7 @@ module _ (w : Standing) where
 
   -- a PID has one page
   pub same_pid : (p q : LivePage) → IsChainOf w.memory p.pid p.chain → IsChainOf w.memory q.pid q.chain → p.pid ≡ q.pid → p ≡ q
-  same_pid p q a b e = same_page p q e (IsChainOf-unique w.memory q.pid p.chain q.chain (subst (λ (n : ℕ). IsChainOf w.memory n p.chain) e a) b)
+  same_pid p q a b e = same_page p q e (IsChainOf-unique w.memory q.pid p.chain q.chain (rw (← e) a) b)
 
   pub chain_on : (level : ℕ) (page : LivePage) → On level page → IsChainOf w.memory page.pid page.chain
   chain_on level page on = (w.tree.each level page on).stands
@@ -50,7 +50,7 @@ module _ (w : Standing) where
       let b = w.tree.removed level page on gone in
       let c = w.tree.child level page.pid b.0 (low_of page) true b.1 b.2 in
       let same : b.0 ≡ above = w.tree.one (suc level) b.0 above (low_of page) b.1 on_above c.0 cov in
-      subst (λ (p : LivePage). content_in p.chain (low_of page) ≡ Some (Child page.pid true)) same b.2
+      rw (← same) b.2
 
   -- no page of the top level is removed
   pub top_stands : (page : LivePage) → On w.tree.top page → is_removed page.chain ≡ false
@@ -107,7 +107,7 @@ module _ (w : Standing) where
       under gone = inr (record { gone = gone; over = above; is_over = refl; on = on; stays = stays; term = held leads.held refl; greatest = greatest })
         where
           held : (b : Bool) → leads.held ≡ b → content_in above.chain (low_of page) ≡ Some (Child page.pid true)
-          held true e = subst (λ (b : Bool). content_in above.chain (low_of page) ≡ Some (Child page.pid b)) e has
+          held true e = rw (← e) has
           held false e = let both : true ≡ false = sym gone ∙ child.alive e in absurd (cc)
 
       clear : is_removed page.chain ≡ false → Clear way level page ⊎ Under way (Some above) level page
@@ -117,7 +117,7 @@ module _ (w : Standing) where
           others other on_other after pass = either (is_removed other.chain)
               (λ gone.
               let cov : IsTrue (covers above.chain (low_of other)) = within way is_way above.chain leads.low (low_of other) stays c.0
-              (subst (λ (k : Key). IsUpTo k (low_of other)) child.begins (below_not (low_of page) (low_of other) after)) pass in
+              (rw (← child.begins) (below_not (low_of page) (low_of other) after)) pass in
               let term = term_of level other (live above) on_other gone on cov in
               absurd (not_below (low_of page) (low_of other) after (greatest (low_of other) pass (some_of _ _ term))))
               (λ alive. alive)
@@ -128,7 +128,7 @@ module _ (w : Standing) where
   right way level next page on leads =
       let r = w.tree.right level page next on leads.is_right in
       let same : leads.low ≡ low_of r.0 = some_low leads.low (low_of r.0) (sym leads.is_high ∙ r.3) in
-      (r.0, r.2, r.1, subst (λ (k : Key). way k ≡ true) same leads.on_way, right_above level page (low_of r.0) on r.3, r.3)
+      (r.0, r.2, r.1, rw (← same) leads.on_way, right_above level page (low_of r.0) on r.3, r.3)
     where
       some_low : (a b : Key) → Some a ≡ Some b → a ≡ b
       some_low a b e = cc

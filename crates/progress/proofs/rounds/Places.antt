@@ -1,7 +1,6 @@
 -- Pages to which a round may come that began in an earlier memory, and how many are left to it: each twice at most.
-use Rattle.std.proofs.Common.{◌≡◌, ◌<◌, ◌≤◌, ◌+◌, ◌*◌, ◌⊎◌, ℕ, suc, Bool, true, Some, None, subst, inl, inr, arith}
-use Rattle.progress.proofs.Words.{Child, either, IsChainOf, content_in, is_removed, level_in, LivePage, Version, Leg, Down, Round, Past, IsPlain, above_of, below, level_on, IsBelow, Key}
-use Rattle.progress.proofs.Words.{IsPageOn, KeepsItsPlace, IsLegIn, IsPlace, NamesPlaces}
+use Rattle.progress.proofs.Words.{◌≡◌, ◌<◌, ◌≤◌, ◌+◌, ◌*◌, ◌⊎◌, ℕ, suc, Bool, true, Some, None, inl, inr, arith, Child, either, IsChainOf, content_in, is_removed, level_in, LivePage, Version}
+use Rattle.progress.proofs.Words.{Leg, Down, Round, Past, IsPlain, above_of, below, level_on, IsBelow, Key, IsPageOn, KeepsItsPlace, IsLegIn, IsPlace, NamesPlaces}
 use Rattle.progress.proofs.rounds.Measures.{left_few, left_from, left_less, left_more, left_within, under_all, under_few}
 use Rattle.progress.proofs.rounds.Tops.{top_of}
 use Rattle.progress.proofs.rounds.Pages.{On, Standing, chain_on, low_of, same_pid}
@@ -108,8 +107,8 @@ module _ (w : Standing) where
   few_above other over level page cost e few = absurd (cc)
 
   pub names_above : (leg : Leg) (over : Version) → above_of leg ≡ Some over → IsLegIn w.tree leg → NamesPlaces w.tree over.chain
-  names_above (Down (Some above)) over e names = let same : above ≡ over = cc in subst (λ (v : Version). NamesPlaces w.tree v.chain) same names
-  names_above (Past (Some above)) over e names = let same : above ≡ over = cc in subst (λ (v : Version). NamesPlaces w.tree v.chain) same names
+  names_above (Down (Some above)) over e names = let same : above ≡ over = cc in rw (← same) names
+  names_above (Past (Some above)) over e names = let same : above ≡ over = cc in rw (← same) names
   names_above other over e names = absurd (cc)
 
   -- a page of a level is a place
@@ -120,7 +119,7 @@ module _ (w : Standing) where
   pub kept_here : (page : LivePage) → IsChainOf w.memory page.pid page.chain → KeepsItsPlace w.tree page
   kept_here page stands level other on is_right =
       let r = w.tree.right level other page.pid on is_right in
-      subst (λ (p : LivePage). On w level p) (same_pid w r.0 page (chain_on w level r.0 r.1) stands r.2) r.1
+      rw (← same_pid w r.0 page (chain_on w level r.0 r.1) stands r.2) r.1
 
   -- what a term of a page of a level names
   pub child_of : (level next : ℕ) (above : LivePage) (key : Key) (held : Bool) → On w (suc level) above → content_in above.chain key ≡ Some (Child next held)

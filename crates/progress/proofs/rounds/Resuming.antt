@@ -1,10 +1,9 @@
 -- A reader's run in one memory comes to its end, wherever its round stands at first.
-use Rattle.std.proofs.Common.{◌≡◌, ◌<◌, ◌≤◌, ◌+◌, ◌*◌, ◌⊎◌, ◌++◌, ℕ, suc, List, [], ◌∷◌, length, true, Option, Some, None, refl, sym, ap, subst, ◌∙◌, inl, inr, arith}
-use Rattle.progress.proofs.Words.{length-append, ⊤, Limits, Answer, Number, Record, IsChainOf, LivePage, IsAnswer, same_page, Version, WayState, Root, Page, ReadEnd, Again, Removed, Leaf}
-use Rattle.progress.proofs.Words.{Beside, ReadGoal, Seek, Left, Leg, Down, Sight, Empty, Whole, Visit, VisitState, to_page, by_step, first_read, read_left_of, is_leaving, AfterReading}
-use Rattle.progress.proofs.Words.{State, Read, Task, Key, IsPageOn, EndsWithin, IsReaderRun, ReadsIn, IsGoalIn, IsLegIn, IsPlace, IsRoundIn, IsStateIn, IsVisitIn, WasRemovedLeaf}
-use Rattle.round_model.specs.ReadRounds.{ReadRound, at, reading, wanted_step}
-use Rattle.round_model.specs.Rounds.{Responds, Sees}
+use Rattle.progress.proofs.Words.{◌≡◌, ◌<◌, ◌≤◌, ◌+◌, ◌*◌, ◌⊎◌, ◌++◌, ℕ, suc, List, [], ◌∷◌, length, true, Option, Some, None, refl, sym, ◌∙◌, inl, inr, arith, length-append, ⊤, Limits, Answer}
+use Rattle.progress.proofs.Words.{Number, Record, IsChainOf, LivePage, IsAnswer, same_page, Version, WayState, Root, Page, ReadEnd, Again, Removed, Leaf, Beside, ReadGoal, Seek, Left, Leg}
+use Rattle.progress.proofs.Words.{Down, Sight, Empty, Whole, Visit, VisitState, to_page, by_step, first_read, read_left_of, is_leaving, AfterReading, State, Read, Task, Key, IsPageOn}
+use Rattle.progress.proofs.Words.{EndsWithin, IsReaderRun, ReadsIn, IsGoalIn, IsLegIn, IsPlace, IsRoundIn, IsStateIn, IsVisitIn, WasRemovedLeaf, ReadRound, at, reading, wanted_step, Responds}
+use Rattle.progress.proofs.Words.{Sees}
 use Rattle.round_model.specs.Visits as seen
 use Rattle.progress.proofs.rounds.Loosely.{Loose, LooseThen, Moves, Stale, loosely, stalely}
 use Rattle.progress.proofs.rounds.Measures.{all_removed, one_round, times}
@@ -100,8 +99,7 @@ module _ (w : Standing) where
   ]
 
   moved : (new : ReadRound) (cost steps : ℕ) → (m : Moves w new cost) → 14 * m.left + 14 + after ≤ steps → SettledLeft new steps
-  moved new cost steps m enough =
-      subst (λ (s : WayState). SettledAt new.leg new.goal s steps) (sym m.is_state) (at_place new.limits new.leg new.goal [] m.pid m.left steps m.place m.leg_is m.goal_is m.few enough)
+  moved new cost steps m enough = rw m.is_state (at_place new.limits new.leg new.goal [] m.pid m.left steps m.place m.leg_is m.goal_is m.few enough)
 
   -- by how a round goes on or ends
   abbrev pub Comes : ReadRound → ReadRound → Option ReadEnd → ℕ → Type 0
@@ -130,11 +128,8 @@ module _ (w : Standing) where
   numbers_same : (told : Answer Record) (a b : ℕ) → told ≡ Number a → told ≡ Number b → a ≡ b
   numbers_same told a b e f = let both : Number a ≡ Number b = sym e ∙ f in cc
 
-  slot_answer : (visit : Visit) (told : Answer Record) → visit.state ≡ seen.Slot → IsAnswer w.memory (seen.wanted_step visit) told → told ≡ Number (w.memory.slots visit.pid)
-  slot_answer visit told e answer = subst (λ (s : VisitState). IsAnswer w.memory (seen.wanted_at visit.pid s) told) e answer
-
   chain_at : (leg : Leg) (goal : ReadGoal) (visit : Visit) (steps : ℕ) → (v : LooseVisit leg goal visit steps) → IsChainOf w.memory visit.pid v.page.chain
-  chain_at leg goal visit steps v = subst (λ (n : ℕ). IsChainOf w.memory n v.page.chain) v.is_pid v.loose.stands.stands
+  chain_at leg goal visit steps v = rw (← v.is_pid) v.loose.stands.stands
 
   settled_on : (leg : Leg) (goal : ReadGoal) (visit next : Visit) (steps : ℕ) (told : Answer Record) → SettledVisit leg goal visit steps
       → IsAnswer w.memory (seen.wanted_step visit) told → seen.Responds visit told next None → (m : ℕ) × (m < steps) × SettledVisit leg goal next m
@@ -157,7 +152,7 @@ module _ (w : Standing) where
           }),
         )
     | inr v ↦ elim r [
-      | inl f ↦ let zeroth = numbers_same told (w.memory.slots visit.pid) f.row (slot_answer visit told v.at_slot answer) f.is in let some = f.some in let empty
+      | inl f ↦ let zeroth = numbers_same told (w.memory.slots visit.pid) f.row (rw v.at_slot at answer) f.is in let some = f.some in let empty
           = v.empty in absurd (omega (arith, zeroth, some, empty))
       | inr c ↦ not_slot visit.state c.head c.row c.asked v.at_slot
     ]
@@ -182,7 +177,7 @@ module _ (w : Standing) where
                 g.is_left;
             head = c.head;
             row = c.under;
-            at_row = ap (λ (n : Visit). n.state) c.goes;
+            at_row = rw c.goes;
             few = omega arith;
           },
         )
@@ -193,7 +188,7 @@ module _ (w : Standing) where
       → seen.Responds visit told next (Some sight) → Sees reading old sight new result → Comes old new result steps
   settled_ends old visit next Empty new result steps told settled answer r sees = elim settled [
     | inl v ↦ absurd (not_empty w.memory visit next v.page.chain told (chain_at old.leg old.goal visit steps v) answer r)
-    | inr v ↦ let few = v.few in subst (λ (o : Option ReadEnd). Comes old new o steps) (sym sees) (after, omega (arith, few), begins_anew)
+    | inr v ↦ let few = v.few in rw sees (after, omega (arith, few), begins_anew)
   ]
   settled_ends old visit next (Whole version) new result steps told settled answer r sees = elim settled [
     | inl v ↦
@@ -201,7 +196,7 @@ module _ (w : Standing) where
         let same : v.page ≡ live version = same_page v.page (live version) (v.is_pid ∙ sym f.0) (sym f.1) in
         let few = v.few in
         let some = f.2 in
-        comes old new result v.cost steps (omega (arith, few, some)) (loosely w old version new v.cost result (subst (λ (p : LivePage). Loose w old.leg old.goal p v.cost) same v.loose) sees)
+        comes old new result v.cost steps (omega (arith, few, some)) (loosely w old version new v.cost result (rw (← same) v.loose) sees)
     | inr v ↦ not_slot visit.state version.head r.row r.asked v.at_slot
   ]
 
@@ -214,7 +209,7 @@ module _ (w : Standing) where
       let same : v.page ≡ live version = same_page v.page (live version) (v.is_pid ∙ sym f.0) (sym f.1) in
       let few = v.few in
       let some = f.2 in
-      comes old new result (suc (most w)) steps (omega (arith, few, some)) (stalely w old version new result (subst (λ (p : LivePage). Stale w old.leg old.goal p) same v.stale) sees)
+      comes old new result (suc (most w)) steps (omega (arith, few, some)) (stalely w old version new result (rw (← same) v.stale) sees)
 
   root_read : (limits : Limits) (leg : Leg) (goal : ReadGoal) (root steps : ℕ) (told : Answer Record) → AnyBegin leg goal steps → told ≡ Number root
       → told ≡ Number (w.memory.slots 0) → (m : ℕ) × (m < steps) × SettledVisit leg goal (to_page limits root) m
@@ -302,7 +297,7 @@ module _ (w : Standing) where
       by_step_of (inl leaving) then = absurd (cc)
       by_step_of (inr (other, m, is, less, left)) then =
           let same : other ≡ next = cc in
-          let few = then m (subst (λ (o : ReadRound). SomeLeft o m) same left) in
+          let few = then m (rw (← same) left) in
           omega (arith, less, few)
 
   -- where a round stands that began in an earlier memory

@@ -1,8 +1,8 @@
 -- Round a removed index page, to the page on its left, and on from there.
-use Rattle.std.proofs.Common.{◌≡◌, ◌≢◌, ℕ, suc, Bool, true, false, Option, Some, None, sym, ap, subst, ◌∙◌, inl, inr}
-use Rattle.progress.proofs.Words.{IsSome, IsTrue, either, content_in, covers, is_removed, low_in, right_in, LivePage, Version, left_of, LeadsDown, LeadsRight, StaysLeft, Child, IsBelow}
-use Rattle.progress.proofs.Words.{IsUpTo, Key, IsPageOn, IsChildAt}
-use Rattle.tree_law.proofs.shape.KeyOrder.{below_not, below_upto, by_below, not_below, not_self, upto_below, upto_both}
+use Rattle.progress.proofs.Words.{◌≡◌, ◌≢◌, ℕ, suc, Bool, true, false, Option, Some, None, sym, ap, ◌∙◌, inl, inr, IsTrue, either, content_in, covers, is_removed, low_in, right_in, LivePage}
+use Rattle.progress.proofs.Words.{Version, left_of, LeadsDown, LeadsRight, StaysLeft, Child, IsBelow, IsUpTo, Key, IsPageOn, IsChildAt, below_not, below_upto, by_below, not_below, upto_below}
+use Rattle.progress.proofs.Words.{upto_both}
+use Rattle.tree_law.proofs.shape.KeyOrder.{not_self}
 use Rattle.progress.proofs.rounds.KeyWays.{IsWay, within}
 use Rattle.progress.proofs.rounds.Pages.{Below, Clear, On, Standing, Under, chain_on, down, live, low_of, one_child, right, same_pid, some_of, term_of}
 
@@ -36,13 +36,13 @@ module _ (w : Standing) where
       same = let both : Some under.over ≡ Some over = sym under.is_over ∙ is_above in cc
 
       on_over : On w (suc level) (live over)
-      on_over = subst (λ (v : Version). On w (suc level) (live v)) same under.on
+      on_over = rw (← same) under.on
 
       stays : StaysLeft way over.chain
-      stays = subst (λ (v : Version). StaysLeft way v.chain) same under.stays
+      stays = rw (← same) under.stays
 
       term : content_in over.chain (low_in version.chain) ≡ Some (Child version.pid true)
-      term = subst (λ (v : Version). content_in v.chain (low_in version.chain) ≡ Some (Child version.pid true)) same under.term
+      term = rw (← same) under.term
 
       c : IsTrue (covers over.chain leads.low) × ((child : LivePage) × (child.pid ≡ next) × IsChildAt w.limits w.memory level (w.tree.pages level) leads.low leads.held child)
       c = w.tree.child level next (live over) leads.low leads.held on_over leads.greatest.has
@@ -69,11 +69,10 @@ module _ (w : Standing) where
 
       clear : (other : LivePage) → On w level other → IsBelow (low_of page) (low_of other) → way (low_of other) ≡ true → is_removed other.chain ≡ true → other.pid ≡ version.pid
       clear other on after pass gone =
-          let up : IsUpTo leads.low (low_of other) = subst (λ (k : Key). IsUpTo k (low_of other)) child.begins (below_not (low_of page) (low_of other) after) in
+          let up : IsUpTo leads.low (low_of other) = rw (← child.begins) (below_not (low_of page) (low_of other) after) in
           let cov : IsTrue (covers over.chain (low_of other)) = within way is_way over.chain leads.low (low_of other) stays c.0 up pass in
           let here = term_of w level other (live over) on gone on_over cov in
-          let most : IsUpTo (low_of other) (low_in version.chain) = subst
-          (λ (v : Version). (k : Key) → way k ≡ true → (s : IsSome (content_in v.chain k)) → IsUpTo k (low_in version.chain)) same under.greatest
+          let most : IsUpTo (low_of other) (low_in version.chain) = rw same at under.greatest
           (low_of other) pass (some_of _ _ here) in
           by_below (low_of other) (low_in version.chain)
           (λ less. absurd (not_below (low_of page) (low_of other) after (rw child.begins (leads.greatest.greatest (low_of other) less (some_of _ _ here)))))
@@ -95,7 +94,7 @@ module _ (w : Standing) where
           (below_upto (low_of page) (low_of removed) (low_of q) n.below (below_not (low_of removed) (low_of q) (upto_below (low_of removed) (low_of other) (low_of q) up after)))
           pass_q gone in
           let same : q ≡ removed = same_pid w q removed (chain_on w level q on_q) n.stands.stands is_pid in
-          absurd (not_self (low_of q) (upto_below (low_of q) (low_of other) (low_of q) (subst (λ (p : LivePage). IsUpTo (low_of p) (low_of other)) (sym same) up) after)))
+          absurd (not_self (low_of q) (upto_below (low_of q) (low_of other) (low_of q) (rw same up) after)))
           (λ alive. alive)
 
   -- the page ends to the left of the removed one
@@ -107,7 +106,7 @@ module _ (w : Standing) where
       let alive : is_removed r.0.chain ≡ false = either (is_removed r.0.chain)
       (λ gone.
       let same : r.0 ≡ live removed = same_pid w r.0 (live removed) (chain_on w level r.0 r.2) n.stands.stands (n.clear r.0 r.2 r.4 pass gone) in
-      absurd (not_self (low_in removed.chain) (subst (λ (p : LivePage). IsBelow (low_of p) (low_in removed.chain)) same r.3)))
+      absurd (not_self (low_in removed.chain) (rw same at r.3)))
       (λ alive. alive)
       in (
         record {
@@ -130,7 +129,7 @@ module _ (w : Standing) where
   pub on_level : (way : Key → Bool) (level : ℕ) (removed page : LivePage) → Near way level removed page → right_in page.chain ≡ Some removed.pid → On w level removed
   on_level way level removed page n is_right =
       let r = w.tree.right level page removed.pid n.on is_right in
-      subst (λ (p : LivePage). On w level p) (same_pid w r.0 removed (chain_on w level r.0 r.1) n.stands.stands r.2) r.1
+      rw (← same_pid w r.0 removed (chain_on w level r.0 r.1) n.stands.stands r.2) r.1
 
   -- What the way comes to on the level: a page, and that it is to the right of another one.
   pub record Onward (way : Key → Bool) (level next : ℕ) (page : LivePage) : Type 0 where
@@ -153,7 +152,7 @@ module _ (w : Standing) where
         after = below_upto (low_of page) (low_of removed) (low_of r.0) n.below (below_not (low_of removed) (low_of r.0) r.4);
         clear = past way level removed page r.0 n r.2 (below_not (low_of removed) (low_of r.0) r.4)
             (λ e. let same : r.0 ≡ removed = same_pid w r.0 removed (chain_on w level r.0 r.2) n.stands.stands e in not_self (low_of removed)
-            (subst (λ (p : LivePage). IsBelow (low_of removed) (low_of p)) same r.4))
+            (rw same at r.4))
             r.3;
       }
 
@@ -172,8 +171,7 @@ module _ (w : Standing) where
         is = elim b.is [
           | inl clear ↦ inl clear
           | inr under ↦ absurd (w.tree.unheld (suc level) (live removed) on n.gone (low_of b.page) b.page.pid
-              (let same : under.over ≡ removed = (let both : Some under.over ≡ Some removed = sym under.is_over in cc) in subst
-              (λ (v : Version). content_in v.chain (low_of b.page) ≡ Some (Child b.page.pid true)) same under.term))
+              (let same : under.over ≡ removed = (let both : Some under.over ≡ Some removed = sym under.is_over in cc) in rw same at under.term))
         ];
       }
 

@@ -1,12 +1,9 @@
 -- A reader's run in one memory comes to its end.
-use Rattle.std.proofs.Common.{◌≡◌, ◌≢◌, ◌<◌, ◌≤◌, ◌+◌, ◌*◌, ◌⊎◌, ℕ, zero, suc, List, [], ◌∷◌, length, Bool, true, Option, Some, None, refl, sym, subst, ◌∙◌, inl, inr, arith}
-use Rattle.progress.proofs.Words.{⊤, Limits, Answer, Number, Record, IsChainFrom, IsChainOf, low_in, LivePage, same_page, IsAnswer, Version, WayState, Root, Page, ReadEnd, Again, Removed}
-use Rattle.progress.proofs.Words.{Leaf, Beside, ReadGoal, Seek, Left, Beyond, Leg, Down, Round, Past, Sight, Empty, Whole, Visit, to_page, precedes, reaches, by_step, read_left_of}
-use Rattle.progress.proofs.Words.{is_leaving, AfterReading, State, Read, Task, Key, IsPageOn, EndsWithin, FindsEach, IsReaderRun, ReadsIn, last_round}
-use Rattle.round_model.specs.ReadRounds.{ReadRound, at, read_way, reading, wanted_step}
-use Rattle.round_model.specs.Rounds.{Responds, Sees}
+use Rattle.progress.proofs.Words.{◌≡◌, ◌≢◌, ◌<◌, ◌≤◌, ◌+◌, ◌*◌, ◌⊎◌, ℕ, zero, suc, List, [], ◌∷◌, length, Bool, true, Option, Some, None, refl, sym, ◌∙◌, inl, inr, arith, ⊤, Limits, Answer}
+use Rattle.progress.proofs.Words.{Number, Record, IsChainFrom, low_in, LivePage, same_page, IsAnswer, Version, WayState, Root, Page, ReadEnd, Again, Removed, Leaf, Beside, ReadGoal, Seek, Left}
+use Rattle.progress.proofs.Words.{Beyond, Leg, Down, Round, Past, Sight, Empty, Whole, Visit, to_page, precedes, reaches, by_step, read_left_of, is_leaving, AfterReading, State, Read, Task}
+use Rattle.progress.proofs.Words.{Key, IsPageOn, EndsWithin, FindsEach, IsReaderRun, ReadsIn, last_round, ReadRound, at, read_way, reading, wanted_step, Responds, Sees, above_empty}
 use Rattle.round_model.specs.Visits as page
-use Rattle.round_model.proofs.PageLaws.{above_empty}
 use Rattle.round_model.proofs.WayLaws.{lowest}
 use Rattle.progress.proofs.rounds.Measures.{left_few, left_some, left_within, one_round, removed_after, times}
 use Rattle.progress.proofs.rounds.Pages.{Standing, live, low_of, root_clear}
@@ -99,7 +96,7 @@ module _ (w : Standing) where
           at_head = tt;
           cost = w.limits.pids + w.tree.top;
           later = b.later;
-          here = subst (λ (l : Leg). At w l goal key w.tree.root.0 (w.limits.pids + w.tree.top) b.later) (sym b.down) (root_at goal key b.later b.keeps);
+          here = rw b.down (root_at goal key b.later b.keeps);
           few = omega (arith, short);
         },
       )
@@ -107,7 +104,7 @@ module _ (w : Standing) where
   goes_on : (leg : Leg) (goal : ReadGoal) (key : Key) (visit next : Visit) (steps : ℕ) (told : Answer Record) → Visits leg goal key visit steps
       → IsAnswer w.memory (page.wanted_step visit) told → page.Responds visit told next None → (m : ℕ) × (m < steps) × Visits leg goal key next m
   goes_on leg goal key visit next steps told v answer r =
-      let g = visits w.memory visit next v.page.chain v.left told (subst (λ (n : ℕ). IsChainOf w.memory n v.page.chain) v.is_pid v.stands.stands) v.is_left answer r in
+      let g = visits w.memory visit next v.page.chain v.left told (rw (← v.is_pid) v.stands.stands) v.is_left answer r in
       by_steps steps v.few g.left g.fewer
       (λ m few. record {
         page = v.page;
@@ -161,8 +158,8 @@ module _ (w : Standing) where
       let fewer = g.fewer in (
         14 * g.left + later,
         omega (arith, some, more, few, fewer),
-        subst (λ (k : Key). StandsAt new.leg new.goal k new.state (14 * g.left + later)) (sym g.is_key)
-            (subst (λ (s : WayState). StandsAt new.leg new.goal old.key s (14 * g.left + later)) (sym g.is_state)
+        rw g.is_key
+            (rw g.is_state
             (arrives new.limits new.leg new.goal old.key (14 * g.left + later) g.left later g.page g.level g.stands g.at (omega arith))),
       )
   ends old new (Some Again) cost left later steps some more few t = t
@@ -176,12 +173,12 @@ module _ (w : Standing) where
       → Visits old.leg old.goal old.key visit steps → IsAnswer w.memory (page.wanted_step visit) told
       → page.Responds visit told next (Some sight) → Sees reading old sight new result → Ends old new result steps
   found old visit next Empty new result steps told v answer r sees =
-      absurd (not_empty w.memory visit next v.page.chain told (subst (λ (n : ℕ). IsChainOf w.memory n v.page.chain) v.is_pid v.stands.stands) answer r)
+      absurd (not_empty w.memory visit next v.page.chain told (rw (← v.is_pid) v.stands.stands) answer r)
   found old visit next (Whole version) new result steps told v answer r sees =
       let f = finds w.memory visit next v.page.chain v.left told version v.is_left answer r in
       let same : v.page ≡ live version = same_page v.page (live version) (v.is_pid ∙ sym f.0) (sym f.1) in
       ends old new result v.cost v.left v.later steps (some_left old.leg old.goal old.key v.page v.cost v.later v.here) f.2 v.few
-      (treats w old version new v.cost v.later result (subst (λ (p : LivePage). At w old.leg old.goal old.key p v.cost v.later) same v.here) sees)
+      (treats w old version new v.cost v.later result (rw (← same) v.here) sees)
 
   abbrev Kept : ReadRound → Answer Record → ReadRound → Option ReadEnd → Type 0
   Kept old told new result = (steps : ℕ) → HasLeft old steps → IsAnswer w.memory (wanted_step old) told → Ends old new result steps
@@ -202,7 +199,7 @@ module _ (w : Standing) where
       by_end None e after = ((λ f. cc f), inr (r.steps.next, e.0, after, e.1, e.2))
       by_end (Some Again) e after = absurd e
       by_end (Some (Removed removed)) e after =
-          ((λ f. cc f), inr (read_left_of removed r.steps.next, e.0, after, e.1, subst (λ (k : Key). Begins (Down None) (Left removed) k e.0) (sym r.steps.same.key) e.2))
+          ((λ f. cc f), inr (read_left_of removed r.steps.next, e.0, after, e.1, rw r.steps.same.key e.2))
       by_end (Some (Leaf leaf)) e after = ((λ f. cc f), inl after)
       by_end (Some (Beside left removed)) e after = ((λ f. cc f), inl after)
 
@@ -236,7 +233,7 @@ module _ (w : Standing) where
       by_step_of (inl leaving) then = absurd (cc)
       by_step_of (inr (other, m, is, less, left)) then =
           let same : other ≡ next = cc in
-          let rest = then m (subst (λ (o : ReadRound). HasLeft o m) same left) in
+          let rest = then m (rw (← same) left) in
           let few = rest.1 in
           (rest.0, omega (arith, less, few), rest.2)
 

@@ -1,12 +1,11 @@
 -- A reader's round that shows what its actor knows stands in the memory of the state.
-use Rattle.std.proofs.Common.{◌≡◌, ◌++◌, ℕ, List, false, Option, Some, None, refl, sym, subst}
-use Rattle.progress.proofs.Words.{Limits, Record, is_removed, right_in, Entry, Knowledge, knows, Recalled, Version, WayState, Root, Page, ReadGoal, Seek, Left, Beyond, Leg, Down, Round}
-use Rattle.progress.proofs.Words.{Past, Key, IsState, IsGoalIn, IsLegIn, IsRoundIn, IsStateIn, IsVisitIn, NamesPlaces, WasRemovedLeaf}
-use Rattle.round_model.specs.ReadRounds.{BeginsToRead, IsAbove, IsAside, IsGoneAt, IsOn, KeepsToRead, ReadRound, ShowsState, ShowsVisit, VisitsToRead}
+use Rattle.progress.proofs.Words.{◌≡◌, ◌++◌, ℕ, List, false, Option, Some, None, refl, Limits, Record, is_removed, right_in, Entry, Knowledge, knows, Recalled, Version, WayState, Root, Page}
+use Rattle.progress.proofs.Words.{ReadGoal, Seek, Left, Beyond, Leg, Down, Round, Past, Key, IsState, IsGoalIn, IsLegIn, IsRoundIn, IsStateIn, IsVisitIn, NamesPlaces, WasRemovedLeaf, ReadRound}
+use Rattle.progress.proofs.Words.{Slot, Row, Visit, VisitState, IsOnWay}
+use Rattle.round_model.specs.ReadRounds.{BeginsToRead, IsAbove, IsAside, IsGoneAt, IsOn, KeepsToRead, ShowsState, ShowsVisit, VisitsToRead}
 use Rattle.round_model.specs.ReadRounds as read
-use Rattle.round_model.specs.Visits.{Slot, Row, Visit, VisitState}
 use Rattle.round_model.specs.Visits as seen
-use Rattle.round_model.specs.Walks.{IsAhead, IsOnWay}
+use Rattle.round_model.specs.Walks.{IsAhead}
 use Rattle.progress.proofs.rounds.Known.{WasRead, expected_place, read_beyond, read_front, read_kept, read_names, read_whole, tree}
 
 module _ (limits : Limits) (entries : List Entry) (state : IsState limits entries) (actor : ℕ) where
@@ -29,7 +28,7 @@ module _ (limits : Limits) (entries : List Entry) (state : IsState limits entrie
       → visit.state ≡ Row head row → k.read.heads visit.pid ≡ Some head → WasRead limits entries state actor visit.pid head chain
       → is_removed chain ≡ false → right_in chain ≡ Some removed.pid → NamesPlaces (tree limits entries state actor) removed.chain
   beyond_in within key visit removed head row chain a at_row at_head r alive is_right =
-      let after : IsAhead k removed visit.pid (Row head row) = subst (λ (s : VisitState). IsAhead k removed visit.pid s) at_row a.after in
+      let after : IsAhead k removed visit.pid (Row head row) = rw at_row at a.after in
       let q = read_whole limits entries state actor removed a.gone.page.in_hand.seen in
       read_beyond limits entries state actor visit.pid head removed.pid removed.head chain removed.chain r at_head after q.is_chain a.gone.page.gone alive is_right
 
@@ -50,7 +49,7 @@ module _ (limits : Limits) (entries : List Entry) (state : IsState limits entrie
       → IsVisitIn (tree limits entries state actor) goal leg visit.pid visit.part at
   visit_at within key goal leg r visit level low earlier way keeps goes_round Slot e = expected_place limits entries state actor within visit.pid level low earlier way.expected
   visit_at within key goal leg r visit level low earlier way keeps goes_round (Row head row) e =
-      let reads : seen.Reads k visit.pid head visit.part row = subst (λ (s : VisitState). seen.ShowsState k visit.pid visit.part s) e way.shows.stands in
+      let reads : seen.Reads k visit.pid head visit.part row = rw e at way.shows.stands in
       let f = read_front limits entries state actor visit.pid head row visit.part reads.in_slot reads.seen in
       record {
         rest = f.0;
@@ -60,7 +59,7 @@ module _ (limits : Limits) (entries : List Entry) (state : IsState limits entrie
         kept = λ gone. read_kept limits entries state actor visit.pid head (visit.part ++ f.0) f.2 gone;
         left =
             λ removed is alive is_right. beyond_in within key visit removed head row (visit.part ++ f.0)
-            (subst (λ (g : ReadGoal). KeepsToRead within key k visit g) is keeps) e reads.in_slot f.2 alive is_right;
+            (rw is at keeps) e reads.in_slot f.2 alive is_right;
         round = λ removed is alive is_right. beyond_in within key visit removed head row (visit.part ++ f.0) (goes_round removed is) e reads.in_slot f.2 alive is_right;
       }
 
@@ -99,12 +98,12 @@ module _ (limits : Limits) (entries : List Entry) (state : IsState limits entrie
     goal_at within key visit goal v.keeps,
     (was_removed within key removed v.nears.keeps.gone).kept,
     visit_at within key goal (Round removed) r visit v.nears.level v.nears.low v.nears.earlier v.nears.seeks.on_way v.keeps
-        (λ other e. subst (λ (q : Version). IsAside within k key visit q) (same_round removed other e) v.nears.keeps) visit.state refl,
+        (λ other e. rw (← same_round removed other e) v.nears.keeps) visit.state refl,
   )
 
   at_state : (within : Limits) (key : Key) (goal : ReadGoal) (leg : Leg) (r : Recalled) (way : WayState) → ShowsState within key goal leg k r way
       → IsGoalIn (tree limits entries state actor) goal × IsLegIn (tree limits entries state actor) leg × IsStateIn (tree limits entries state actor) goal leg way
-  at_state within key goal leg r Root s = (goal_begins within key goal s.1, subst (λ (l : Leg). IsLegIn (tree limits entries state actor) l) (sym s.0) tt, tt)
+  at_state within key goal leg r Root s = (goal_begins within key goal s.1, rw s.0 tt, tt)
   at_state within key goal leg r (Page visit) s = at_visit within key goal leg r visit s
 
   pub shown_in : (round : ReadRound) (r : Recalled) → read.Shows round k r → IsRoundIn (tree limits entries state actor) round

@@ -1,6 +1,5 @@
 -- A page is of level 15 at most.
-use Rattle.progress.proofs.Words.{◌≤◌, List, arith, Record, level_in}
-use Rattle.traces.specs.chain.Fitted.{IsFitted}
+use Rattle.progress.proofs.Words.{◌≤◌, List, arith, Record, level_in, IsFitted}
 use Rattle.traces.proofs.FittedLaws.{ruled}
 use Rattle.structure_changes.proofs.Places.{made}
 

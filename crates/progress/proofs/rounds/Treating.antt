@@ -1,14 +1,13 @@
 -- Which page of the tree a reader's way comes to next, and how many there may be from there on.
-use Rattle.std.proofs.Common.{◌≡◌, ◌≢◌, ◌<◌, ◌≤◌, ◌⊎◌, ℕ, zero, suc, Bool, true, false, Option, Some, None, sym, ap, ◌∙◌, inl, inr, arith}
+use Rattle.progress.proofs.Words.{◌≡◌, ◌≢◌, ◌<◌, ◌≤◌, ◌⊎◌, ℕ, zero, suc, Bool, true, false, Option, Some, None, sym, ap, ◌∙◌, inl, inr, arith, HasNoChild, content_in, is_removed, level_in}
+use Rattle.progress.proofs.Words.{low_in, right_in, LivePage, Version, left_of, LeadsDown, LeadsOn, LeadsRight, StaysLeft, IsBelow, Key, IsPageOn}
 use Rattle.base_page.specs.Pages.{child_in}
-use Rattle.progress.proofs.Words.{HasNoChild, content_in, is_removed, level_in, low_in, right_in, LivePage, Version, left_of, LeadsDown, LeadsOn, LeadsRight, StaysLeft, IsBelow, Key}
-use Rattle.progress.proofs.Words.{IsPageOn}
 use Rattle.progress.proofs.rounds.KeyWays.{IsWay}
 use Rattle.progress.proofs.rounds.Measures.{left_from, left_less, left_more, left_within, under_all}
 use Rattle.progress.proofs.rounds.Pages.{Below, Clear, On, Standing, Under, down, live, low_of, right, right_clear}
 use Rattle.progress.proofs.rounds.Rounding.{Near, Onward, go_round, merged_right, nearer, through_down, through_right}
 
-clash : (b : Bool) → b ≡ true → b ≡ false → ⊥
+pub clash : (b : Bool) → b ≡ true → b ≡ false → ⊥
 clash b e f = let both : true ≡ false = sym e ∙ f in cc
 
 module _ (w : Standing) where

@@ -1,9 +1,9 @@
 -- What a reader's round makes of a page of the tree: it goes on to a page, or ends at a removed leaf, or at the leaf that it sought.
-use Rattle.std.proofs.Common.{◌≡◌, ◌≢◌, ◌<◌, ◌≤◌, ◌+◌, ◌⊎◌, ℕ, suc, Bool, true, false, Option, Some, None, refl, sym, ap, subst, ◌∙◌, inl, inr, arith}
-use Rattle.progress.proofs.Words.{⊤, HasNoChild, content_in, is_removed, level_in, low_in, right_in, LivePage, Limits, Version, WayState, Page, ReadEnd, Again, Removed, Leaf, Beside}
-use Rattle.progress.proofs.Words.{ReadGoal, Seek, Left, Beyond, Leg, Down, Round, Past, IsPlain, above_of, below, level_on, to_page, LeadsOn, LeadsRight, StaysLeft, reaches, IsBelow, Key}
-use Rattle.progress.proofs.Words.{IsPageOn, below_not, below_upto, upto_below, upto_trans, WasRemovedLeaf}
-use Rattle.round_model.specs.ReadRounds.{IsLeftLeaf, IsLost, IsOffLevel, LacksLeft, ReadRound, TreatsRead, reading_on_to, left_of, on, read_way, toward}
+use Rattle.progress.proofs.Words.{◌≡◌, ◌≢◌, ◌<◌, ◌≤◌, ◌+◌, ◌⊎◌, ℕ, suc, Bool, true, false, Option, Some, None, refl, sym, ap, subst, ◌∙◌, inl, inr, arith, ⊤, HasNoChild, content_in, is_removed}
+use Rattle.progress.proofs.Words.{level_in, low_in, right_in, LivePage, Limits, Version, WayState, Page, ReadEnd, Again, Removed, Leaf, Beside, ReadGoal, Seek, Left, Beyond, Leg, Down, Round}
+use Rattle.progress.proofs.Words.{Past, IsPlain, above_of, below, level_on, to_page, LeadsRight, StaysLeft, reaches, IsBelow, Key, IsPageOn, below_not, below_upto, upto_below, upto_trans}
+use Rattle.progress.proofs.Words.{WasRemovedLeaf, IsLeftLeaf, ReadRound, TreatsRead, reading_on_to, left_of, on, read_way, toward}
+use Rattle.round_model.specs.ReadRounds.{IsLost, IsOffLevel, LacksLeft}
 use Rattle.progress.proofs.rounds.KeyWays.{IsWay, precedes_is_way, reaches_is_way}
 use Rattle.progress.proofs.rounds.Leaves.{IsBeyond, IsRemovedLeaf, beside_right, left_stands, none_beyond, of_level, of_term, past_right}
 use Rattle.progress.proofs.rounds.Measures.{after_few, all_removed, fewer_after, left_from, left_less, one_round, removed_after, times, times_up}
@@ -30,10 +30,10 @@ not_round leg removed plain e = absurd (subst IsPlain e plain)
 
 lacking : (leg : Leg) (version over : Version) → above_of leg ≡ Some over → LacksLeft version leg → HasNoChild (content_in over.chain) (left_of version)
 lacking (Down None) version over e lacks = absurd (cc)
-lacking (Down (Some above)) version over e lacks = let same : above ≡ over = cc in subst (λ (v : Version). HasNoChild (content_in v.chain) (left_of version)) same lacks
+lacking (Down (Some above)) version over e lacks = let same : above ≡ over = cc in rw (← same) lacks
 lacking (Round removed) version over e lacks = absurd lacks
 lacking (Past None) version over e lacks = absurd (cc)
-lacking (Past (Some above)) version over e lacks = let same : above ≡ over = cc in subst (λ (v : Version). HasNoChild (content_in v.chain) (left_of version)) same lacks
+lacking (Past (Some above)) version over e lacks = let same : above ≡ over = cc in rw (← same) lacks
 
 module _ (w : Standing) where
   -- how many steps are kept for rounds after this one
@@ -95,11 +95,11 @@ module _ (w : Standing) where
 
   gone : (old new : ReadRound) (leg : Leg) (goal : ReadGoal) (next cost later : ℕ) → new ≡ reading_on_to next (on leg (toward goal old))
       → (c : Comes w next cost (λ page left. At leg goal old.key page left later)) → Goes new old.key cost later
-  gone old new leg goal next cost later e c = subst (λ (r : ReadRound). Goes r old.key cost later) (sym e) (record {
+  gone old new leg goal next cost later e c = rw e (record {
     page = c.page;
     level = c.level;
     stands = c.stands;
-    is_state = ap (λ (n : ℕ). Page (to_page old.limits n)) (sym c.is_pid);
+    is_state = rw (← c.is_pid);
     is_key = refl;
     left = c.left;
     fewer = c.fewer;
@@ -117,10 +117,10 @@ module _ (w : Standing) where
     | inl here ↦
         let zeroth : o.level ≡ 0 = sym o.stands.level_is ∙ l.ends.leaf in
         let few = here.1 in (
-          subst (λ (n : ℕ). On w n (live version)) zeroth here.0.on,
-          (let from_here : left_from w o.level (low_in version.chain) ≤ cost = omega (arith, few) in subst (λ (n : ℕ). left_from w n (low_in version.chain) ≤ cost) zeroth from_here),
-          subst (λ (g : ReadGoal). read_way g old.key (low_in version.chain) ≡ true) l.goal o.passing,
-          subst (λ (g : ReadGoal). Keeps g old.key later) l.goal k,
+          rw (← zeroth) here.0.on,
+          (let from_here : left_from w o.level (low_in version.chain) ≤ cost = omega (arith, few) in rw (← zeroth) from_here),
+          rw l.goal at o.passing,
+          rw l.goal at k,
         )
     | inr here ↦ absurd (let both : true ≡ false = sym here.0.gone ∙ l.alive in cc)
   ]
@@ -204,7 +204,7 @@ module _ (w : Standing) where
       | inl r ↦ gone old new (below version old.leg) old.goal r.next cost later r.goes
           (turned r.next cost (OnWay w way (Some version)) (λ page left. At (below version old.leg) old.goal old.key page left later)
           (λ page left h. into (below version old.leg) old.goal old.key page left later (plain_below old.leg version plain)
-          (subst (λ (a : Option Version). OnWay w way a page left) (sym (above_below old.leg version plain)) h) k)
+          (rw (above_below old.leg version plain) h) k)
           (way_down w way is_way (above_of old.leg) r.next cost version o r.alive r.stays r.index r.leads))
       | inr rest ↦ elim rest [
         | inl r ↦
@@ -261,7 +261,7 @@ module _ (w : Standing) where
   under_leaf way above version cost o removed leaf = elim o.is [
     | inl here ↦ absurd (let both : true ≡ false = sym removed ∙ here.0.alive in cc)
     | inr here ↦ let zeroth : o.level ≡ 0 = sym o.stands.level_is
-        ∙ leaf in (subst (λ (n : ℕ). IsPageOn w.limits w.memory n (live version)) zeroth o.stands, subst (λ (n : ℕ). Under w way above n (live version)) zeroth here.0)
+        ∙ leaf in (rw (← zeroth) o.stands, rw (← zeroth) here.0)
   ]
 
   plain_gone : (goal : ReadGoal) (key : Key) (above : Option Version) (version : Version) (cost later : ℕ)
@@ -284,7 +284,7 @@ module _ (w : Standing) where
       → TreatsRead old version new (Some end) → Then old new (Some end) cost later
   plain_end old version new cost later Again plain o k treats = plain_lost old version cost plain o treats
   plain_end old version new cost later (Removed removed) plain o k at =
-      subst (λ (v : Version). IsRemovedLeaf w (live v) × (one_round w + times w (removed_after w old.key (low_in v.chain)) ≤ later)) (sym at.is)
+      rw at.is
       (plain_gone old.goal old.key (above_of old.leg) version cost later o k at.gone at.leaf)
   plain_end old version new cost later (Leaf leaf) plain o k at = tt
   plain_end old version new cost later (Beside left removed) plain o k at = tt
@@ -356,7 +356,7 @@ module _ (w : Standing) where
         let fewer = fewer_after w key o.low (live version) o.beyond.on at.gone (o.beyond.after at.gone) o.passing in
         let up = times_up w (suc (removed_after w key (low_in version.chain))) (removed_after w key o.low) fewer in
         let rest = o.rest in
-        subst (λ (v : Version). IsRemovedLeaf w (live v) × (one_round w + times w (removed_after w key (low_in v.chain)) ≤ later)) (sym at.is)
+        rw at.is
         (of_level w (live version) o.beyond.on at.gone, omega (arith, up, rest))
     leaves_treat version new cost later (Some (Leaf leaf)) o at = tt
     leaves_treat version new cost later (Some (Beside left removed)) o at = tt
@@ -391,21 +391,21 @@ module _ (w : Standing) where
                     let same = one_removed r.removed r.left.leg in
                     gone on_round new (Round removed) goal r.next cost later r.goes
                     (turned r.next cost (OnRound w (read_way goal key) removed) (λ page left. At (Round removed) goal key page left later) (λ page left h. (h, k))
-                    (round_nearer w (read_way goal key) is_way r.next cost removed (live version) o (subst (λ (v : Version). LeadsRight (left_of v) version.chain r.next) same r.leads)))
+                    (round_nearer w (read_way goal key) is_way r.next cost removed (live version) o (rw (← same) r.leads)))
                 | inr rest ↦ elim rest [
                   | inl r ↦
                       let same = one_removed r.removed r.left.leg in
                       goes_on new None r.next cost later r.goes k
                       (round_through w (read_way goal key) is_way r.next cost removed (live version) o
-                      (subst (λ (v : Version). right_in version.chain ≡ Some v.pid) same r.beside)
-                      (subst (λ (v : Version). LeadsOn (read_way goal key) v.chain r.next) same r.leads))
+                      (rw (← same) r.beside)
+                      (rw (← same) r.leads))
                   | inr rest ↦ elim rest [
                     | inl r ↦
                         let same = one_removed r.removed r.there.left.leg in
                         goes_on new None r.next cost later r.goes k
                         (round_merged_right w (read_way goal key) r.next cost removed (live version) o
-                        (subst (λ (v : Version). right_in version.chain ≢ Some v.pid) same r.there.merged)
-                        (subst (λ (v : Version). StaysLeft (left_of v) version.chain) same r.there.stays) r.leads)
+                        (rw (← same) r.there.merged)
+                        (rw (← same) r.there.stays) r.leads)
                     | inr r ↦ goes_on new (Some version) r.next cost later r.goes k (round_merged_down w (read_way goal key) is_way r.next cost removed version o r.ends r.index r.leads)
                   ]
                 ]

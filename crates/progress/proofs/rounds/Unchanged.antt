@@ -1,18 +1,20 @@
 -- What stays of the tree where an entry doesn't change it.
-use Rattle.std.proofs.Common.{◌≡◌, ◌≢◌, ◌<◌, ◌≤◌, ◌⊎◌, ◌++◌, ℕ, suc, List, [], ◌∷◌, length, true, false, Option, Some, None, refl, sym, ap, subst, ◌∙◌, inl, inr, arith}
-use Rattle.progress.proofs.Words.{eqb_tells, MatchOption, ◌==◌, Limits, Reply, Answer, Whether, Link, Exchange, Place, Memory, next_row, Record, IsChainFrom, IsChainOf, Entry, Begin, Step}
-use Rattle.progress.proofs.Words.{IsNext, memory_after_entry, memory_at, memory_of, pushed_length, slice_get-push, take-push_whole, IsDirect, IsInPhase, MovesPhase, Phase, free, owned}
-use Rattle.progress.proofs.Words.{takes, splits, becomes_root, terms, under_root, holds, removes, merges, unterms, reuses, shared_part, IsInTree, IsState, phase_of, slot_some}
+use Rattle.progress.proofs.Words.{◌≡◌, ◌≢◌, ◌<◌, ◌≤◌, ◌⊎◌, ◌++◌, ℕ, suc, List, [], ◌∷◌, length, true, false, Option, Some, None, refl, sym, ap, ◌∙◌, inl, inr, arith, eqb_tells, MatchOption}
+use Rattle.progress.proofs.Words.{Limits, Reply, Answer, Whether, Link, Exchange, Place, Memory, next_row, Record, IsChainFrom, IsChainOf, Entry, Begin, Step, IsNext, memory_after_entry}
+use Rattle.progress.proofs.Words.{memory_at, memory_of, pushed_length, slice_get-push, take-push_whole, IsDirect, IsInPhase, MovesPhase, Phase, free, owned, takes, splits, becomes_root, terms}
+use Rattle.progress.proofs.Words.{under_root, holds, removes, merges, unterms, reuses, shared_part, IsInTree, IsState, phase_of, slot_some, Knowledge, knows, Happens-kept, memory_of-push}
+use Rattle.progress.proofs.Words.{link_of, changes_tree}
+use Rattle.progress.proofs.Tallies.{itself}
 use Rattle.bw_model.specs.declared.step.Link.TheVariants as link
-use Rattle.traces.specs.discipline.Knowledge.{Knowledge, OwnRow, Written, knows, knows_after}
-use Rattle.traces.proofs.TraceLaws.{Happens-below, Happens-kept, Happens-push_cases, memory_of-push}
-use Rattle.linearization.specs.Links.{Wins, link_of}
+use Rattle.traces.specs.discipline.Knowledge.{Written, knows_after}
+use Rattle.traces.proofs.TraceLaws.{Happens-below, Happens-push_cases}
+use Rattle.linearization.specs.Links.{Wins}
 use Rattle.tree_law.specs.Owners.{Linked, OwnFits, Reached, Spare}
 use Rattle.tree_law.specs.Phase.{Cleared, Fresh, Keeps, Nobody, PageOwner, Placed, Stage}
 use Rattle.tree_law.proofs.links.Keeping.{slot_of}
 use Rattle.tree_law.proofs.trace.Beginning.{knows-push}
 use Rattle.tree_law.proofs.trace.Names.{placed_at, slot_none}
-use Rattle.progress.specs.ReadersAmong.{changes_tree, is_change}
+use Rattle.progress.specs.ReadersAmong.{is_change}
 use Rattle.progress.proofs.Begun.{one_of}
 use Rattle.progress.proofs.rounds.Pages.{Standing}
 
@@ -57,9 +59,6 @@ in_tree_as (Cleared a l s) two e h = tt
 in_tree_as Nobody two e h = tree_free two (sym e) h
 in_tree_as (Keeps a) two e h = tree_owned two (sym e) h
 
-itself : (a : ℕ) → (a == a) ≡ true
-itself a = elim (eqb_tells a a) [ inl same ↦ same.0 | inr apart ↦ absurd (apart.1 refl) ]
-
 placed_here : (actor placed : ℕ) (content : Record) (answer : Answer Record) (reply : Option Reply) (ks : ℕ → Knowledge)
     → (knows_after ks (Step actor (Place placed content) answer reply) actor).own.rows placed ≡ Written content
 placed_here actor placed content answer reply ks = rw (itself actor, itself placed) refl
@@ -70,7 +69,7 @@ memory_at_end limits entries entry = ap (memory_of limits) (take-push_whole entr
 -- slot 0 changes where the tree gets a new root
 root_stays : (limits : Limits) (entries : List Entry) (entry : Entry) → IsNext limits entries entry → changes_tree (memory_of limits entries) entry ≡ false
     → (memory_of limits (entries ++ entry ∷ [])).slots 0 ≡ (memory_of limits entries).slots 0
-root_stays limits entries entry next off = ap (λ (m : Memory). m.slots 0) (memory_of-push limits entries entry) ∙ by_entry entry next off
+root_stays limits entries entry next off = rw (memory_of-push limits entries entry) (by_entry entry next off)
   where
     by_entry : (e : Entry) → IsNext limits entries e → changes_tree (memory_of limits entries) e ≡ false
         → (memory_after_entry (memory_of limits entries) e).slots 0 ≡ (memory_of limits entries).slots 0
@@ -81,10 +80,8 @@ root_stays limits entries entry next off = ap (λ (m : Memory). m.slots 0) (memo
         | inr other ↦ rw (won.0, other.0) refl
         | inl same ↦
             let yes : answer ≡ Whether true = n.2 ∙ ap Whether won.0 in
-            let at : changes_tree (memory_of limits entries) (Step actor (Exchange slot old new) (Whether true) reply) ≡ false = subst
-            (λ (a : Answer Record). changes_tree (memory_of limits entries) (Step actor (Exchange slot old new) a reply) ≡ false) yes o in
-            let zeroth : changes_tree (memory_of limits entries) (Step actor (Exchange 0 old new) (Whether true) reply) ≡ false = subst
-            (λ (p : ℕ). changes_tree (memory_of limits entries) (Step actor (Exchange p old new) (Whether true) reply) ≡ false) (sym same.1) at in
+            let at : changes_tree (memory_of limits entries) (Step actor (Exchange slot old new) (Whether true) reply) ≡ false = rw yes at o in
+            let zeroth : changes_tree (memory_of limits entries) (Step actor (Exchange 0 old new) (Whether true) reply) ≡ false = rw (← same.1) at at in
             absurd (cc zeroth)
       ]
     ]
@@ -118,8 +115,7 @@ module _ (limits : Limits) (entries : List Entry) (entry : Entry) (off : changes
     -- a page that is in the tree after the entry was in it before
     pub in_tree_before : (pid : ℕ) → IsInTree (later.owners.page pid) → IsInTree (state.owners.page pid)
     in_tree_before pid h =
-        let now : IsInPhase limits grown (suc (length entries)) pid (phase_of (later.owners.page pid)) = subst
-        (λ (n : ℕ). IsInPhase limits grown n pid (phase_of (later.owners.page pid))) (pushed_length entries entry) (later.in_phase pid) in
+        let now : IsInPhase limits grown (suc (length entries)) pid (phase_of (later.owners.page pid)) = rw (← pushed_length entries entry) (later.in_phase pid) in
         let before = phase_kept pid (phase_of (later.owners.page pid)) (λ e. tree_owned (later.owners.page pid) e h) (λ e. tree_free (later.owners.page pid) e h) now in
         in_tree_as (state.owners.page pid) (later.owners.page pid) (sym (state.only_phase pid (phase_of (later.owners.page pid)) before)) h
 
@@ -128,14 +124,14 @@ module _ (limits : Limits) (entries : List Entry) (entry : Entry) (off : changes
     none_wins pid h actor slot old new reply is same =
         let o = one_of limits grown later.run (length entries) actor (Exchange slot old new) (Whether true) (reply, slice_get-push entries entry ∙ ap Some is) in
         let l = direct.links o.operation (length entries) slot old new o.begun o.took in
-        let memory : link_of (memory_of limits entries) slot old new ≡ Some l.0 = subst (λ (m : Memory). link_of m slot old new ≡ Some l.0) (memory_at_end limits entries entry) l.1 in
+        let memory : link_of (memory_of limits entries) slot old new ≡ Some l.0 = rw (← memory_at_end limits entries entry) l.1 in
         by_kind l.0 memory l.2
       where
         owned_not : IsInPhase limits grown (length entries) slot owned → ⊥
         owned_not at =
             let before = phase_before (length entries) slot owned (omega arith) at in
             let is : owned ≡ phase_of (state.owners.page slot) = state.only_phase slot owned before in
-            tree_owned (state.owners.page slot) (sym is) (subst (λ (n : ℕ). IsInTree (state.owners.page n)) (sym same) h)
+            tree_owned (state.owners.page slot) (sym is) (rw same h)
 
         counted : (kind : Link) → link_of (memory_of limits entries) slot old new ≡ Some kind → is_change (Some kind) ≡ true → ⊥
         counted kind at so =
@@ -150,7 +146,7 @@ module _ (limits : Limits) (entries : List Entry) (entry : Entry) (off : changes
 
     -- the slot of a page of the tree stays
     pub slot_stays : (pid : ℕ) → IsInTree (state.owners.page pid) → 0 < pid → (memory_of limits grown).slots pid ≡ (memory_of limits entries).slots pid
-    slot_stays pid h some = ap (λ (m : Memory). m.slots pid) (memory_of-push limits entries entry) ∙ by_entry entry refl
+    slot_stays pid h some = rw (memory_of-push limits entries entry) (by_entry entry refl)
       where
         by_entry : (e : Entry) → entry ≡ e → (memory_after_entry (memory_of limits entries) e).slots pid ≡ (memory_of limits entries).slots pid
         by_entry (Begin actor command) is = refl
@@ -159,7 +155,7 @@ module _ (limits : Limits) (entries : List Entry) (entry : Entry) (off : changes
           | inl won ↦ elim (eqb_tells pid slot) [
             | inr other ↦ rw (won.0, other.0) refl
             | inl same ↦
-                let told : IsNext limits entries (Step actor (Exchange slot old new) answer reply) = subst (λ (x : Entry). IsNext limits entries x) is next in
+                let told : IsNext limits entries (Step actor (Exchange slot old new) answer reply) = rw is at next in
                 let yes : answer ≡ Whether true = told.2 ∙ ap Whether won.0 in
                 absurd (none_wins pid h actor slot old new reply (is ∙ ap (λ (a : Answer Record). Step actor (Exchange slot old new) a reply) yes) (sym same.1))
           ]
@@ -168,20 +164,18 @@ module _ (limits : Limits) (entries : List Entry) (entry : Entry) (off : changes
 
     -- a linked row keeps its record
     row_stays : (row : ℕ) → later.owners.row row ≡ Linked → (memory_of limits grown).rows row ≡ (memory_of limits entries).rows row
-    row_stays row linked = ap (λ (m : Memory). m.rows row) (memory_of-push limits entries entry) ∙ by_entry entry refl
+    row_stays row linked = rw (memory_of-push limits entries entry) (by_entry entry refl)
       where
         own_row : (actor placed : ℕ) (content : Record) (answer : Answer Record) (reply : Option Reply) → entry ≡ Step actor (Place placed content) answer reply
             → (knows grown actor).own.rows placed ≡ Written content
         own_row actor placed content answer reply is =
-            let ks : knows grown actor ≡ knows_after (knows entries) entry actor = ap (λ f. f actor) (knows-push entries entry) in
+            let ks : knows grown actor ≡ knows_after (knows entries) entry actor = rw (knows-push entries entry) in
             ap (λ q. q.own.rows placed) ks ∙ ap (λ (x : Entry). (knows_after (knows entries) x actor).own.rows placed) is ∙ placed_here actor placed content answer reply (knows entries)
 
         by_place : (actor placed : ℕ) (content : Record) (answer : Answer Record) (reply : Option Reply) → entry ≡ Step actor (Place placed content) answer reply → row ≡ placed → ⊥
         by_place actor placed content answer reply is same =
             let owns = later.is_tree.owns actor placed in
-            let fits : OwnFits actor (later.owners.row placed) ((shared_part (memory_of limits grown)).rows placed) (Written content) = subst
-            (λ (own : OwnRow). OwnFits actor (later.owners.row placed) ((shared_part (memory_of limits grown)).rows placed) own)
-            (own_row actor placed content answer reply is) owns in
+            let fits : OwnFits actor (later.owners.row placed) ((shared_part (memory_of limits grown)).rows placed) (Written content) = rw (own_row actor placed content answer reply is) at owns in
             let spare : later.owners.row placed ≡ Spare actor = fits.0 in
             let held : later.owners.row placed ≡ Linked = ap later.owners.row (sym same) ∙ linked in
             let both : Spare actor ≡ Linked = sym spare ∙ held in
@@ -202,7 +196,7 @@ module _ (limits : Limits) (entries : List Entry) (entry : Entry) (off : changes
         let here : (memory_of limits grown).rows row ≡ Some newest = row_stays row linked ∙ h.0 in
         let l = later.is_tree.closed row linked in
         let same : l.content ≡ newest = (let both : Some l.content ≡ Some newest = sym l.stands ∙ here in cc) in
-        (here, by_next (next_row newest) (subst (λ (c : Record). NextLinked (next_row c)) same l.next) h.1 (λ n e f. chain_stays under n e f))
+        (here, by_next (next_row newest) (rw (← same) l.next) h.1 (λ n e f. chain_stays under n e f))
       where
         NextLinked : Option ℕ → Type 0
         NextLinked o = MatchOption o (Unit {0}) (λ n. later.owners.row n ≡ Linked)
@@ -216,7 +210,7 @@ module _ (limits : Limits) (entries : List Entry) (entry : Entry) (off : changes
     pub page_stays : (pid : ℕ) (chain : List Record) → IsInTree (later.owners.page pid) → IsChainOf (memory_of limits entries) pid chain → IsChainOf (memory_of limits grown) pid chain
     page_stays pid chain h is =
         let slot = slot_stays pid (in_tree_before pid h) is.page in
-        let linked : 0 < (memory_of limits grown).slots pid = subst (λ (n : ℕ). 0 < n) (sym slot) is.linked in
+        let linked : 0 < (memory_of limits grown).slots pid = rw slot is.linked in
         let at = placed_at (later.owners.page pid) h in
         record {
           page = is.page;
@@ -226,7 +220,7 @@ module _ (limits : Limits) (entries : List Entry) (entry : Entry) (off : changes
             | inr there ↦
                 let s = slot_some (memory_of limits grown).slots pid there.0 there.1 in
                 let row : later.owners.row ((memory_of limits entries).slots pid) ≡ Linked = ap later.owners.row (sym slot ∙ s.1) ∙ there.2.linked in
-                subst (λ (n : ℕ). IsChainFrom (memory_of limits grown).rows n chain) (sym slot) (chain_stays chain ((memory_of limits entries).slots pid) row is.records)
+                rw slot (chain_stays chain ((memory_of limits entries).slots pid) row is.records)
           ];
         }
 

@@ -1,8 +1,7 @@
 -- The visit of a page whose chain stands in the memory: it reads one record after another, and finds the whole page.
-use Rattle.std.proofs.Common.{◌≡◌, ◌<◌, ◌++◌, append_assoc, ℕ, suc, List, [], ◌∷◌, length, Some, None, refl, sym, ap, subst, ◌∙◌, inl, inr, arith}
-use Rattle.progress.proofs.Words.{MatchOption, Limits, Answer, Memory, next_row, Record, IsChainFrom, IsChainOf, IsAnswer, Version}
-use Rattle.bw_model.specs.declared.step.Answer.TheVariants.{Number, Content}
-use Rattle.round_model.specs.Visits.{Completes, Continues, FindsHead, Responds, Empty, Whole, Visit, VisitState, Slot, Row, wanted_step}
+use Rattle.progress.proofs.Words.{◌≡◌, ◌<◌, ◌++◌, append_assoc, ℕ, suc, List, [], ◌∷◌, length, Some, None, refl, sym, ap, ◌∙◌, inl, inr, arith, MatchOption, Limits, Answer, Memory, next_row}
+use Rattle.progress.proofs.Words.{Record, IsChainFrom, IsChainOf, IsAnswer, Version, Number, Content, Empty, Whole, Visit, VisitState, Slot, Row}
+use Rattle.round_model.specs.Visits.{Completes, Continues, FindsHead, Responds, wanted_step}
 
 module _ (memory : Memory) where
   -- what is still to be read of the page's chain, and how many steps that takes
@@ -23,8 +22,8 @@ module _ (memory : Memory) where
   head limits pid part chain (Row h r) steps told next is left answer f = let e = f.asked in absurd (cc)
   head limits pid part chain Slot steps told next is left answer f =
       let row : memory.slots pid ≡ f.row = (let both : Number (memory.slots pid) ≡ Number f.row = sym answer ∙ f.is in cc) in
-      subst (λ (v : Visit). GoesOn (record { limits = limits; pid = pid; part = part; state = Slot }) v chain steps) (sym f.goes)
-      (record { is_pid = refl; left = length chain; fewer = sym left; is_left = (chain, refl, subst (λ (n : ℕ). IsChainFrom memory.rows n chain) row is.records, refl) })
+      rw f.goes
+      (record { is_pid = refl; left = length chain; fewer = sym left; is_left = (chain, refl, rw (← row) is.records, refl) })
 
   -- the record in a row of a chain is the chain's
   first_of : (row under : ℕ) (content : Record) (rest : List Record) → IsChainFrom memory.rows row rest → memory.rows row ≡ Some content
@@ -32,15 +31,14 @@ module _ (memory : Memory) where
   first_of row under content [] from there more = absurd from
   first_of row under content (newest ∷ below) from there more =
       let same : newest ≡ content = (let both : Some newest ≡ Some content = sym from.0 ∙ there in cc) in
-      let next : MatchOption (Some under) (below ≡ []) (λ n. IsChainFrom memory.rows n below) = subst
-      (λ o. MatchOption o (below ≡ []) (λ n. IsChainFrom memory.rows n below)) (ap next_row same ∙ more) from.1 in
+      let next : MatchOption (Some under) (below ≡ []) (λ n. IsChainFrom memory.rows n below) = rw (ap next_row same ∙ more) at from.1 in
       (below, ap (λ (c : Record). c ∷ below) same, next)
 
   last_of : (row : ℕ) (content : Record) (rest : List Record) → IsChainFrom memory.rows row rest → memory.rows row ≡ Some content → next_row content ≡ None → rest ≡ content ∷ []
   last_of row content [] from there last = absurd from
   last_of row content (newest ∷ below) from there last =
       let same : newest ≡ content = (let both : Some newest ≡ Some content = sym from.0 ∙ there in cc) in
-      let next : below ≡ [] = subst (λ o. MatchOption o (below ≡ []) (λ n. IsChainFrom memory.rows n below)) (ap next_row same ∙ last) from.1 in
+      let next : below ≡ [] = rw (ap next_row same ∙ last) at from.1 in
       (λ i. same i ∷ next i)
 
   content_of : (row : ℕ) (content : Record) (told : Answer Record) → (c : Record) × (memory.rows row ≡ Some c) × (told ≡ Content c) → told ≡ Content content → memory.rows row ≡ Some content
@@ -55,7 +53,7 @@ module _ (memory : Memory) where
       let head_is : head ≡ c.head = (let e = c.asked in cc) in
       let there = content_of row c.content told answer c.is in
       let f = first_of row c.under c.content left.0 left.2 there c.more in
-      subst (λ (v : Visit). GoesOn (record { limits = limits; pid = pid; part = part; state = Row head row }) v chain steps) (sym c.goes)
+      rw c.goes
       (record
       { is_pid = refl; left = length f.0; fewer = sym (left.1 ∙ ap length f.1); is_left = (f.0, refl, f.2, append_assoc part (c.content ∷ []) f.0 ∙ ap (λ rest. part ++ rest) (sym f.1) ∙ left.3) })
 
@@ -69,8 +67,7 @@ module _ (memory : Memory) where
   -- the slot isn't empty
   pub not_empty : (old next : Visit) (chain : List Record) (told : Answer Record) → IsChainOf memory old.pid chain → IsAnswer memory (wanted_step old) told → Responds old told next (Some Empty) → ⊥
   not_empty old next chain told is answer f =
-      let at : told ≡ Number (memory.slots old.pid) = subst
-      (λ (s : VisitState). IsAnswer memory (wanted_step (record { limits = old.limits; pid = old.pid; part = old.part; state = s })) told) f.asked answer in
+      let at : told ≡ Number (memory.slots old.pid) = rw f.asked at answer in
       let zeroth : memory.slots old.pid ≡ 0 = (let both : Number (memory.slots old.pid) ≡ Number 0 = sym at ∙ f.is in cc) in
       let linked = is.linked in
       omega (arith, zeroth, linked)
@@ -101,12 +98,11 @@ module _ (memory : Memory) where
   pub heads : (old next : Visit) (told : Answer Record) → IsAnswer memory (wanted_step old) told → Responds old told next None → IsAtHead old.pid old.state → IsAtHead next.pid next.state
   heads old next told answer r at = elim r [
     | inl f ↦
-        let is : told ≡ Number (memory.slots old.pid) = subst
-        (λ (s : VisitState). IsAnswer memory (wanted_step (record { limits = old.limits; pid = old.pid; part = old.part; state = s })) told) f.asked answer
+        let is : told ≡ Number (memory.slots old.pid) = rw f.asked at answer
         in
         let row : f.row ≡ memory.slots old.pid = (let both : Number f.row ≡ Number (memory.slots old.pid) = sym f.is ∙ is in cc) in
-        subst (λ (v : Visit). IsAtHead v.pid v.state) (sym f.goes) row
+        rw f.goes row
     | inr c ↦
-        let here : IsAtHead old.pid (Row c.head c.row) = subst (λ (s : VisitState). IsAtHead old.pid s) c.asked at in
-        subst (λ (v : Visit). IsAtHead v.pid v.state) (sym c.goes) here
+        let here : IsAtHead old.pid (Row c.head c.row) = rw c.asked at at in
+        rw c.goes here
   ]

@@ -1,10 +1,8 @@
 -- The chains of the pages that are alive, and what they are worth.
-use Rattle.tree_law.proofs.Words.{false, [], ap, refl, Option, None, List, true, inl, length, ◌≤◌, inr, ◌∷◌, sym, ℕ, ◌≡◌, Bool, ◌∙◌, arith, Some, ◌+◌, ◌*◌, ◌-◌, same_Some, Update}
-use Rattle.tree_law.proofs.Words.{Item, Key, Record, IsChainFrom, IsChainFrom-unique, Knowledge, IsFitted, AreFitted, Owners, Linked, IsClosed, Shared, IsTree, Placed, PageOwner, Stage, rank}
-use Rattle.tree_law.proofs.Words.{Fresh, Indexed, Held, spec}
-use Rattle.std.proofs.lemmas.Bool.{cases_Bool as decided}
-use Rattle.traces.specs.chain.Chains.{IsItemsOf}
-use Rattle.tree_law.specs.Changes.{AliveChain, IsWorth, IsWorthBy, chain_worth, is_alive}
+use Rattle.tree_law.proofs.Words.{false, [], ap, refl, Option, None, List, true, inl, length, ◌≤◌, inr, ◌∷◌, sym, ℕ, ◌≡◌, Bool, ◌∙◌, arith, Some, ◌+◌, ◌*◌, ◌-◌, same_Some, Update, Item, Key}
+use Rattle.tree_law.proofs.Words.{Record, IsChainFrom, IsChainFrom-unique, Knowledge, IsFitted, AreFitted, Owners, Linked, IsClosed, Shared, IsTree, Placed, PageOwner, Stage, rank, Fresh}
+use Rattle.tree_law.proofs.Words.{Indexed, Held, spec, decided, IsItemsOf, IsWorth, is_alive}
+use Rattle.tree_law.specs.Changes.{AliveChain, IsWorthBy, chain_worth}
 use Rattle.tree_law.proofs.shape.Rows.{rows_kept}
 use Rattle.tree_law.proofs.shape.Sides.{locate}
 use Rattle.tree_law.proofs.changes.Items.{same_items}

@@ -1,8 +1,6 @@
 -- What a base that a chain allows has, and where.
-use Rattle.tree_law.proofs.Words.{false, [], refl, Option, None, List, ◌∷◌, ◌≡◌, Some, IsSome, IsTrue, Item, Key, ContentOf, Page, Record, Base, content_at, is_in_range}
-use Rattle.tree_law.proofs.Words.{level_in, high_in, right_in, IsFitted, base_from, IsPage}
-use Rattle.base_page.specs.Pages.{IsAscending}
-use Rattle.base_page.proofs.PageLaws.{belongs}
+use Rattle.tree_law.proofs.Words.{false, [], refl, Option, None, List, ◌∷◌, ◌≡◌, Some, IsSome, IsTrue, Item, Key, ContentOf, Page, Record, Base, content_at, is_in_range, level_in, high_in}
+use Rattle.tree_law.proofs.Words.{right_in, IsFitted, base_from, IsPage, IsAscending, belongs}
 use Rattle.tree_law.proofs.changes.Counting.{Has}
 
 -- the page that such a base spells

@@ -1,11 +1,8 @@
 -- How many items a page has, by the keys at which it has some.
-use Rattle.tree_law.proofs.Words.{false, ◌⊎◌, [], ap, refl, suc, None, List, inl, length, ◌++◌, ◌≤◌, inr, ◌∷◌, ◌≡◌, ◌∙◌, arith, ◌+◌, IsSome, if◌then◌else◌, is_eq}
-use Rattle.tree_law.proofs.Words.{key_cmp, content_at, Item, Key, ContentOf}
+use Rattle.tree_law.proofs.Words.{false, ◌⊎◌, [], ap, refl, suc, None, List, inl, length, ◌++◌, ◌≤◌, inr, ◌∷◌, ◌≡◌, ◌∙◌, arith, ◌+◌, IsSome, if◌then◌else◌, is_eq, key_cmp, content_at, Item}
+use Rattle.tree_law.proofs.Words.{Key, ContentOf, IsAscending, same, decided, found_first}
 use Rattle.std.specs.List.Sorted.{IsStrictlySortedBy}
-use Rattle.base_page.specs.Pages.{IsAscending}
-use Rattle.base_page.proofs.KeyLaws.{same}
-use Rattle.std.proofs.lemmas.Bool.{cases_Bool as decided}
-use Rattle.traces.proofs.FittedLaws.{ascends_after, found_first, lacks_first}
+use Rattle.traces.proofs.FittedLaws.{ascends_after, lacks_first}
 
 -- the items have the key
 abbrev pub Has : List Item → Key → Type 0

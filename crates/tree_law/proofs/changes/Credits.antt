@@ -1,20 +1,12 @@
 -- What the operations that are under way may pay still.
-use Rattle.tree_law.proofs.Words.{ap, refl, Option, None, ◌≢◌, ◌≤◌}
-use Rattle.tree_law.proofs.Words.{ℕ, ◌≡◌, ◌<◌, arith, Some, ◌+◌, IsSome, Command, Reply, Answer, StepOf, Record}
-use Rattle.tree_law.proofs.Words.{Knowledge, learn, after_reply, after_begin, put}
+use Rattle.tree_law.proofs.Words.{refl, Option, None, ◌≢◌, ◌≤◌, ℕ, ◌≡◌, ◌<◌, arith, Some, ◌+◌, IsSome, Command, Reply, Answer, StepOf, Record, Knowledge, learn, after_reply, after_begin, put}
+use Rattle.tree_law.proofs.Words.{total}
 use Rattle.traces.specs.discipline.Knowledge.{going_on}
-use Rattle.tree_law.specs.Changes.{credit, credit_of, total}
+use Rattle.tree_law.specs.Changes.{credit, credit_of}
 use Rattle.tree_law.proofs.shape.Puts.{put_other, put_same}
-use Rattle.tree_law.proofs.links.Exchanged.{exchanged_alike}
-use Rattle.tree_law.proofs.links.Learning.{learning, wins}
 use Rattle.tree_law.proofs.direct.Linking.{linked_kept}
-use Rattle.tree_law.proofs.changes.Totals.{none, one}
-
-command_kept : (k : Knowledge) (s : StepOf Record) (x : Answer Record) → (learn k s x).asked.command ≡ k.asked.command
-command_kept k s x = elim (learning k s x) as (λ s x k' v. k'.asked.command ≡ k.asked.command) [
-  | wins slot old new ↦ (exchanged_alike slot old new k).command
-  | v ↦ refl
-]
+use Rattle.tree_law.proofs.changes.Totals.{one}
+use Rattle.tree_law.proofs.trace.Names.{learn_command}
 
 pub credit_most : (command : Option Command) (linked : Option (Option ℕ)) → credit_of command linked ≤ 8
 credit_most None linked = omega arith
@@ -35,20 +27,20 @@ credit_less (Some command) None None after kept = credit_most (Some command) aft
 credit_less (Some command) None (Some over) after kept = let none : credit_of (Some command) after ≡ 0 = linked_pays_none (Some command) after (kept refl) in omega arith
 
 pub credit_kept : (k : Knowledge) (s : StepOf Record) (x : Answer Record) (reply : Option Reply) → credit (after_reply (learn k s x) reply).asked ≤ credit k.asked
-credit_kept k s x reply = rw (command_kept k s x) (credit_less k.asked.command reply k.asked.linked (learn k s x).asked.linked (linked_kept k s x))
+credit_kept k s x reply = rw (learn_command k s x) (credit_less k.asked.command reply k.asked.linked (learn k s x).asked.linked (linked_kept k s x))
 
 module _ (knows : ℕ → Knowledge) (a n : ℕ) (within : a < n) where
   abbrev credits : (ℕ → Knowledge) → ℕ → ℕ
   credits ks actor = credit (ks actor).asked
 
   others : (k : Knowledge) (actor : ℕ) → actor < n → actor ≢ a → credits (put knows a k) actor ≤ credits knows actor
-  others k actor lt ne = let same : credits (put knows a k) actor ≡ credits knows actor = ap (λ (k : Knowledge). credit k.asked) (put_other knows a k actor ne) in omega arith
+  others k actor lt ne = let same : credits (put knows a k) actor ≡ credits knows actor = rw (put_other knows a k actor ne) in omega arith
 
   -- one actor's operation goes on
   pub credits_move : (k : Knowledge) → total (credits (put knows a k)) n + credit (knows a).asked ≤ total (credits knows) n + credit k.asked
   credits_move k =
       let moved : total (credits (put knows a k)) n + credits knows a ≤ total (credits knows) n + credits (put knows a k) a = one (credits knows) (credits (put knows a k)) a n within (others k) in
-      let here : credits (put knows a k) a ≡ credit k.asked = ap (λ (k : Knowledge). credit k.asked) (put_same knows a k) in
+      let here : credits (put knows a k) a ≡ credit k.asked = rw (put_same knows a k) in
       omega arith
 
   pub step_credits : (s : StepOf Record) (x : Answer Record) (reply : Option Reply) → total (credits (put knows a (after_reply (learn (knows a) s x) reply))) n ≤ total (credits knows) n

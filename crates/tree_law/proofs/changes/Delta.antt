@@ -1,20 +1,14 @@
 -- What is in store after a record was linked over a page's chain, where one page at most goes on.
-use Rattle.tree_law.proofs.Words.{false, ◌⊎◌, [], ap, refl, Option, suc, List, true, inl, ◌≢◌, length, ◌≤◌, inr}
-use Rattle.tree_law.proofs.Words.{◌∷◌, sym, ℕ, ◌≡◌, ◌∙◌, ◌<◌, arith, Some, ◌+◌, ◌*◌, ◌-◌, Update, Item, next_row, Key}
-use Rattle.tree_law.proofs.Words.{Record, IsChainFrom, level_in, low_in, HasRead, FitsOver, Knowledge, Written}
-use Rattle.tree_law.proofs.Words.{Owners, Shared, IsTree, Placed, PageOwner, Stage, rank}
-use Rattle.tree_law.proofs.Words.{Fresh, Indexed, Held, Removed, Merged, Cleared, stage_removed, put, phase_of, free}
-use Rattle.tree_law.proofs.Words.{IsSome, is_eq, key_cmp, content_at, content_in, ContentOf, Value, Child, IsFitted, base_from, LinkMoves}
-use Rattle.tree_law.proofs.Words.{Put, Delete, Term, Hold, Remove, Merge, Unterm, RemoveOf, UntermOf}
-use Rattle.base_page.proofs.KeyLaws.{same}
+use Rattle.tree_law.proofs.Words.{false, ◌⊎◌, [], ap, refl, Option, suc, List, true, inl, ◌≢◌, length, ◌≤◌, inr, ◌∷◌, sym, ℕ, ◌≡◌, ◌∙◌, ◌<◌, arith, Some, ◌+◌, ◌*◌, ◌-◌, Update, Item, next_row}
+use Rattle.tree_law.proofs.Words.{Key, Record, IsChainFrom, level_in, low_in, HasRead, FitsOver, Knowledge, Written, Owners, Shared, IsTree, Placed, PageOwner, Stage, rank, Fresh, Indexed}
+use Rattle.tree_law.proofs.Words.{Held, Removed, Merged, Cleared, stage_removed, put, phase_of, free, IsSome, is_eq, key_cmp, content_at, content_in, ContentOf, Value, Child, IsFitted}
+use Rattle.tree_law.proofs.Words.{base_from, LinkMoves, Put, Delete, Term, Hold, Remove, Merge, Unterm, RemoveOf, UntermOf, same, IsItemsOf, IsWorth, from_low, is_alive, life, total}
 use Rattle.deltas.specs.declared.record.Put.{Put as PutOf}
 use Rattle.deltas.specs.declared.record.Delete.{Delete as DeleteOf}
 use Rattle.deltas.specs.declared.record.Term.{Term as TermOf}
 use Rattle.deltas.specs.declared.record.Hold.{Hold as HoldOf}
 use Rattle.deltas.specs.declared.record.Merge.{Merge as MergeOf}
 use Rattle.traces.specs.discipline.Discipline.{AreAlike}
-use Rattle.traces.specs.chain.Chains.{IsItemsOf}
-use Rattle.tree_law.specs.Changes.{IsWorth, from_low, is_alive, life, total}
 use Rattle.tree_law.proofs.shape.Puts.{by_equal, put_other, put_same}
 use Rattle.tree_law.proofs.links.Keeping.{OnSide}
 use Rattle.tree_law.proofs.links.Relinking.{Found, found, place_of, placed_row}
@@ -29,10 +23,9 @@ use Rattle.tree_law.proofs.changes.Totals.{none, one}
 
 -- a page that is on its side chain, and not removed, is alive
 alive_stage : (stage : Stage) (level : ℕ) (low : Key) → rank stage ≤ 3 → stage_removed stage ≡ false → is_alive (Placed stage level low) ≡ true
-alive_stage Fresh level low on not_removed = refl
-alive_stage Indexed level low on not_removed = refl
-alive_stage Held level low on not_removed = refl
-alive_stage stage level low on not_removed = absurd (cc)
+alive_stage Removed level low on not_removed = absurd (cc)
+alive_stage Merged level low on not_removed = absurd (cc)
+alive_stage stage level low on not_removed = refl
 
 -- each page but the free ones is one of the stated number
 pub within_limit : (n page : ℕ) (w w' : PageOwner) → (phase_of w ≡ free) ⊎ ((0 < page) × (page < n)) → w ≡ w' → (phase_of w' ≡ free → ⊥) → page < n
@@ -119,7 +112,7 @@ module _ {m : Shared} {log : List Update} {o : Owners} {knows : ℕ → Knowledg
   -- an update
   module _ (moves : o'.page ≡ o.page) where
     same_owner : (page : ℕ) → page ≢ p → o'.page page ≡ o.page page
-    same_owner page ne = ap (λ (f : ℕ → PageOwner). f page) moves
+    same_owner page ne = rw moves
 
     still_alive : is_alive (o'.page p) ≡ true → is_alive (o.page p) ≡ true
     still_alive is = alive
@@ -162,10 +155,10 @@ module _ {m : Shared} {log : List Update} {o : Owners} {knows : ℕ → Knowledg
   -- a page goes on by a delta on another page
   module _ (q : ℕ) (from to : PageOwner) (was : o.page q ≡ from) (moves : o'.page ≡ put o.page q to) where
     other_owner : (page : ℕ) → page ≢ q → o'.page page ≡ o.page page
-    other_owner page ne = ap (λ (f : ℕ → PageOwner). f page) moves ∙ put_other o.page q to page ne
+    other_owner page ne = rw moves (put_other o.page q to page ne)
 
     is_now : o'.page q ≡ to
-    is_now = ap (λ (f : ℕ → PageOwner). f q) moves ∙ put_same o.page q to
+    is_now = rw moves (put_same o.page q to)
 
     goes_on : q < n → total lives' n + life from (m.slots q) ≤ total lives n + life to (put m.slots p (Some y) q)
     goes_on lt = rw was at (rw is_now at (lives_move q lt other_owner))

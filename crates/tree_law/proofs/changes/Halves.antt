@@ -1,13 +1,9 @@
 -- What is in store after a split: each side has 7 items at least.
-use Rattle.tree_law.proofs.Words.{◌⊎◌, [], ap, refl, Option, suc, None, List, ◌≢◌, length, ◌≤◌}
-use Rattle.tree_law.proofs.Words.{◌∷◌, sym, ℕ, ◌≡◌, ◌∙◌, ◌<◌, arith, Some, ◌+◌, ◌*◌, ◌-◌, Update, Key}
-use Rattle.tree_law.proofs.Words.{Record, Split, SplitOf, IsChainFrom, level_in, low_in, content_in, content_at, is_below, covers}
-use Rattle.tree_law.proofs.Words.{HasRead, FitsOver, Knowledge, Written, Owners, Shared, IsTree, Placed, PageOwner, Keeps, Fresh}
-use Rattle.tree_law.proofs.Words.{put, phase_of, free, IsSome, IsFalse, IsTrue, IsFitted, base_from, MaySplit, Covers, ContentOf, Page, Makes}
-use Rattle.base_page.proofs.PageLaws.{belongs}
-use Rattle.traces.proofs.FittedLaws.{ruled}
+use Rattle.tree_law.proofs.Words.{◌⊎◌, [], ap, refl, Option, suc, None, List, ◌≢◌, length, ◌≤◌, ◌∷◌, sym, ℕ, ◌≡◌, ◌∙◌, ◌<◌, arith, Some, ◌+◌, ◌*◌, ◌-◌, Update, Key, Record, Split, SplitOf}
+use Rattle.tree_law.proofs.Words.{IsChainFrom, level_in, low_in, content_in, content_at, is_below, covers, HasRead, FitsOver, Knowledge, Written, Owners, Shared, IsTree, Placed, PageOwner}
+use Rattle.tree_law.proofs.Words.{Keeps, Fresh, put, phase_of, free, IsSome, IsFalse, IsTrue, IsFitted, base_from, MaySplit, Covers, ContentOf, Page, Makes, belongs, ruled, IsWorth, from_low}
+use Rattle.tree_law.proofs.Words.{is_alive, total}
 use Rattle.linearization.specs.Halves.{AreHalves}
-use Rattle.tree_law.specs.Changes.{IsWorth, from_low, is_alive, total}
 use Rattle.tree_law.proofs.shape.KeyOrder.{below_not, covers_from, covers_to, upto_trans}
 use Rattle.tree_law.proofs.shape.Puts.{put_other, put_same}
 use Rattle.tree_law.proofs.links.Relinking.{Found, placed_row}
@@ -73,7 +69,7 @@ module _ {m : Shared} {log : List Update} {o : Owners} {knows : ℕ → Knowledg
           let apart : p ≢ q = λ e. absurd (let twice : Placed is_placed.stage (level_in basis.chain) (low_in basis.chain) ≡ Keeps a = sym is_placed.placed ∙ ap o.page e ∙ own in cc) in
           let q_within : q < n = within_limit n q (o.page q) (Keeps a) (below q) own (λ e. cc) in
           let others : (page : ℕ) → page ≢ q → o'.page page ≡ o.page page = λ page ne. ap (λ (f : ℕ → PageOwner). f page) moves ∙ put_other o.page q to page ne in
-          let now_is : o'.page q ≡ to = ap (λ (f : ℕ → PageOwner). f q) moves ∙ put_same o.page q to in
+          let now_is : o'.page q ≡ to = rw moves (put_same o.page q to) in
           let m' : Shared = record m { slots = put m.slots p (Some y) } in
           let stands : IsChainFrom m.rows y (w ∷ basis.chain) = (placed_row g a y w (written ∙ ap Written h.is), f.stands) in
           let lower : worths' p ≤ (suc (length basis.chain) - 1) + 6 * (length over.made.items - 7) =

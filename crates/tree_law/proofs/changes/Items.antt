@@ -1,10 +1,7 @@
 -- How many items a chain decides, with one record more on it.
-use Rattle.tree_law.proofs.Words.{◌⊎◌, [], refl, None, List, true, inl, length, ◌≤◌, inr, ◌∷◌, ◌≡◌, ◌∙◌, ◌+◌, IsSome, IsTrue, IsFalse}
-use Rattle.tree_law.proofs.Words.{is_below, content_at, Item, Key, ContentOf, Record, Base, Split, SplitOf, Page, content_in, names}
-use Rattle.std.proofs.lemmas.Bool.{cases_Bool as decided}
-use Rattle.base_page.specs.Pages.{IsAscending}
+use Rattle.tree_law.proofs.Words.{◌⊎◌, [], refl, None, List, true, inl, length, ◌≤◌, inr, ◌∷◌, ◌≡◌, ◌∙◌, ◌+◌, IsSome, IsTrue, IsFalse, is_below, content_at, Item, Key, ContentOf, Record, Base}
+use Rattle.tree_law.proofs.Words.{Split, SplitOf, Page, content_in, names, decided, IsAscending, IsItemsOf}
 use Rattle.deltas.specs.Records.{content_said}
-use Rattle.traces.specs.chain.Chains.{IsItemsOf}
 use Rattle.tree_law.proofs.changes.Counting.{Has, fewer, fewer_two, fewer_than_both}
 
 module _ (chain : List Record) (items : List Item) (are : IsItemsOf chain items) where

@@ -1,14 +1,8 @@
 -- What an exchange that links a record over a page's chain makes of what is in store, by the record's kind.
-use Rattle.tree_law.proofs.Words.{◌⊎◌, [], ap, refl, Option, suc, None, List, true, inl, ◌≤◌, inr, ◌∷◌}
-use Rattle.tree_law.proofs.Words.{ℕ, ◌≡◌, ◌∙◌, ◌<◌, arith, Some, ◌+◌, IsSome, Update, set, unset, next_row, option_map}
-use Rattle.tree_law.proofs.Words.{Record, Base, Split, Put, Delete, Term, Hold, Remove, Merge, Unterm, record_link}
-use Rattle.tree_law.proofs.Words.{low_in, HasRead, FitsOn, IsFitted, Memory, Command, Whether, Exchange}
-use Rattle.tree_law.proofs.Words.{Knowledge, Written, learn, MayLink, MayUpdate, MayConsolidate, MaySplit}
-use Rattle.tree_law.proofs.Words.{MayAdd, update_record, base_from, AreFitted, Owners, Shared, IsTree, shared_part, slot_in}
-use Rattle.tree_law.proofs.Words.{LinkMoves, put, phase_of, free, IsUpdateLink, IsUseful}
-use Rattle.bw_model.specs.declared.step.Link.TheVariants as link
-use Rattle.linearization.specs.Halves.{IsHalved}
-use Rattle.tree_law.specs.Changes.{IsWorth, life, total}
+use Rattle.tree_law.proofs.Words.{◌⊎◌, [], ap, refl, Option, suc, None, List, true, inl, ◌≤◌, inr, ◌∷◌, ℕ, ◌≡◌, ◌∙◌, ◌<◌, arith, Some, ◌+◌, IsSome, Update, set, unset, next_row, option_map}
+use Rattle.tree_law.proofs.Words.{Record, Base, Split, Put, Delete, Term, Hold, Remove, Merge, Unterm, record_link, low_in, HasRead, FitsOn, IsFitted, Memory, Command, Whether, Exchange}
+use Rattle.tree_law.proofs.Words.{Knowledge, Written, learn, MayLink, MayUpdate, MayConsolidate, MaySplit, MayAdd, update_record, base_from, AreFitted, Owners, Shared, IsTree, shared_part}
+use Rattle.tree_law.proofs.Words.{slot_in, LinkMoves, put, phase_of, free, IsUpdateLink, IsUseful, IsHalved, IsWorth, life, total}
 use Rattle.tree_law.proofs.trace.Phasing.{link_front}
 use Rattle.tree_law.proofs.links.Relinking.{found, placed_row}
 use Rattle.tree_law.proofs.links.UpdateLinks.{IsLinked, learns_update}

@@ -1,14 +1,11 @@
 -- Changes listed in order, in a trace with one entry more.
-use Rattle.tree_law.proofs.Words.{[], ap, refl, cond, suc, List, inl, length, ◌++◌, ◌≤◌, inr}
-use Rattle.tree_law.proofs.Words.{◌∷◌, ℕ, ◌≡◌, ◌∙◌, ◌<◌, arith, take, drop, zero, ◌+◌, ◌*◌, ◌-◌, cases_lt, All-weaker}
-use Rattle.tree_law.proofs.Words.{All, count_by, slice_range, IsStrictlyIncreasing, Limits, Entry, memory_of, Happens-push_cases, take-push, take-push_whole}
+use Rattle.tree_law.proofs.Words.{[], ap, refl, cond, suc, List, inl, length, ◌++◌, ◌≤◌, inr, ◌∷◌, ℕ, ◌≡◌, ◌∙◌, ◌<◌, arith, take, drop, zero, ◌+◌, ◌*◌, ◌-◌, cases_lt, All, count_by}
+use Rattle.tree_law.proofs.Words.{slice_range, IsStrictlyIncreasing, Limits, Entry, memory_of, Happens-push_cases, take-push, take-push_whole, Happens-below, Happens, ChangesTree, takes_number}
 use Rattle.std.proofs.lemmas.List.{drop-append-le, get_or-take, length-take-le, take_all}
 use Rattle.std.proofs.Common.{length-drop}
 use Rattle.std.proofs.lemmas.List.Kept.{AllPairs-from_increasing}
-use Rattle.traces.proofs.TraceLaws.{Happens-below}
-use Rattle.traces.specs.trace.Trace.{Happens}
 use Rattle.linearization.specs.Changes.{HasFewChanges}
-use Rattle.linearization.specs.Progress.{AreAmong, ChangesTree, is_begin, takes_number}
+use Rattle.linearization.specs.Progress.{AreAmong, is_begin}
 use Rattle.tree_law.proofs.trace.Owned.{pushed_length}
 use Rattle.tree_law.specs.Changes.{most_in_store}
 use Rattle.tree_law.proofs.direct.Counting.{count_push, range_kept}
@@ -72,7 +69,7 @@ module _ (limits : Limits) (entries : List Entry) (last : Entry) (m : ℕ) where
 
   -- where the last entry is no change, all are of the shorter trace
   pub all_before : (ChangesTree (memory_of limits entries) last → ⊥) → (changes : List ℕ) → AreChanges longer changes → AreChanges entries changes
-  all_before never changes all = All-weaker (IsChange longer) (IsChange entries) (λ place h. (h.0, elim (Happens-push_cases h.1) [ inl before ↦ before | inr at ↦ absurd (never at.1) ])) changes all
+  all_before never changes all = λ k d lt. let h = all k d lt in (h.0, elim (Happens-push_cases h.1) [ inl before ↦ before | inr at ↦ absurd (never at.1) ])
 
   -- all but one at most are
   pub most_before : (changes : List ℕ) → IsStrictlyIncreasing changes → AreChanges longer changes
@@ -80,8 +77,8 @@ module _ (limits : Limits) (entries : List Entry) (last : Entry) (m : ℕ) where
   most_before changes up all =
       let long : length longer ≡ suc (length entries) = pushed_length entries last in
       let parts = cut (IsChange longer) changes (length entries) up
-      (All-weaker (IsChange longer) (λ place. (place < suc (length entries)) × IsChange longer place) (λ place h. ((let lt = Happens-below h.1 in omega (arith, lt, long)), h)) changes all) in
-      (parts.0, parts.1, All-weaker (λ place. (place < length entries) × IsChange longer place) (IsChange entries) (λ place h. (h.1.0, earlier place h.0 h.1.1)) parts.0 parts.2, parts.3)
+      (λ k d lt. let h = all k d lt in ((let lt = Happens-below h.1 in omega (arith, lt, long)), h)) in
+      (parts.0, parts.1, λ k d lt. let h = parts.2 k d lt in (h.1.0, earlier _ h.0 h.1.1), parts.3)
 
   -- none comes after the last entry
   pub none_later : length entries < m → (changes : List ℕ) → AreChanges longer changes → length changes ≡ 0
@@ -115,13 +112,11 @@ module _ (limits : Limits) (entries : List Entry) (last : Entry) (old : HasFewCh
   before : (m n : ℕ) (changes : List ℕ) → n < length entries → AreAmong limits trace m n ChangesTree changes → AreAmong limits entries m n ChangesTree changes
   before m n changes lt among = record {
     increasing = among.increasing;
-    each = All-weaker (λ place. (m ≤ place) × (place ≤ n) × Happens limits trace place ChangesTree) (λ place. (m ≤ place) × (place ≤ n) × Happens limits entries place ChangesTree)
-        (λ place h. (h.0, h.1, earlier limits entries last m place (let le : place ≤ n = h.1 in omega arith) h.2)) changes among.each;
+    each = λ k d in_list. let h = among.each k d in_list in (h.0, h.1, earlier limits entries last m _ (let le = h.1 in omega (arith, le, lt)) h.2);
   }
 
   all : (m n : ℕ) (changes : List ℕ) → AreAmong limits trace m n ChangesTree changes → AreChanges limits entries last m trace changes
-  all m n changes among = All-weaker (λ place. (m ≤ place) × (place ≤ n) × Happens limits trace place ChangesTree) (λ place. (m ≤ place) × Happens limits trace place ChangesTree)
-      (λ place h. (h.0, h.2)) changes among.each
+  all m n changes among = λ k d lt. let h = among.each k d lt in (h.0, h.2)
 
   few : (n : ℕ) (changes : List ℕ) → AreAmong limits trace 0 n ChangesTree changes → length changes ≤ 8 * count_by is_begin (take n trace)
   few n changes among = elim (cases_lt n (length entries)) [

@@ -1,7 +1,5 @@
 -- What lives are worth, of pages that go on.
-use Rattle.tree_law.proofs.Words.{[], refl, ◌≢◌, ◌∷◌, ℕ, ◌≡◌, Some, Option, ◌≤◌, arith, None}
-use Rattle.tree_law.proofs.Words.{Key, PageOwner, Placed, Cleared, Nobody, Keeps, Fresh, Indexed, Held, Removed, Merged}
-use Rattle.tree_law.specs.Changes.{from_low, life}
+use Rattle.tree_law.proofs.Words.{[], refl, ◌≢◌, ◌∷◌, ℕ, ◌≡◌, Some, Option, ◌≤◌, arith, None, Key, PageOwner, Placed, Cleared, Fresh, Indexed, Held, from_low, life}
 
 pub above_empty : (low : Key) (worth : ℕ) → low ≢ [] → from_low low worth ≡ worth
 above_empty [] worth ne = absurd (ne refl)
@@ -9,14 +7,8 @@ above_empty (byte ∷ bytes) worth ne = refl
 
 -- which row a slot holds makes no difference
 pub same_life : (w : PageOwner) (x y : ℕ) → life w (Some y) ≡ life w (Some x)
-same_life Nobody x y = refl
-same_life (Keeps actor) x y = refl
 same_life (Placed Fresh level low) x y = refl
-same_life (Placed Indexed level low) x y = refl
-same_life (Placed Held level low) x y = refl
-same_life (Placed Removed level low) x y = refl
-same_life (Placed Merged level low) x y = refl
-same_life (Cleared actor level low) x y = refl
+same_life owner x y = refl
 
 -- a page whose term is gone has one change left at most
 pub cleared_most : (actor level : ℕ) (low : Key) (slot : Option ℕ) → life (Cleared actor level low) slot ≤ 1

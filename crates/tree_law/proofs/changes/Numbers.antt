@@ -1,20 +1,13 @@
 -- Numbers that are taken and not in the tree: who has them, and what a step makes of them.
-use Rattle.tree_law.proofs.Words.{◌⊎◌, [], ap, refl, cond, Option, List, inl, ◌≢◌, length, ◌++◌, ◌≤◌, inr, suc, zero}
-use Rattle.tree_law.proofs.Words.{◌∷◌, ℕ, ◌≡◌, ◌∙◌, ◌<◌, arith, ◌+◌, true, cases_lt, All, All-weaker, count_by, eqb_tells, ◌==◌}
-use Rattle.tree_law.proofs.Words.{Limits, Command, Reply, Answer, Whether, StepOf, TakePid, TakeRow, Place, Exchange, Slot, Row, Epoch, Announce, PidBits}
-use Rattle.tree_law.proofs.Words.{RowBits, Enter, Leave, ReusePids, ReuseRows, Number, Content, Record, memory_of, knows, Knowledge, learn, after_reply, after_begin}
-use Rattle.tree_law.proofs.Words.{IsAnswer, May, Entry, Begin, Step}
-use Rattle.tree_law.proofs.Words.{after_exchange, after_emptying, OwnPage, Other, Empty, Ready, Gone, OwnRow, Written, put, shared_part, IsState, PageOwner, Keeps}
+use Rattle.tree_law.proofs.Words.{◌⊎◌, [], ap, refl, cond, Option, List, inl, ◌≢◌, length, ◌++◌, ◌≤◌, inr, suc, zero, ◌∷◌, ℕ, ◌≡◌, ◌∙◌, ◌<◌, arith, ◌+◌, true, cases_lt, All}
+use Rattle.tree_law.proofs.Words.{count_by, eqb_tells, ◌==◌, Limits, Command, Reply, Answer, Whether, StepOf, TakePid, TakeRow, Place, Exchange, Slot, Row, Epoch, Announce, PidBits, RowBits}
+use Rattle.tree_law.proofs.Words.{Enter, Leave, ReusePids, ReuseRows, Number, Content, Record, memory_of, knows, Knowledge, learn, after_reply, after_begin, IsAnswer, May, Entry, Begin, Step}
+use Rattle.tree_law.proofs.Words.{after_exchange, after_emptying, OwnPage, Other, Empty, Ready, Gone, OwnRow, Written, put, shared_part, IsState, PageOwner, Keeps, MayExchange, Foreign, Taken}
+use Rattle.tree_law.proofs.Words.{Retire, Happens, Happens-below, Happens-kept, ChangesTree, takes_number, total, Owner, Free, Spare, Linked, OwnFits, PageFits}
 use Rattle.bw_model.specs.declared.step.Link.TheVariants as link
-use Rattle.traces.specs.discipline.Discipline.{MayExchange}
-use Rattle.traces.specs.discipline.Knowledge.{Belongings, Foreign, Taken}
-use Rattle.bw_model.specs.declared.step.Step.TheVariants.{Retire}
-use Rattle.traces.specs.trace.Trace.{Happens}
-use Rattle.traces.proofs.TraceLaws.{Happens-below, Happens-kept, Happens-last}
+use Rattle.traces.proofs.TraceLaws.{Happens-last}
 use Rattle.std.proofs.lemmas.List.Elements.{All-push}
-use Rattle.linearization.specs.Progress.{ChangesTree, takes_number}
-use Rattle.tree_law.specs.Changes.{AreUsed, numbers_had, page_mark, pids_had, row_mark, rows_had, total}
-use Rattle.tree_law.specs.Owners.{Owner, Free, Spare, Linked, OwnFits, PageFits}
+use Rattle.tree_law.specs.Changes.{AreUsed, numbers_had, page_mark, pids_had, row_mark, rows_had}
 use Rattle.tree_law.proofs.shape.Puts.{by_equal, put_other, put_same}
 use Rattle.tree_law.proofs.trace.Beginning.{knows-push}
 use Rattle.tree_law.proofs.trace.Owned.{pushed_length}
@@ -188,9 +181,7 @@ module _ (limits : Limits) where
 
     others : (s : StepOf Record) (x : Answer Record) → IsOther s → UsesFew s x
     others s x other =
-        let same : had (after_reply (learn k s x) r) ≡ had k = ap
-        (λ (own : Belongings). total (λ row. row_mark (own.rows row)) limits.rows + total (λ page. page_mark (own.pages page)) limits.pids)
-        (same_own s x other) in
+        let same : had (after_reply (learn k s x) r) ≡ had k = rw (same_own s x other) in
         let none = took_none s x other in
         inl (omega (arith, same, none))
 
@@ -313,7 +304,7 @@ module _ (limits : Limits) (entries : List Entry) (last : Entry) (used : AreUsed
   longer = entries ++ last ∷ []
 
   kept : All (λ place. Happens limits longer place ChangesTree) used.changes
-  kept = All-weaker (λ place. Happens limits entries place ChangesTree) (λ place. Happens limits longer place ChangesTree) (λ place h. Happens-kept (last ∷ []) h) used.changes used.each
+  kept = λ k d lt. Happens-kept (last ∷ []) (used.each k d lt)
 
   counted : count_by takes_number longer ≡ count_by takes_number entries + cond (takes_number last) 1 0
   counted = count_push takes_number entries last
@@ -331,7 +322,7 @@ module _ (limits : Limits) (entries : List Entry) (last : Entry) (used : AreUsed
     changes = used.changes ++ length entries ∷ [];
     increasing =
         increasing_push used.changes (length entries) used.increasing
-        (All-weaker (λ place. Happens limits entries place ChangesTree) (λ place. place < length entries) (λ place h. Happens-below h) used.changes used.each);
+        (λ k d lt. Happens-below (used.each k d lt));
     each = All-push (λ place. Happens limits longer place ChangesTree) used.changes (length entries) kept (Happens-last limits entries last ChangesTree changes);
     used =
         let old = used.used in
@@ -347,9 +338,8 @@ module _ (limits : Limits) (entries : List Entry) (a : ℕ) (within : a < limits
   had_moves : (k : Knowledge) → numbers_had limits (knows entries) + had limits k ≤ numbers_had limits (put (knows entries) a k) + had limits (knows entries a)
   had_moves k =
       let h = one (all_had (put (knows entries) a k)) (all_had (knows entries)) a limits.actors within
-      (λ actor lt ne. let same : all_had (put (knows entries) a k) actor ≡ all_had (knows entries) actor = ap
-      (λ (k : Knowledge). rows_had limits k + pids_had limits k) (put_other (knows entries) a k actor ne) in omega arith) in
-      let here : all_had (put (knows entries) a k) a ≡ had limits k = ap (λ (k : Knowledge). rows_had limits k + pids_had limits k) (put_same (knows entries) a k) in
+      (λ actor lt ne. let same : all_had (put (knows entries) a k) actor ≡ all_had (knows entries) actor = rw (put_other (knows entries) a k actor ne) in omega arith) in
+      let here : all_had (put (knows entries) a k) a ≡ had limits k = rw (put_same (knows entries) a k) in
       omega (arith, h, here)
 
   pub used_step : (s : StepOf Record) (x : Answer Record) (r : Option Reply) (state : IsState limits entries) → AreUsed limits entries

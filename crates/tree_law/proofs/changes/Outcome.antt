@@ -1,14 +1,9 @@
 -- What each step makes of what is in store.
-use Rattle.tree_law.proofs.Words.{false, ◌⊎◌, [], ap, refl, Option, suc, None, List, true, inl, ◌≢◌, ◌≤◌, inr}
-use Rattle.tree_law.proofs.Words.{subst, sym, ℕ, ◌≡◌, zero, ◌∙◌, ◌<◌, arith, Some, ◌+◌, Update, Reply, same_Some, option_map}
-use Rattle.tree_law.proofs.Words.{Record, Memory, Answer, Whether, StepOf, Exchange, TakePid, ReusePids, Link, Step, is_among}
-use Rattle.tree_law.proofs.Words.{Knowledge, learn, May, AreFitted, Owners, Linked, Shared, IsTree, shared_part, slot_in, row_in}
-use Rattle.tree_law.proofs.Words.{Placed, PageOwner, Fresh, Keeps, Cleared, Phased, put, phase_of}
-use Rattle.tree_law.proofs.Words.{free, eqb, IsAnswer, memory_after, IsUseful, IsInTree, IsReadyPage, link_of, link_without}
+use Rattle.tree_law.proofs.Words.{false, ◌⊎◌, [], ap, refl, Option, suc, None, List, true, inl, ◌≢◌, ◌≤◌, inr, subst, sym, ℕ, ◌≡◌, zero, ◌∙◌, ◌<◌, arith, Some, ◌+◌, Update, Reply, same_Some}
+use Rattle.tree_law.proofs.Words.{option_map, Record, Memory, Answer, Whether, StepOf, Exchange, TakePid, ReusePids, Link, Step, is_among, Knowledge, learn, May, AreFitted, Owners, Linked}
+use Rattle.tree_law.proofs.Words.{Shared, IsTree, shared_part, slot_in, row_in, Placed, PageOwner, Fresh, Keeps, Cleared, Phased, put, phase_of, free, eqb, IsAnswer, memory_after, IsUseful}
+use Rattle.tree_law.proofs.Words.{IsInTree, IsReadyPage, link_of, link_without, IsHalved, ChangesTree, IsWorth, is_alive, life}
 use Rattle.bw_model.specs.declared.step.Link.TheVariants as link
-use Rattle.linearization.specs.Halves.{IsHalved}
-use Rattle.linearization.specs.Progress.{ChangesTree}
-use Rattle.tree_law.specs.Changes.{IsWorth, is_alive, life}
 use Rattle.tree_law.proofs.shape.Puts.{by_equal, decided, eqb_true, put_other, put_same}
 use Rattle.tree_law.proofs.shape.KeyOrder.{not_self}
 use Rattle.tree_law.proofs.trace.Phasing.{link_empty, link_ready}
@@ -58,7 +53,7 @@ module _ (m : Memory) {log : List Update} {o : Owners} {knows : ℕ → Knowledg
 
   -- whose the pages are is as it was
   owned : o'.page ≡ o.page → (page : ℕ) → o'.page page ≡ o.page page
-  owned moves page = ap (λ (f : ℕ → PageOwner). f page) moves
+  owned moves page = rw moves
 
   -- the slot of an own page is set, or emptied
   own_slot : (p : ℕ) (slot : Option ℕ) (page : ℕ) → o'.page ≡ o.page → o.page (suc p) ≡ Keeps a → Rests (record (shared_part m) { slots = put (slot_in m.slots) (suc p) slot }) page
@@ -113,7 +108,7 @@ module _ (m : Memory) {log : List Update} {o : Owners} {knows : ℕ → Knowledg
       (λ ne t. inl (ap (λ (f : ℕ → PageOwner). f page) ph ∙ put_other o.page q (Keeps a) page ne, refl))) (λ c. let e = c.5.0.1 in cc)
     where
       owned_at : (page q : ℕ) (w : PageOwner) → o'.page ≡ put o.page q w → page ≡ q → o'.page page ≡ w
-      owned_at page q w moves e = ap (λ (f : ℕ → PageOwner). f page) moves ∙ ap (put o.page q w) e ∙ put_same o.page q w
+      owned_at page q w moves e = rw moves (ap (put o.page q w) e ∙ put_same o.page q w)
   outcome (ReusePids word bits) x r may useful halved is ph same each' = quiet _ _ _ r same each' (λ page. elim (decided (is_among word bits page)) [
     | inl among ↦ let now = ((ph page).0 among).4 in inr (ap is_alive now, ap (λ w. life w (slot_in m.slots page)) now)
     | inr other ↦ inl ((ph page).1 other, refl)

@@ -1,16 +1,12 @@
 -- What is in store pays for the changes, along a trace.
-use Rattle.tree_law.proofs.Words.{◌⊎◌, [], cond, refl, take, All-weaker, Option, suc, None, List, inl, length, ◌++◌, ◌≤◌, inr}
-use Rattle.tree_law.proofs.Words.{◌∷◌, ℕ, ◌≡◌, zero, ◌<◌, arith, Some, drop, cases_lt, ◌+◌, ◌*◌, append_assoc, append-nil, IsSome}
-use Rattle.tree_law.proofs.Words.{All, count_by, IsStrictlyIncreasing, Limits, Entry, Begin, Step, Command, Reply, Answer, StepOf, Record, Base}
-use Rattle.tree_law.proofs.Words.{empty_leaf, memory_of, memory_after, memory_of-push, command_of, knows, Knowledge, after_begin, after_reply, learn, IsAllowed, IsAnswer, IsUseful, IsDisciplinedFrom}
-use Rattle.tree_law.proofs.Words.{shared_part, put, IsState, Opens}
+use Rattle.tree_law.proofs.Words.{◌⊎◌, [], cond, refl, take, Option, suc, None, List, inl, length, ◌++◌, ◌≤◌, inr, ◌∷◌, ℕ, ◌≡◌, zero, ◌<◌, arith, Some, drop, cases_lt, ◌+◌, ◌*◌}
+use Rattle.tree_law.proofs.Words.{append_assoc, append-nil, IsSome, All, count_by, IsStrictlyIncreasing, Limits, Entry, Begin, Step, Command, Reply, Answer, StepOf, Record, Base, empty_leaf}
+use Rattle.tree_law.proofs.Words.{memory_of, memory_after, memory_of-push, command_of, knows, Knowledge, after_begin, after_reply, learn, IsAllowed, IsAnswer, IsUseful, IsDisciplinedFrom}
+use Rattle.tree_law.proofs.Words.{shared_part, put, IsState, Opens, Happens, Happens-below, IsHalved, ChangesTree, takes_number, IsWorth, life, total}
 use Rattle.std.specs.List.Sorted.{IsStrictlySortedBy}
-use Rattle.traces.specs.trace.Trace.{Happens}
-use Rattle.traces.proofs.TraceLaws.{Happens-below}
 use Rattle.linearization.specs.Changes.{HasFewChanges}
-use Rattle.linearization.specs.Halves.{IsHalved}
-use Rattle.linearization.specs.Progress.{ChangesTree, is_begin, takes_number}
-use Rattle.tree_law.specs.Changes.{AreUsed, AreUsefulFrom, IsPaidState, IsWorth, RunsHaveFewChanges, StepsPay, credit, life, most_in_store, store, total}
+use Rattle.linearization.specs.Progress.{is_begin}
+use Rattle.tree_law.specs.Changes.{AreUsed, AreUsefulFrom, IsPaidState, RunsHaveFewChanges, StepsPay, credit, most_in_store, store}
 use Rattle.tree_law.specs.TraceLaws.{BeginsKeep}
 use Rattle.tree_law.proofs.shape.Puts.{by_equal}
 use Rattle.tree_law.proofs.trace.Beginning as beginning
@@ -152,8 +148,7 @@ module _ (limits : Limits) (entries : List Entry) (a : ℕ) (s : StepOf Record) 
     few = few_push limits entries last paid.few (λ m changes le up all. let bound = paid_longer m changes le up all in omega (arith, bound))
         (taken_most limits entries last on.after used
         (let bound = paid_longer 0 used.changes (omega arith) used.increasing
-        (All-weaker (λ place. Happens limits longer place ChangesTree) (λ place. (0 ≤ place) × Happens limits longer place ChangesTree) (λ place h. (omega arith, h)) used.changes used.each)
-        in
+        (λ k d lt. (omega arith, used.each k d lt)) in
         omega (arith, bound)));
     taken = used;
     paid = paid_push limits entries last (store limits longer on.after worths') 0 (store_bound limits longer on.after worths' each')
@@ -203,8 +198,7 @@ module _ (limits : Limits) (entries : List Entry) (a : ℕ) (c : Command) (paid 
     each = begun_each;
     few = few_push limits entries begin paid.few (λ m changes le up all. let bound = paid_begun m changes le up all in omega (arith, bound))
         (taken_most limits entries begin begun_state used_begun
-        (let bound = paid_begun 0 used_begun.changes (omega arith) used_begun.increasing (All-weaker (λ place. Happens limits begun_trace place ChangesTree)
-        (λ place. (0 ≤ place) × Happens limits begun_trace place ChangesTree) (λ place h. (omega arith, h)) used_begun.changes used_begun.each) in
+        (let bound = paid_begun 0 used_begun.changes (omega arith) used_begun.increasing (λ k d lt. (omega arith, used_begun.each k d lt)) in
         omega (arith, bound)));
     taken = used_begun;
     paid = paid_push limits entries begin (store limits begun_trace begun_state paid.worths) 8 (store_bound limits begun_trace begun_state paid.worths begun_each)

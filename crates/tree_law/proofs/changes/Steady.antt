@@ -1,7 +1,6 @@
 -- What is in store after a step that links nothing over a page's chain.
-use Rattle.tree_law.proofs.Words.{false, ◌⊎◌, [], ap, refl, Option, suc, List, inl, ◌≢◌, ◌≤◌, inr, ◌∷◌, sym, ℕ, ◌≡◌, ◌∙◌, ◌<◌, arith, Some, ◌+◌, ◌*◌, ◌-◌, Item, Key, Child}
-use Rattle.tree_law.proofs.Words.{root_over, Owners, Linked, IsClosed, Shared, Placed, PageOwner, Keeps, Fresh, Indexed, Cleared, put}
-use Rattle.tree_law.specs.Changes.{IsWorth, is_alive, life, total}
+use Rattle.tree_law.proofs.Words.{false, ◌⊎◌, [], ap, refl, Option, suc, List, inl, ◌≢◌, ◌≤◌, inr, ◌∷◌, sym, ℕ, ◌≡◌, ◌∙◌, ◌<◌, arith, Some, ◌+◌, ◌*◌, ◌-◌, Item, Key, Child, root_over, Owners}
+use Rattle.tree_law.proofs.Words.{Linked, IsClosed, Shared, Placed, PageOwner, Keeps, Fresh, Indexed, Cleared, put, IsWorth, is_alive, life, total}
 use Rattle.tree_law.proofs.shape.Puts.{by_equal, put_other, put_same}
 use Rattle.tree_law.proofs.changes.Alive.{dead_worth, worth_kept, worth_most}
 use Rattle.tree_law.proofs.changes.Counting.{fewer}

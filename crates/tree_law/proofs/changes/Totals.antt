@@ -1,8 +1,7 @@
 -- Sums of numbers of which none grows, but at one place, or at two.
-use Rattle.tree_law.proofs.Words.{suc, ◌≢◌, ◌≤◌, sym, ℕ, ◌≡◌, zero, ◌∙◌, ◌<◌, arith, ◌+◌, ◌*◌}
+use Rattle.tree_law.proofs.Words.{suc, ◌≢◌, ◌≤◌, sym, ℕ, ◌≡◌, zero, ◌∙◌, ◌<◌, arith, ◌+◌, ◌*◌, total}
 use Rattle.std.proofs.Math.Nat.{mul-suc}
 use Rattle.tree_law.proofs.shape.Puts.{by_equal}
-use Rattle.tree_law.specs.Changes.{total}
 
 -- numbers that are no greater have no greater sum
 pub none : (f g : ℕ → ℕ) (n : ℕ) → ((i : ℕ) → i < n → g i ≤ f i) → total g n ≤ total f n

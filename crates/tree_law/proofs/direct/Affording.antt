@@ -1,24 +1,17 @@
 -- A begin keeps a trace direct, and so does a step that its operation can afford.
-use Rattle.tree_law.proofs.Words.{false, ap, refl, Option, List, true, inl, ◌≢◌, length, ◌++◌, ◌≤◌, inr, ◌∷◌, subst, sym, ℕ, ◌≡◌, ◌∙◌, ◌<◌, ◌*◌, arith, Some, ◌==◌, eqb_tells, same_Some}
-use Rattle.tree_law.proofs.Words.{IsSome, Command, Reply, Limits, Answer, Whether, Content, Link, StepOf, Row, Exchange, replaced_at, Record, May, after_begin, knows, Knowledge, after_reply, Ready}
-use Rattle.tree_law.proofs.Words.{learn, recall, Recalled, blank, recalls, IsAnswer, memory_of, IsUseful, IsOfUse, IsReading, IsInPhase, cleared, Slot, Number}
-use Rattle.tree_law.proofs.Words.{None, zero, suc, slice_get, Placed, Indexed, phase_of, slot_in, row_in, Entry, Begin, Step, is_step_of, Links, Operation}
-use Rattle.tree_law.proofs.Words.{IsUpdateLink, Accounts}
-use Rattle.tree_law.proofs.Words.{IsLast, Affords, IsDirectState, Recollects, Walks, StaysDirect, IsState, Opens, []}
-use Rattle.traces.specs.discipline.Recalled.{IsStepSpent, cause_worth}
+use Rattle.tree_law.proofs.Words.{false, ap, refl, Option, List, true, inl, ◌≢◌, length, ◌++◌, ◌≤◌, inr, ◌∷◌, subst, sym, ℕ, ◌≡◌, ◌∙◌, ◌<◌, ◌*◌, arith, Some, ◌==◌, eqb_tells, same_Some, IsSome}
+use Rattle.tree_law.proofs.Words.{Command, Reply, Limits, Answer, Whether, Content, Link, StepOf, Row, Exchange, replaced_at, Record, May, after_begin, knows, Knowledge, after_reply, Ready}
+use Rattle.tree_law.proofs.Words.{learn, recall, Recalled, blank, recalls, IsAnswer, memory_of, IsUseful, IsOfUse, IsReading, IsInPhase, cleared, Slot, Number, None, zero, suc, slice_get}
+use Rattle.tree_law.proofs.Words.{Placed, Indexed, phase_of, slot_in, row_in, Entry, Begin, Step, is_step_of, Links, Operation, IsUpdateLink, Accounts, IsLast, Affords, IsDirectState}
+use Rattle.tree_law.proofs.Words.{Recollects, Walks, StaysDirect, IsState, Opens, [], cause_worth, MayExchange, OwnPage, link_of, owned, Reached, Key, PageOwner, Nobody, Keeps, Cleared, Fresh}
+use Rattle.tree_law.proofs.Words.{Held, Removed, Merged}
+use Rattle.traces.specs.discipline.Recalled.{IsStepSpent}
 use Rattle.bw_model.specs.Replies.{is_writer}
 use Rattle.tree_law.proofs.answering.Fitted.{fits}
 use Rattle.std.specs.Prelude.{◌⊎◌}
 use Rattle.bw_model.specs.declared.step.Link.TheVariants as link
-use Rattle.traces.specs.discipline.Discipline.{MayExchange}
-use Rattle.traces.specs.discipline.Knowledge.{OwnPage}
 use Rattle.linearization.specs.Direct.{IsOfTree}
-use Rattle.linearization.specs.Links.{link_of}
 use Rattle.linearization.specs.Phases as phase
-use Rattle.linearization.specs.Phases.{owned}
-use Rattle.tree_law.specs.Owners.{Reached}
-use Rattle.tree_law.specs.Keys.{Key}
-use Rattle.tree_law.specs.Phase.{PageOwner, Nobody, Keeps, Cleared, Fresh, Held, Removed, Merged}
 use Rattle.tree_law.proofs.links.Keeping.{met_placed, slot_of}
 use Rattle.tree_law.proofs.trace.Owned.{same_start}
 use Rattle.tree_law.proofs.shape.Puts.{at_place, by_equal}
@@ -163,7 +156,7 @@ module _ (limits : Limits) (entries : List Entry) (a : ℕ) (s : StepOf Record) 
 
   -- the entry is the actor's
   of_actor : (op : Operation) → op.actor ≡ a → next ≡ Step op.actor s x reply
-  of_actor op same = ap (λ b. Step b s x reply) (sym same)
+  of_actor op same = rw (← same)
 
   -- what is known of the entry
   abbrev IsKnown : Entry → Type 0
@@ -237,7 +230,7 @@ module _ (limits : Limits) (entries : List Entry) (a : ℕ) (s : StepOf Record) 
   recollects_stepped op latest = elim (last_cases entries next op latest) [
     | inl before ↦ rw (recalls-push entries next) (at_place (Recollects limits grown op) a (recall (recalls entries a) s x) (recalls entries) op.actor
         (λ same. recollects_own limits entries next op s x reply before (of_actor op same) (recalls entries a)
-        (subst (λ b. Recollects limits entries op (recalls entries b)) same (kept.recollects op before)))
+        (rw (← same) (kept.recollects op before)))
         (λ ne. recollects_other limits entries next op (recalls entries op.actor) (λ step answer r is. ne (let e : op.actor ≡ a = cc in e)) (kept.recollects op before)))
     | inr at ↦ let e = at.1 in absurd (cc)
   ]
@@ -249,7 +242,7 @@ module _ (limits : Limits) (entries : List Entry) (a : ℕ) (s : StepOf Record) 
         | inl before ↦
             rw (recalls-push entries next) (rw (knows-push entries next) (by_equal op.actor a
             (λ same t. rw t (walks_own limits entries next op s x reply before (of_actor op same) (knows entries a) (recalls entries a) (memory_of limits entries) is_answer
-            (subst (λ b. (recalls entries b).walk.rooted ≡ true → Walks limits entries op (knows entries b).read.seen (recalls entries b).walk) same (kept.walks op before))))
+            (rw (← same) (kept.walks op before))))
             (λ ne t. rw t λ rooted. walks_kept limits entries next op (knows entries op.actor).read.seen (recalls entries op.actor).walk
             (λ step answer r is. absurd (ne (let e : op.actor ≡ a = cc in e))) (kept.walks op before rooted))))
         | inr at ↦ let e = at.1 in absurd (cc)
@@ -303,8 +296,8 @@ module _ (limits : Limits) (entries : List Entry) (a : ℕ) (s : StepOf Record) 
           (λ slot old new is_step is_won. (changes op.actor slot old new reply (λ i. Step (same' same i) (is_step i) (is_won i) reply)).0)
           (λ page head base e f. kept.foreign a page head base e (rw same at f))
           read_again
-          (subst (λ b. Recollects limits entries op (recalls entries b)) same (kept.recollects op latest))
-          (subst (λ b. (recalls entries b).walk.rooted ≡ true → Walks limits entries op (knows entries b).read.seen (recalls entries b).walk) same (kept.walks op latest))
+          (rw (← same) (kept.recollects op latest))
+          (rw (← same) (kept.walks op latest))
           h.0)
           h.1
           few

@@ -73,8 +73,7 @@ module _ (limits : Limits) (entries : List Entry) (last : Entry) (op : Operation
         new = new;
         reply = at.1.0;
         is = at.1.1;
-        link = ap (λ (m : Memory). link_of m slot old new)
-            (sym (memory_last entries last limits) ∙ ap (memory_at limits longer) (sym at.0)) ∙ is;
+        link = rw (sym (memory_last entries last limits) ∙ ap (memory_at limits longer) (sym at.0)) is;
       },
       at.2,
     )

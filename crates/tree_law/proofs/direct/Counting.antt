@@ -1,10 +1,9 @@
 -- The causes of an operation pay for one step more: by those that were left, or by being one more cause.
 use Rattle.tree_law.proofs.Words.{false, [], ap, cond, suc, List, true, inl, length, ◌++◌, ◌≤◌, inr, ◌∷◌, sym, ℕ, ◌≡◌, Bool, ◌∙◌, ◌<◌, arith, take, ◌+◌, drop, ◌*◌, ◌-◌, cases_lt, All-weaker}
-use Rattle.tree_law.proofs.Words.{fold-append, All, count_by, slice_range, Limits, Entry, is_step_of, IsCause, IsOperation, Operation, Affords}
-use Rattle.std.proofs.Common.{length-drop, refl}
+use Rattle.tree_law.proofs.Words.{fold-append, All, count_by, slice_range, Limits, Entry, is_step_of, IsCause, IsOperation, Operation, Affords, refl, cause_worth}
+use Rattle.std.proofs.Common.{length-drop}
 use Rattle.tree_law.specs.Direct.{AffordsFrom}
 use Rattle.std.proofs.Math.Nat.{mul-one, mul-suc}
-use Rattle.traces.specs.discipline.Recalled.{cause_worth}
 use Rattle.std.proofs.lemmas.List.{drop-append-le, drop_all, drop_at, take-append-le}
 use Rattle.std.proofs.lemmas.List.Elements.{All-head, All-push}
 use Rattle.std.proofs.lemmas.Option.{slice_get_within}
@@ -58,7 +57,7 @@ module _ (limits : Limits) (entries : List Entry) (last : Entry) (op : Operation
       let more : length (causes ++ length entries ∷ []) ≡ suc (length causes) = pushed_length causes (length entries) in
       let place : length (causes ++ length entries ∷ []) + few ≡ suc (length causes + few) = omega (arith, more) in
       let grown : cause_worth limits * (length (causes ++ length entries ∷ []) + few) ≡ cause_worth limits * (length causes + few) + cause_worth limits
-      = ap (λ k. cause_worth limits * k) place ∙ mul-suc (cause_worth limits) (length causes + few) in
+      = rw place (mul-suc (cause_worth limits) (length causes + few)) in
       omega arith
 
   causes_kept_from : (m : ℕ) (causes : List ℕ) → All (λ cause. (m ≤ cause) × (cause < length entries) × IsCause limits entries op cause) causes
@@ -140,7 +139,7 @@ module _ (limits : Limits) (entries : List Entry) (last : Entry) (op : Operation
   }
     where
       none : left + cond (is_step_of op.actor last) 1 0 ≤ left
-      none = let free : cond {A = ℕ} (is_step_of op.actor last) 1 0 ≡ 0 = ap (λ t. cond {A = ℕ} t 1 0) other in omega arith
+      none = let free : cond {A = ℕ} (is_step_of op.actor last) 1 0 ≡ 0 = rw other in omega arith
 
   -- what was left pays for one step more
   pub affords_less : (left rest : ℕ) → IsOperation entries op → Affords limits entries op left → rest < left → Affords limits longer op rest

@@ -1,15 +1,13 @@
 -- A direct trace stays direct with one entry more, where its operation can afford it.
-use Rattle.tree_law.proofs.Words.{[], ap, Option, suc, None, List, true, inl, length, ◌++◌, ◌≤◌, inr, ◌∷◌, sym, ℕ, ◌≡◌, ◌∙◌, ◌<◌, arith, Some, take, ◌+◌, drop, ◌*◌, ◌-◌, All-weaker, same_Some}
-use Rattle.tree_law.proofs.Words.{All, count_by, IsStrictlyIncreasing, IsSome, slice_range, Reply, Limits, Answer, Whether, Link, StepOf, Exchange, Record, IsChainOf, knows, memory_at, memory_of}
-use Rattle.tree_law.proofs.Words.{IsUseful, IsReading, IsInPhase, cleared, Slot, Number, false, Entry, Step, is_step_of, Links, IsCause, IsDirect, link_of}
-use Rattle.tree_law.proofs.Words.{IsOperation, Operation, IsOwnStep, TakesOwnStep, IsUpdateLink, IsLast, Affords, IsDirectState}
+use Rattle.tree_law.proofs.Words.{[], ap, Option, suc, None, List, true, inl, length, ◌++◌, ◌≤◌, inr, ◌∷◌, sym, ℕ, ◌≡◌, ◌∙◌, ◌<◌, arith, Some, ◌+◌, drop, ◌*◌, All-weaker, same_Some, All}
+use Rattle.tree_law.proofs.Words.{count_by, IsStrictlyIncreasing, IsSome, slice_range, Reply, Limits, Answer, Whether, Link, StepOf, Exchange, Record, IsChainOf, knows, memory_at, memory_of}
+use Rattle.tree_law.proofs.Words.{IsUseful, IsReading, IsInPhase, cleared, Slot, Number, false, Entry, Step, is_step_of, Links, IsCause, IsDirect, link_of, IsOperation, Operation, IsOwnStep}
+use Rattle.tree_law.proofs.Words.{TakesOwnStep, IsUpdateLink, IsLast, Affords, IsDirectState, cause_worth, owned}
 use Rattle.std.proofs.lemmas.List.{take_rest}
 use Rattle.tree_law.specs.Direct.{AffordsFrom}
-use Rattle.traces.specs.discipline.Recalled.{cause_worth}
 use Rattle.bw_model.specs.Replies.{is_writer}
 use Rattle.bw_model.specs.declared.step.Link.TheVariants as link
 use Rattle.linearization.specs.Direct.{IsOfTree}
-use Rattle.linearization.specs.Phases.{owned}
 use Rattle.std.specs.Prelude.{◌⊎◌}
 use Rattle.linearization.proofs.PhaseLaws.{IsInPhase-kept}
 use Rattle.tree_law.proofs.trace.Owned.{pushed_length}
@@ -31,7 +29,7 @@ few_last limits trace op n rest whole h = (
   All-weaker (λ cause. (cause < length trace) × IsCause limits trace op cause) (λ cause. (cause ≤ n) × IsCause limits trace op cause)
       (λ cause g. let below : cause < length trace = g.0 in (omega arith, g.1)) h.causes h.each,
   (
-      let same : slice_range trace op.start (suc n) ≡ drop op.start trace = ap (λ end. take (end - op.start) (drop op.start trace)) whole ∙ take_rest trace op.start in
+      let same : slice_range trace op.start (suc n) ≡ drop op.start trace = rw whole (take_rest trace op.start) in
       let counted : count_by (is_step_of op.actor) (slice_range trace op.start (suc n)) ≡ count_by (is_step_of op.actor) (drop op.start trace) = ap (count_by (is_step_of op.actor)) same in
       let paid : count_by (is_step_of op.actor) (drop op.start trace) + rest ≤ cause_worth limits * (length h.causes + 1) = h.paid in
       omega arith
@@ -51,7 +49,7 @@ since_last limits trace op m n rest whole h = (
       (λ cause. (m ≤ cause) × (cause ≤ n) × IsCause limits trace op cause) (λ cause g. let below : cause < length trace = g.1 in (g.0, omega arith, g.2))
       h.causes h.each,
   (
-      let same : slice_range trace m (suc n) ≡ drop m trace = ap (λ end. take (end - m) (drop m trace)) whole ∙ take_rest trace m in
+      let same : slice_range trace m (suc n) ≡ drop m trace = rw whole (take_rest trace m) in
       let counted : count_by (is_step_of op.actor) (slice_range trace m (suc n)) ≡ count_by (is_step_of op.actor) (drop m trace) = ap (count_by (is_step_of op.actor)) same in
       let paid : count_by (is_step_of op.actor) (drop m trace) + rest ≤ cause_worth limits * (length h.causes + 10) = h.paid in
       omega arith

@@ -1,6 +1,6 @@
 -- What an exchange that won has linked, by what its actor knew: an update, once in an operation; a base over a chain that was read.
-use Rattle.tree_law.proofs.Words.{◌⊎◌, [], ap, refl, Option, suc, None, List, true, inl, ◌≢◌, length, inr, ◌∷◌, subst, sym, ℕ, ◌≡◌, zero, ◌∙◌, ◌<◌, arith, Some, same_Some, option_map, IsSome}
-use Rattle.tree_law.proofs.Words.{Limits, Answer, Whether, Link, StepOf, Exchange, Page, record_link, Memory, Record, Remove, Base, Hold, Split, Put, Delete, Merge, Term, Unterm, IsChainFrom-unique}
+use Rattle.tree_law.proofs.Words.{◌⊎◌, [], ap, refl, Option, suc, None, List, true, inl, ◌≢◌, length, inr, ◌∷◌, sym, ℕ, ◌≡◌, zero, ◌∙◌, ◌<◌, arith, Some, same_Some, option_map, IsSome}
+use Rattle.tree_law.proofs.Words.{Limits, Answer, Whether, Link, StepOf, Exchange, Page, record_link, Memory, Record, Remove, Base, IsChainFrom-unique}
 use Rattle.tree_law.proofs.Words.{IsChainOf, IsChainFrom, is_removed, MayExchange, IsFitted, knows, Knowledge, Ready, learn, Gone, Written, after_exchange, forgotten, memory_of, IsUseful, Entry}
 use Rattle.tree_law.proofs.Words.{link_without, link_of, IsUpdateLink, row_in, IsState}
 use Rattle.bw_model.specs.declared.step.Link.TheVariants as link
@@ -23,14 +23,8 @@ not_base w e = cc
 newest_removes : (w : Record) (under : List Record) → IsFitted (w ∷ under) → is_removed (w ∷ under) ≡ true → link_without w ≡ link.Clear
 newest_removes (Remove remove) under h gone = refl
 newest_removes (Base page) under h gone = absurd (cc)
-newest_removes (Put put) (older ∷ under) h gone = absurd (cc (h.0.fits.alive, h.0.makes.removed))
-newest_removes (Delete delete) (older ∷ under) h gone = absurd (cc (h.0.fits.alive, h.0.makes.removed))
-newest_removes (Split split) (older ∷ under) h gone = absurd (cc (h.0.fits.alive, h.0.makes.removed))
-newest_removes (Term term) (older ∷ under) h gone = absurd (cc (h.0.fits.alive, h.0.makes.removed))
-newest_removes (Hold hold) (older ∷ under) h gone = absurd (cc (h.0.fits.alive, h.0.makes.removed))
-newest_removes (Merge merge) (older ∷ under) h gone = absurd (cc (h.0.fits.alive, h.0.makes.removed))
-newest_removes (Unterm unterm) (older ∷ under) h gone = absurd (cc (h.0.fits.alive, h.0.makes.removed))
-newest_removes w under h gone = absurd (cc h.1)
+newest_removes w [] h gone = absurd (cc h.1)
+newest_removes w (older ∷ under) h gone = absurd (cc (h.0.fits.alive, h.0.makes.removed))
 
 removed_newest : (rows : ℕ → Option Record) (row : ℕ) (chain : List Record) → IsChainFrom rows row chain → IsFitted chain → is_removed chain ≡ true
     → (w : Record) × (rows row ≡ Some w) × (link_without w ≡ link.Clear)
@@ -89,7 +83,7 @@ module _ (limits : Limits) (entries : List Entry) (a : ℕ) where
           | inl out ↦ absurd (cc out.0)
           | inr off ↦
               let newest = removed_newest m.rows off.row off.chain off.is_chain (state.fitted off.row off.linked off.chain off.is_chain).fitted off.flagged in
-              (newest.0, subst (λ r. m.rows r ≡ Some newest.0) (same_Some off.row (suc x) (sym off.head ∙ ap row_in at)) newest.1, λ never. newest.2)
+              (newest.0, rw (← (same_Some off.row (suc x) (sym off.head ∙ ap row_in at))) newest.1, λ never. newest.2)
         ]
 
     -- an update is linked where none was linked before, and is known then

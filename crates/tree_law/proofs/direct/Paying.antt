@@ -1,10 +1,9 @@
 -- A step that is paid for is a cause of its operation.
-use Rattle.tree_law.proofs.Words.{false, [], ap, refl, Option, suc, List, true, inl, length, ◌++◌, inr, ◌∷◌, subst, sym, ℕ, ◌≡◌, zero, ◌∙◌, ◌<◌, arith, Some, Reply, Limits, Answer, Whether, Content}
-use Rattle.tree_law.proofs.Words.{Number, StepOf, TakePid, Row, TakeRow, Slot, Exchange, Memory, Record, Remove, knows, Ready, Recalled, is_removal, Entry, Step, IsExchangeOf, IsCause, TakesNone}
-use Rattle.tree_law.proofs.Words.{IsTheStep, IsTake, link_of, Operation, IsLast, Recollects, Walks}
+use Rattle.tree_law.proofs.Words.{false, [], ap, refl, Option, suc, List, true, inl, length, ◌++◌, inr, ◌∷◌, subst, sym, ℕ, ◌≡◌, zero, ◌∙◌, ◌<◌, arith, Some, Reply, Limits, Answer, Whether}
+use Rattle.tree_law.proofs.Words.{Content, Number, StepOf, TakePid, Row, TakeRow, Slot, Exchange, Memory, Record, Remove, knows, Ready, Recalled, is_removal, Entry, Step, IsExchangeOf, IsCause}
+use Rattle.tree_law.proofs.Words.{TakesNone, IsTheStep, IsTake, link_of, Operation, IsLast, Recollects, Walks, ltb-true}
 use Rattle.deltas.specs.declared.record.Remove.{Remove as Removal}
 use Rattle.std.specs.Prelude.{◌≤◌, ltb}
-use Rattle.std.proofs.lemmas.Bool.{ltb-true}
 use Rattle.traces.specs.discipline.Recalled.{AnyNames, IsPaid, IsUnread, is_lower, removal_level}
 use Rattle.tree_law.proofs.trace.Searches.{takes_kept}
 use Rattle.tree_law.proofs.direct.Appended.{memory_last, takes_below, takes_last}

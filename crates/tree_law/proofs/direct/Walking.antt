@@ -1,9 +1,9 @@
 -- What an actor recalls of its reads since it last read slot 0, its last operation has read since then.
-use Rattle.tree_law.proofs.Words.{false, ap, refl, Option, suc, List, true, inl, ◌≢◌, length, ◌++◌, inr, ◌∷◌, subst, sym, ℕ, ◌≡◌, Bool, zero, ◌∙◌, ◌<◌, arith, Some, ◌||◌, Reply, Limits}
-use Rattle.tree_law.proofs.Words.{Answer, Content, Number, StepOf, Leave, Row, Slot, PidBits, RowBits, Memory, replaced_at, Record, Knowledge, learn, recall, Recalled, is_removal, IsAnswer, Entry}
-use Rattle.tree_law.proofs.Words.{Step, TakesNone, IsTheStep, Operation, TakesOwnStep, IsLast, Walks, []}
-use Rattle.std.specs.Prelude.{◌≤◌, ◌&&◌, ltb, not, if◌then◌else◌}
-use Rattle.std.proofs.lemmas.Bool.{ltb-false, ltb-true}
+use Rattle.tree_law.proofs.Words.{false, ap, refl, Option, suc, List, true, inl, ◌≢◌, length, ◌++◌, inr, ◌∷◌, subst, sym, ℕ, ◌≡◌, Bool, zero, ◌∙◌, ◌<◌, arith, Some, ◌||◌, Reply, Limits, Answer}
+use Rattle.tree_law.proofs.Words.{Content, Number, StepOf, Leave, Row, Slot, PidBits, RowBits, Memory, replaced_at, Record, Knowledge, learn, recall, Recalled, is_removal, IsAnswer, Entry}
+use Rattle.tree_law.proofs.Words.{Step, TakesNone, IsTheStep, Operation, TakesOwnStep, IsLast, Walks, [], ◌&&◌, not, if◌then◌else◌, ltb-true}
+use Rattle.std.specs.Prelude.{◌≤◌, ltb}
+use Rattle.std.proofs.lemmas.Bool.{ltb-false, or_parts}
 use Rattle.traces.specs.discipline.Recalled.{Walk, is_lower, note, removal_level, visit}
 use Rattle.tree_law.proofs.links.Exchanged.{exchanged_alike}
 use Rattle.tree_law.proofs.trace.Owned.{pushed_length}
@@ -48,10 +48,6 @@ walk_kept r (PidBits w) (Number n) h = refl
 walk_kept r (RowBits w) (Number n) h = refl
 walk_kept r s x h = refl
 
-or_none : (s t : Bool) → (s || t) ≡ false → t ≡ false
-or_none true t e = absurd (cc)
-or_none false t e = e
-
 -- the level of the last cause is at or below that of the record, and of those before it
 
 lowest_here : (w : Record) (walk : Walk) → is_removal w ≡ true → (note w walk).level ≤ removal_level w
@@ -61,7 +57,7 @@ lowest_here w walk e = by_test (is_lower w walk) refl
     by_test true is = omega arith
     by_test false is =
         let both : (not walk.removed || ltb (removal_level w) walk.level) ≡ false = rw e at is in
-        let none : ltb (removal_level w) walk.level ≡ false = or_none (not walk.removed) (ltb (removal_level w) walk.level) both in
+        let none : ltb (removal_level w) walk.level ≡ false = (or_parts (not walk.removed) (ltb (removal_level w) walk.level) both).1 in
         ltb-false (removal_level w) walk.level none
 
 lowest_before : (w : Record) (walk : Walk) (level : ℕ) → walk.removed ≡ true → walk.level ≤ level → (note w walk).level ≤ level
@@ -157,7 +153,7 @@ module _ (limits : Limits) (entries : List Entry) (last : Entry) (op : Operation
           slots =
               λ page fresh new. none_longer h.at (IsTheStep limits entries op (Slot page))
               (λ step answer other own kind. let e : Slot page ≡ Row q = sym kind ∙ (is_step step answer other own).0 ∙ i in cc)
-              (h.slots page (or_none (is_removal w) walk.removed fresh) new);
+              (h.slots page (or_parts (is_removal w) walk.removed fresh).1 new);
           rows = λ m row answer after own. by_equal row q
               (λ same t. rw t (w, refl, λ e. (or_left (is_removal w) walk.removed e, lowest_here w walk e)))
               (λ ne t. rw t (elim (takes_cases entries last op m (Row row) answer own) [

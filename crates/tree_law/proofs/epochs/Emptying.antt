@@ -1,10 +1,9 @@
 -- An exchange of a page's slot to 0, and one of slot 0: what they take out of the tree, and what actors hold afterwards.
-use Rattle.tree_law.proofs.Words.{false, ◌⊎◌, ap, refl, cond, Option, suc, None, List, true, inl, inr, subst, sym, ℕ, ◌≡◌, Bool, ◌∙◌, arith, Some, eqb, and-false, same_Some, ◌&&◌}
-use Rattle.tree_law.proofs.Words.{Update, Reply, Limits, Exchange, Memory, replaced_at, next_row, Record, Base, IsOwn, Knowledge, after_reply, Ready, Foreign, Empty, Other, Gone}
-use Rattle.tree_law.proofs.Words.{Unstamped, handed_page, is_on_walk, set_page, Key, IsHomed, Linked, Owners, Reached, Spare, PageFits, PageOwner, Cleared, Keeps, put, shared_part, slot_in, Times}
-use Rattle.tree_law.proofs.Words.{Timed, times_after, LimboFits, Outing, is_linked, is_cleared, IsTree}
+use Rattle.tree_law.proofs.Words.{false, ◌⊎◌, ap, refl, cond, Option, suc, None, List, true, inl, inr, sym, ℕ, ◌≡◌, Bool, ◌∙◌, arith, Some, eqb, and-false, same_Some, ◌&&◌, Update, Reply}
+use Rattle.tree_law.proofs.Words.{Limits, Exchange, Memory, replaced_at, next_row, Record, Base, IsOwn, Knowledge, after_reply, Ready, Foreign, Empty, Other, Gone, Unstamped, handed_page}
+use Rattle.tree_law.proofs.Words.{is_on_walk, set_page, Key, IsHomed, Linked, Owners, Reached, Spare, PageFits, PageOwner, Cleared, Keeps, put, shared_part, slot_in, Times, Timed, times_after}
+use Rattle.tree_law.proofs.Words.{LimboFits, Outing, is_linked, is_cleared, IsTree, after_clear}
 use Rattle.bw_model.specs.declared.step.Answer.TheVariants as answer
-use Rattle.traces.specs.discipline.Knowledge.{after_clear}
 use Rattle.tree_law.proofs.shape.{by_equal, eqb_same, eqb_true, eqb_apart, put_other, put_was, put_all, next_linked, own_base}
 use Rattle.tree_law.proofs.links.Stepping.{slot_put, root_apart}
 use Rattle.tree_law.proofs.epochs.Timing.{Turn, limbo_row, limbo_pid, held_later, announced_still, put_timed}
@@ -132,7 +131,7 @@ module _ {limits : Limits} {m : Memory} {log : List Update} {o : Owners} {knows 
         was = rw own at (g.owns_pages a (suc p))
 
         reached : Reached 0 was.0 was.1 (o.page (suc p))
-        reached = subst (λ (v : PageOwner). Reached 0 was.0 was.1 v) (sym was.2) (refl, refl)
+        reached = rw was.2 (refl, refl)
 
         old : (o.row x ≡ Linked) × (t.home x ≡ suc p) × (t.row_out x ≡ None)
         old = let b = T.slots (suc p) x was.0 was.1 reached f.held in (slot_linked g T a (suc p) x was.0 was.1 reached f.held, b.0, b.1)
@@ -178,7 +177,7 @@ module _ {limits : Limits} {m : Memory} {log : List Update} {o : Owners} {knows 
       slots_rooted q z l s h e = elim (f.reached q l s h) [
         | inl old ↦ let b = T.slots q z l s old e in (rw (slot_linked g T a q z l s old e) b.0, b.1)
         | inr i ↦ let same : f.base ≡ z = same_Some f.base z (sym held ∙ ap (slot_in m.slots) (sym i) ∙ e) in
-            subst (λ j. (t3.home j ≡ q) × (t3.row_out j ≡ None)) same (rw (spare_of g T a a f.base own) (sym i), T.own_rows a f.base own)
+            rw (← same) (rw (spare_of g T a a f.base own) (sym i), T.own_rows a f.base own)
       ]
 
       together_rooted : (j n : ℕ) (w : Record) → o'.row j ≡ Linked → m.rows j ≡ Some w → next_row w ≡ Some n → (t3.home n ≡ t3.home j) × (t3.row_out n ≡ t3.row_out j)

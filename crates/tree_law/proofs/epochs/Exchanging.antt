@@ -1,5 +1,5 @@
 -- An exchange of a page's slot to a row: what it takes out of the tree, and what actors hold afterwards.
-use Rattle.tree_law.proofs.Words.{false, ◌⊎◌, ap, refl, Option, suc, None, List, true, inl, ◌≢◌, inr, subst, sym, ℕ, ◌≡◌, Bool, ◌∙◌, arith, Some, eqb, ⊎_elim, and-false, same_Some, IfSome}
+use Rattle.tree_law.proofs.Words.{false, ◌⊎◌, ap, refl, Option, suc, None, List, true, inl, ◌≢◌, inr, sym, ℕ, ◌≡◌, Bool, ◌∙◌, arith, Some, eqb, ⊎_elim, and-false, same_Some, IfSome}
 use Rattle.tree_law.proofs.Words.{◌&&◌, Update, Limits, Exchange, Memory, replaced_at, next_row, Record, Base, IsOwn, Knowledge, is_on_walk, taken_out, next_seen, Key, IsHomed, Linked, Owners}
 use Rattle.tree_law.proofs.Words.{Reached, Spare, Owner, SeenFits, PageOwner, Cleared, put, shared_part, slot_in, Times, Timed, times_after, LimboFits, Outing}
 use Rattle.tree_law.proofs.Words.{out_after, is_linked, is_cleared, is_base}
@@ -104,7 +104,7 @@ module _ {limits : Limits} {m : Memory} {log : List Update} {o : Owners} {knows 
 
       slots_after : (q z l : ℕ) (s : Key) → Reached 0 l s (o'.page q) → put (slot_in m.slots) (suc p) (Some (suc y)) q ≡ Some z → (t1.home z ≡ q) × (t1.row_out z ≡ None)
       slots_after q z l s r = by_equal q (suc p)
-          (λ i t. rw t λ e. subst (λ j. (t1.home j ≡ q) × (t1.row_out j ≡ None)) (same_Some (suc y) z e) (home_new ∙ sym i, in_own a (suc y) f.own))
+          (λ i t. rw t λ e. rw (← same_Some (suc y) z e) (home_new ∙ sym i, in_own a (suc y) f.own))
           (λ ne t. rw t λ e. elim (f.reached q l s r) [
             | inl old ↦ let b = T.slots q z l s old e in (home_linked z (slot_linked q z l s old e) ∙ b.0, in_beside z b.1 (λ i. ne (sym b.0 ∙ i)))
             | inr new ↦ let b = new z e in (home_split z b.0 b.1 ∙ sym b.2, in_own a z b.0)

@@ -1,6 +1,6 @@
 -- After its exchange of a page's slot to a row won: what the actor itself holds.
 use Rattle.tree_law.proofs.Words.{ap, refl, Option, suc, None, List, true, subst, sym, ℕ, ◌≡◌, ◌∙◌, Some, same_Some, Update, Reply, Limits, Memory, Record, Base, Split, Put, Delete, Unterm}
-use Rattle.tree_law.proofs.Words.{SplitOf, UntermOf, IsOwn, IsOwnBase, IsUnset, Knowledge, after_reply, Ready, Foreign, Empty, Other, Gone, Written, OwnRow, linked_over, handed_page, LimboMark}
+use Rattle.tree_law.proofs.Words.{SplitOf, UntermOf, IsOwn, IsOwnBase, IsUnset, Knowledge, after_reply, Ready, Foreign, Empty, Other, Gone, Written, OwnRow, linked_over, handed_page}
 use Rattle.tree_law.proofs.Words.{handed_over, set_page, rebuilt, Linked, Owners, put, shared_part, Times, Timed, LimboFits, is_base, IsTree}
 use Rattle.tree_law.proofs.shape.Puts.{by_equal, put_other, put_was}
 use Rattle.tree_law.proofs.epochs.Timing.{Turn, limbo_row, limbo_pid, held_later, announced_still, put_timed}
@@ -28,7 +28,7 @@ module _ {limits : Limits} {m : Memory} {log : List Update} {o : Owners} {knows 
         own_rows = λ r i. in_own g T a p x y a r (own r i);
         gone_pages = gone;
         limbo_rows = limbo n;
-        limbo_pids = λ q. subst (λ (l : ℕ → LimboMark). LimboFits a (λ c. (put knows a k' c).inside) t.entered (t.page_out q) (l q)) (sym pids) (limbo_pid n a q);
+        limbo_pids = λ q. rw (← pids) at (limbo_pid n a q);
         ready = ready;
         apart = apart;
       })
@@ -38,7 +38,7 @@ module _ {limits : Limits} {m : Memory} {log : List Update} {o : Owners} {knows 
 
   same_limbo : (k' : Knowledge) → k'.limbo.rows ≡ (knows a).limbo.rows → (n : Turn T (linked g T a) a (m1 g T a p x y) o' k' (t1 g T a p x y)) (r : ℕ)
       → LimboFits a (λ c. (put knows a k' c).inside) t.entered ((t1 g T a p x y).row_out r) (k'.limbo.rows r)
-  same_limbo k' e n r = subst (λ (l : ℕ → LimboMark). LimboFits a (λ c. (put knows a k' c).inside) t.entered ((t1 g T a p x y).row_out r) (l r)) (sym e) (limbo_row n a r)
+  same_limbo k' e n r = rw (← e) at (limbo_row n a r)
 
   -- a row is linked over another
   module _ (unset : IsUnset (knows a) (suc y)) (learnt_old : (knows a).read.learnt x ≡ true) (old_in : (o.row x ≡ Linked) × (t.home x ≡ suc p) × (t.row_out x ≡ None)) (r : Option Reply) where

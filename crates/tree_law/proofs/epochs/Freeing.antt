@@ -1,5 +1,5 @@
 -- A reuse frees what nobody can hold: the invariant and what actors hold stay.
-use Rattle.tree_law.proofs.Words.{false, ◌⊎◌, ap, refl, cond, ltb, Option, suc, None, List, true, inl, ◌≢◌, ◌≤◌, inr, ◌∷◌, subst, sym, ℕ, ◌≡◌, Bool, zero, ◌∙◌, ◌<◌, arith, Some, ltb-true}
+use Rattle.tree_law.proofs.Words.{false, ◌⊎◌, ap, refl, cond, ltb, Option, suc, None, List, true, inl, ◌≢◌, ◌≤◌, inr, ◌∷◌, sym, ℕ, ◌≡◌, Bool, zero, ◌∙◌, ◌<◌, arith, Some, ltb-true}
 use Rattle.tree_law.proofs.Words.{same_Some, Update, is_among, Reply, Limits, Answer, ReuseRows, ReusePids, ContentOf, Memory, next_row, Record, content_in, right_in, is_removed, level_in}
 use Rattle.tree_law.proofs.Words.{IsPassed, Knowledge, after_reply, learn, LimboMark, Absent, memory_after, Key, Covers, After, Free, Linked, Owners, Reached, Spare, Owner}
 use Rattle.tree_law.proofs.Words.{IsChain, IsCleared, Nobody, PageOwner, child_of, put, shared_part, slot_in, Times, Timed, LimboFits, Outing, IsSince, HeldHead, IsTree, HoldsBy}
@@ -52,7 +52,7 @@ row_free_after first false v out e = rw e
 pub row_linked : (first : ℕ) (z : Bool) (v : Owner) (out : Option Outing) → row_after first z v out ≡ Linked → (z ≡ false) × (v ≡ Linked) × ((w : Outing) → out ≡ Some w → first ≤ w.at)
 row_linked first false Linked None e = (refl, refl, λ w i. absurd (cc))
 row_linked first false Linked (Some w) e =
-    (refl, refl, λ v i. subst (λ j. first ≤ j.at) (same_Some w v i) (elim (decided (ltb w.at first)) [ inl t ↦ absurd (let f = rw t at e in cc) | inr f ↦ ltb-false w.at first f ]))
+    (refl, refl, λ v i. rw (← same_Some w v i) (elim (decided (ltb w.at first)) [ inl t ↦ absurd (let f = rw t at e in cc) | inr f ↦ ltb-false w.at first f ]))
 row_linked first z v out e = absurd (cc)
 
 row_of : (first : ℕ) (v : Owner) (w : Outing) → (v ≡ Linked) ⊎ (v ≡ Spare w.who) → (row_after first false v (Some w) ≡ Linked) ⊎ (row_after first false v (Some w) ≡ Spare w.who)

@@ -1,12 +1,11 @@
 -- One more step: what the limbos show of it, and that what it frees is freed by the rule.
-use Rattle.tree_law.proofs.Words.{false, ◌⊎◌, ap, refl, Option, suc, None, List, true, inl, length, ◌++◌, inr, ◌∷◌, subst, sym, ℕ, ◌≡◌, zero, ◌∙◌, ◌<◌, arith, Some, take, eqb, eqb-true, same_Some}
+use Rattle.tree_law.proofs.Words.{false, ◌⊎◌, ap, refl, Option, suc, None, List, true, inl, length, ◌++◌, inr, ◌∷◌, sym, ℕ, ◌≡◌, zero, ◌∙◌, ◌<◌, arith, Some, take, eqb, eqb-true, same_Some}
 use Rattle.tree_law.proofs.Words.{Contains, IfSome, MatchOption, unwrap_or, slice_index_or, Update, is_among, Reply, Limits, Answer, StepOf, ReuseRows, ReusePids, TakePid, TakeRow, Exchange, Memory}
 use Rattle.tree_law.proofs.Words.{next_row, Record, slice_get_below, slice_get-push, take-push_whole, TakesStep-push_cases, memory_of-push, IsChainOf, IsOnChain, chain_rows, IsChainFrom, low_in}
 use Rattle.tree_law.proofs.Words.{level_in, MayExchange, IsAllowed, IsPassed, MayFree, knows, Knowledge, after_reply, learn, Other, Unstamped, LimboMark, Absent, Stamped, passed_by}
 use Rattle.tree_law.proofs.Words.{with_stamp, IsAnswer, memory_after, memory_at, memory_of, IsStep, Entry, Step, UnlinksPid, UnlinksRow, HandsPid, HandsRow}
 use Rattle.tree_law.proofs.Words.{Key, IsInLimbo, Free, Linked, Owners, Reached}
-use Rattle.tree_law.proofs.Words.{Nobody, PageOwner, put, shared_part, slot_in, IsReadyPage, IsState, IsInTree, Times, Timed, LimboFits, Outing, IsTree, []}
-use Rattle.base_page.specs.Pages as pages
+use Rattle.tree_law.proofs.Words.{Nobody, put, shared_part, slot_in, IsReadyPage, IsState, IsInTree, Times, Timed, LimboFits, Outing, IsTree, []}
 use Rattle.traces.specs.trace.Trace.{TakesStep}
 use Rattle.linearization.specs.Reuse.{IsFreedByRule}
 use Rattle.tree_law.proofs.links.Keeping.{slot_of}
@@ -37,7 +36,7 @@ module _ {limits : Limits} {m : Memory} {log : List Update} {o : Owners} {knows 
       under : (v : Option ℕ) → next_row w ≡ v → IfSome v (λ n. o.row n ≡ Linked) → MatchOption v (c ≡ []) (λ n. IsChainFrom m.rows n c)
           → k < length (chain_rows (unwrap_or v 0) c) → slice_index_or (chain_rows (unwrap_or v 0) c) k row ≡ row
           → ((n : ℕ) → o.row n ≡ Linked → t.row_out n ≡ None → IsChainFrom m.rows n c → (row : ℕ) → Contains (chain_rows n c) row → t.row_out row ≡ None) → t.row_out row ≡ None
-      under None j i0 empty within at deeper = absurd (let none_there : length (chain_rows 0 c) ≡ 0 = ap (λ r. length (chain_rows 0 r)) empty in omega arith)
+      under None j i0 empty within at deeper = absurd (let none_there : length (chain_rows 0 c) ≡ 0 = rw empty in omega arith)
       under (Some n) j i0 below within at deeper = deeper n i0 ((T.together x n w l h.0 j).1 ∙ e) below row (k, within, at)
 
   pub off_chain : (row : ℕ) (w : Outing) → t.row_out row ≡ Some w → IsOnChain m row → ⊥
@@ -196,7 +195,7 @@ module _ (limits : Limits) (entries : List Entry) (a : ℕ) (step : StepOf Recor
 
         reached : (l : ℕ) × (s : Key) × Reached 0 l s (state.owners.page (suc h.page))
         reached = elim h.whose [
-          | inl u ↦ let w = rw u.0 at (state.is_tree.owns_pages a (suc h.page)) in (w.0, w.1, subst (λ (v : PageOwner). Reached 0 w.0 w.1 v) (sym w.2) (refl, refl))
+          | inl u ↦ let w = rw u.0 at (state.is_tree.owns_pages a (suc h.page)) in (w.0, w.1, rw w.2 (refl, refl))
           | inr u ↦ by_link h.old u.1.0 u.0 (rw u.1.1 at may)
         ]
           where
@@ -228,7 +227,7 @@ module _ (limits : Limits) (entries : List Entry) (a : ℕ) (step : StepOf Recor
           where
             whole_take : (es : List Entry) (n : ℕ) → length es ≡ n → take n es ≡ es
             whole_take [] zero e = refl
-            whole_take (x ∷ es) (suc n) e = ap (λ v. x ∷ v) (whole_take es n (omega arith))
+            whole_take (x ∷ es) (suc n) e = rw (whole_take es n (omega arith))
             whole_take es n e = absurd (omega arith)
 
     -- what the rows in limbos show afterwards

@@ -2,7 +2,6 @@
 use Rattle.tree_law.proofs.Words.{false, ◌⊎◌, Option, List, true, inl, inr, ℕ, ◌≡◌, ◌∙◌, ◌<◌, Some, ⊎_elim, Update, is_among, Reply, Limits, Answer, ReuseRows}
 use Rattle.tree_law.proofs.Words.{ReusePids, Memory, Record, IsOwn, IsOwnBase, IsPassed, Knowledge, after_reply, learn, Foreign, Taken, Written, OwnRow, IsAnswer, memory_after, Entry}
 use Rattle.tree_law.proofs.Words.{Owners, Spare, OwnFits, put, shared_part, slot_in, IsReadyPage, IsInTree, IsNamed, Times, Timed, IsTree}
-use Rattle.linearization.specs.Phases as phase
 use Rattle.tree_law.proofs.epochs.Freeing.{row_free_after, freed, freed_page, held, in_tree, not_among, stays, same_page, o1, page2, o2}
 use Rattle.tree_law.proofs.trace.Names.{Numbers}
 use Rattle.tree_law.proofs.shape.Puts.{by_equal, decided}

@@ -1,9 +1,10 @@
 -- Rows and pages that nobody holds may be freed: the invariant stays.
-use Rattle.tree_law.proofs.Words.{false, ◌⊎◌, [], refl, Option, suc, None, List, true, inl, inr, ◌∷◌, subst, sym, ℕ, ◌≡◌, Bool, ◌∙◌, Some, IfSome, Update, ContentOf, Child, next_row, Record}
+use Rattle.tree_law.proofs.Words.{false, ◌⊎◌, [], refl, Option, suc, None, List, true, inl, inr, ◌∷◌, sym, ℕ, ◌≡◌, Bool, ◌∙◌, Some, IfSome, Update, ContentOf, Child, next_row, Record}
 use Rattle.tree_law.proofs.Words.{content_in, right_in, low_in, is_removed, level_in, high_in, IsOwn, Knowledge, Foreign, OwnPage, Taken, Other, Gone, Written, OwnRow, Key, Covers, Free, Linked}
 use Rattle.tree_law.proofs.Words.{Owners, Reached, IsOut, Owner, OwnFits, LinkFits, HeadFits, OrderFits, PageFits, IsChain, IsCleared, SpellsLog, SeenFits, Nobody, Placed, Indexed, PageOwner, Cleared}
 use Rattle.tree_law.proofs.Words.{Keeps, Merged, Stage, child_of, Shared, IsTree, spec, IsOff, Off, SidePage, InPlace, IsPart, Exact, KnowsBy}
 use Rattle.tree_law.proofs.shape.Kept.{placed_reached}
+use Rattle.tree_law.proofs.shape.Relinked.{off_as, with_levels}
 
 -- What actors know, they know of rows whose names they have learnt.
 pub record Learnt (k : Knowledge) : Type 0 where
@@ -53,21 +54,11 @@ module _ {m : Shared} {log : List Update} {o : Owners} {knows : ℕ → Knowledg
     off_loose : (q l : ℕ) (s : Key) → IsOff (o.page q) l s → IsOut (o.page q) (m.slots q) ⊎ Off o m q l s → IsOut (o.page q) (m.slots q) ⊎ Off o1 m1 q l s
     off_loose q l s i (inl e) = inl e
     off_loose q l s i (inr w) =
-        inr (record {
-          row = w.row;
-          chain = w.chain;
-          head = w.head;
-          linked = h.slots q w.row l s (off_reached (o.page q) i) w.head ∙ w.linked;
-          is_chain =
-              w.is_chain;
-          flagged = w.flagged;
-          level = w.level;
-          low = w.low;
-        })
+        inr (off_as w refl (h.slots q w.row l s (off_reached (o.page q) i) w.head ∙ w.linked) w.is_chain)
       where
         off_reached : (w : PageOwner) → IsOff w l s → Reached 0 l s w
         off_reached w (inl e) = placed_reached l s Merged w e
-        off_reached w (inr e) = subst (λ (v : PageOwner). Reached 0 l s v) (sym e.1) (refl, refl)
+        off_reached w (inr e) = rw e.1 (refl, refl)
 
     abbrev spells_loose : (x : ℕ) (l : List Update) → row x ≡ o.row x → SpellsLog o m x l → SpellsLog o1 m1 x l
     spells_loose x l same s = record { linked = same ∙ s.linked; chain = s.chain; is_chain = s.is_chain; same = s.same }
@@ -121,17 +112,10 @@ module _ {m : Shared} {log : List Update} {o : Owners} {knows : ℕ → Knowledg
       closed =
           λ r l. let k = g.closed r (h.linked r l) in record
           { linked = l; content = k.content; stands = k.stands; next = nexts r k.content l k.stands (next_row k.content) refl k.next; rest = k.rest; is_rest = k.is_rest };
-      tree = record {
-        top = g.tree.top;
-        first = g.tree.first;
-        leaf = g.tree.leaf;
-        root = g.tree.root;
-        levels =
-            λ l le. let v = g.tree.levels l le in record
-            { side = v.side; whole = part_map o o1 m m1 l (spec log o.index l) (place_loose l (spec log o.index l)) v.side (Some (g.tree.first l)) (Some []) None None v.whole; listed = v.listed };
-        exact = g.tree.exact;
-        off = λ q l s i. off_loose q l s i (g.tree.off q l s i);
-      };
+      tree = with_levels g.tree refl
+          (λ l le. let v = g.tree.levels l le in record
+          { side = v.side; whole = part_map o o1 m m1 l (spec log o.index l) (place_loose l (spec log o.index l)) v.side (Some (g.tree.first l)) (Some []) None None v.whole; listed = v.listed })
+          g.tree.exact (λ q l s i. off_loose q l s i (g.tree.off q l s i));
       owns = λ b r. own_at b r ((knows b).own.rows r) refl (g.owns b r);
       owns_pages = g.owns_pages;
       sound = knows_loose;
@@ -203,7 +187,7 @@ module _ {m : Shared} {log : List Update} {o : Owners} {knows : ℕ → Knowledg
         cleared_off : IsOff (page q) l s → IsCleared (o.page q) → IsCleared (page q)
         cleared_off (inl j) c = absurd (cc (was q l s Merged j, c.3))
         cleared_off (inr j) c = (j.0, l, s, j.1)
-    off_free q l s i (inr w) = inr (record { row = w.row; chain = w.chain; head = w.head; linked = w.linked; is_chain = w.is_chain; flagged = w.flagged; level = w.level; low = w.low })
+    off_free q l s i (inr w) = inr (off_as w refl w.linked w.is_chain)
 
     cleared_was : (p : ℕ) → IsCleared (page p) → IsCleared (o.page p)
     cleared_was p c = (c.0, c.1, c.2, was_cleared p c.0 c.1 c.2 c.3)
@@ -265,21 +249,13 @@ module _ {m : Shared} {log : List Update} {o : Owners} {knows : ℕ → Knowledg
     frees_pages = record {
       frees = record { row = g.frees.row; page = frees };
       closed = λ r l. let k = g.closed r l in record { linked = k.linked; content = k.content; stands = k.stands; next = k.next; rest = k.rest; is_rest = k.is_rest };
-      tree = record {
-        top = g.tree.top;
-        first = g.tree.first;
-        leaf = g.tree.leaf;
-        root = g.tree.root;
-        levels =
-            λ l le. let v = g.tree.levels l le in record {
-              side = v.side;
-              whole = part_map o o2 m m2 l (spec log o.index l) (place_free l (spec log o.index l))
-                  v.side (Some (g.tree.first l)) (Some []) None None v.whole;
-              listed = λ p s st e. v.listed p s st (was p l s st e);
-            };
-        exact = exact_free;
-        off = λ q l s i. off_free q l s i (g.tree.off q l s (off_was q l s i));
-      };
+      tree = with_levels g.tree refl
+          (λ l le. let v = g.tree.levels l le in record {
+            side = v.side;
+            whole = part_map o o2 m m2 l (spec log o.index l) (place_free l (spec log o.index l)) v.side (Some (g.tree.first l)) (Some []) None None v.whole;
+            listed = λ p s st e. v.listed p s st (was p l s st e);
+          })
+          exact_free (λ q l s i. off_free q l s i (g.tree.off q l s (off_was q l s i)));
       owns = g.owns;
       owns_pages = λ b p. own_at b p ((knows b).own.pages p) refl (g.owns_pages b p);
       sound = knows_free;

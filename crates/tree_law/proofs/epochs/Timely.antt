@@ -1,6 +1,6 @@
 -- Steps that take nothing out of the tree and free nothing keep what actors hold.
-use Rattle.tree_law.proofs.Words.{ap, refl, Option, suc, None, List, true, inl, ◌≢◌, ◌≤◌, inr, subst, sym, ℕ, ◌≡◌, ◌∙◌, arith, Some, same_Some, Update, Limits, Memory, next_row, Record}
-use Rattle.tree_law.proofs.Words.{low_in, level_in, IsOwn, IsOwnBase, Knowledge, Ready, learnt_next, Gone, Limbos, Key, Linked, Owners, Reached, Spare, SpellsLog, Placed, Indexed, Cleared, Stage}
+use Rattle.tree_law.proofs.Words.{ap, refl, Option, suc, None, List, true, inl, ◌≢◌, ◌≤◌, inr, sym, ℕ, ◌≡◌, ◌∙◌, arith, Some, same_Some, Update, Limits, Memory, next_row, Record}
+use Rattle.tree_law.proofs.Words.{low_in, level_in, IsOwn, IsOwnBase, Knowledge, Ready, learnt_next, Gone, Key, Linked, Owners, Reached, Spare, SpellsLog, Placed, Indexed, Cleared, Stage}
 use Rattle.tree_law.proofs.Words.{child_of, put, shared_part, slot_in, Times, Timed, LimboFits, Holds, NamesSince, IsSince, HeldHead, IsTree, spec, SidePage, InPlace, HoldsBy, []}
 use Rattle.tree_law.specs.Times.{HeldBeside}
 use Rattle.tree_law.proofs.links.Keeping.{alive_place, beyond_place}
@@ -74,8 +74,8 @@ module _ {limits : Limits} {m : Memory} {log : List Update} {o : Owners} {knows 
       (rw limbo λ e i. let j = T.epochs a e i in let l = c.epoch in omega arith)
       (rw own (T.own_rows a))
       (rw own (T.gone_pages a))
-      (λ n r. subst (λ (l : Limbos). LimboFits a (λ b. (put knows a k' b).inside) t.entered (t.row_out r) (l.rows r)) (sym limbo) (limbo_row n a r))
-      (λ n p. subst (λ (l : Limbos). LimboFits a (λ b. (put knows a k' b).inside) t.entered (t.page_out p) (l.pids p)) (sym limbo) (limbo_pid n a p))
+      (λ n r. rw (← limbo) at (limbo_row n a r))
+      (λ n p. rw (← limbo) at (limbo_pid n a p))
       (rw own (T.ready a))
       (rw own (T.apart a))
 
@@ -149,7 +149,7 @@ module _ {limits : Limits} {m : Memory} {log : List Update} {o : Owners} {knows 
         roots_inside = h.roots_inside;
         roots_since = h.roots_since;
         heads_since = λ q y. by_equal q p
-            (λ e is. rw (is, e) λ i. subst (λ j. HeldHead m.rows t.page_out (t.entered a) (put (knows a).read.learnt x true) p j) (same_Some x y i) here)
+            (λ e is. rw (is, e) λ i. rw (← same_Some x y i) here)
             (λ ne is. rw is λ i. head_more (put_true (knows a).read.learnt x) (h.heads_since q y i));
         before_since = λ q f y. by_equal q p
             (λ e is. rw is λ i. head_more (put_true (knows a).read.learnt x) (h.heads_since f y i))

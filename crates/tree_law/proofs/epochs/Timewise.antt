@@ -63,7 +63,7 @@ put_reached f f' c l0 s0 st n was e at q l s r = go (rw e at r)
     go = by_equal q c (λ i t. rw t λ h. let v = at l s h in placed_reached l s st (f q) (ap f i ∙ was ∙ ap (λ j. Placed st j s0) v.0 ∙ ap (λ (j : Key). Placed st l j) v.1)) (λ ne t. rw t λ h. h)
 
 put_cleared : (f f' : ℕ → PageOwner) (c l0 : ℕ) (s0 : Key) (st : Stage) (n : PageOwner) → f c ≡ Placed st l0 s0 → f' ≡ put f c n → (q b l : ℕ) (s : Key) → f q ≡ Cleared b l s → f' q ≡ Cleared b l s
-put_cleared f f' c l0 s0 st n was e q b l s i = ap (λ (h : ℕ → PageOwner). h q) e ∙ put_other f c n q (λ j. absurd (cc)) ∙ i
+put_cleared f f' c l0 s0 st n was e q b l s i = rw e (put_other f c n q (λ j. absurd (cc)) ∙ i)
 
 module _ {limits : Limits} {m : Memory} {log : List Update} {o : Owners} {knows : ℕ → Knowledge} {point : ℕ → Option (List Update)}
     {logs : ℕ → List (List Update)} {now : ℕ} {t : Times} (g : IsTree (shared_part m) log o knows point logs) (T : Timed limits m o knows now t) (a : ℕ) where
@@ -138,7 +138,7 @@ module _ {limits : Limits} {m : Memory} {log : List Update} {o : Owners} {knows 
 
   same_clears : (f' : ℕ → PageOwner) → f' ≡ o.page → Clears f'
   unfolding Clears
-  same_clears f' e q b l s i = ap (λ (h : ℕ → PageOwner). h q) e ∙ i
+  same_clears f' e q b l s i = rw e i
 
   put_reach : (p y : ℕ) (f' : ℕ → PageOwner) (c l0 : ℕ) (s0 : Key) (st : Stage) (n : PageOwner) → o.page c ≡ Placed st l0 s0 → f' ≡ put o.page c n
       → ((l : ℕ) (s : Key) → Reached 0 l s n → (l0 ≡ l) × (s0 ≡ s)) → Reach p y f'
@@ -187,7 +187,7 @@ module _ {limits : Limits} {m : Memory} {log : List Update} {o : Owners} {knows 
               (λ ne t. rw t λ v. inl v)
 
       cleared : Clears f'
-      cleared q c l s e = ap (λ (f : ℕ → PageOwner). f q) h.5 ∙ put_other o.page w.page (Placed Fresh h.1 w.separator) q (λ i. absurd (cc h.4)) ∙ e
+      cleared q c l s e = rw h.5 (put_other o.page w.page (Placed Fresh h.1 w.separator) q (λ i. absurd (cc h.4)) ∙ e)
   links_pages p x y w f' st sp h = (same_reach p y f' h, same_clears f' h)
 
   no_page_out : (q : ℕ) → o.page q ≡ Keeps a → t.page_out q ≡ None
@@ -300,7 +300,7 @@ module _ {limits : Limits} {m : Memory} {log : List Update} {o : Owners} {knows 
   loses : (p x y : ℕ) (r : Option Reply) → (m' : Memory) → m' ≡ m → times_after a m o now (Exchange p x y) (answer.Whether false) t ≡ t
       → ((row : ℕ) → IsHomed (shared_part m) (Exchange p x y) (answer.Whether false) row → ⊥) → After m' (Exchange p x y) (answer.Whether false) r
   loses p x y r m' e same homed =
-      subst (λ (v : Memory). After v (Exchange p x y) (answer.Whether false) r) (sym e)
+      rw e
       (λ n. rw same (still_timed (after_reply (knows a) r) (calm_pages m n refl homed n.phased (omega arith) (λ b ne. refl)) refl refl refl refl refl refl))
 
   exchange : (p x y : ℕ) (r : Option Reply) → MayExchange a (knows a) p x y → After (memory_after a (Exchange p x y) m) (Exchange p x y) (answer.Whether (eqb (m.slots p) x)) r
@@ -322,23 +322,23 @@ module _ {limits : Limits} {m : Memory} {log : List Update} {o : Owners} {knows 
           go = by_equal p q (λ i t. rw t λ v. absurd v) (λ ne t. rw t λ v. v)
 
       cleared : (p b l : ℕ) (k : Key) → o.page p ≡ Cleared b l k → n.owners.page p ≡ Cleared b l k
-      cleared p b l k i = ap (λ (f : ℕ → PageOwner). f p) n.phased ∙ put_other o.page q (Keeps a) p (λ j. absurd (cc (g.frees.page q e).0)) ∙ i
+      cleared p b l k i = rw n.phased (put_other o.page q (Keeps a) p (λ j. absurd (cc (g.frees.page q e).0)) ∙ i)
   takes_pid q r false e n = still_timed (after_reply (knows a) r) (calm_pages (memory_after a (TakePid q) m) n refl (λ row i. i) n.phased (omega arith) (λ b ne. refl)) refl refl refl refl refl refl
 
   -- each allowed step but a reuse
   pub timed_step : (s : StepOf Record) → (IsReuse s → ⊥) → (x : Answer Record) (r : Option Reply) → May a (knows a) s → IsAnswer m s x → a < limits.actors → After (memory_after a s m) s x r
   timed_step (Slot zero) calm x r may is actor =
-      subst (λ v. After m (Slot 0) v r) (sym is) (λ n. read_timed (after_reply (learn (knows a) (Slot 0) (answer.Number (m.slots 0))) r)
+      rw is (λ n. read_timed (after_reply (learn (knows a) (Slot 0) (answer.Number (m.slots 0))) r)
       (calm_pages m n refl (λ row i. i) n.phased (omega arith) (λ b ne. refl)) refl refl (root_holds g T a may) refl refl)
   timed_step (Slot (suc p)) calm x r may is actor = rw is (reads p (m.slots (suc p)) r may refl)
   timed_step (Row q) calm x r may is actor =
-      subst (λ v. After m (Row q) v r) (sym is.2) (λ n. read_timed (after_reply (learn (knows a) (Row q) (answer.Content is.0)) r)
+      rw is.2 (λ n. read_timed (after_reply (learn (knows a) (Row q) (answer.Content is.0)) r)
       (calm_pages m n refl (λ row i. i) n.phased (omega arith) (λ b ne. refl)) refl refl (row_holds g T a q is.0 may.1 is.1) refl refl)
-  timed_step Epoch calm x r may is actor = subst (λ v. After m Epoch v r) (sym is) (λ n. epoch_timed g T a r n.owners (calm_pages m n refl (λ row i. i) n.phased (omega arith) (λ b ne. refl)))
+  timed_step Epoch calm x r may is actor = rw is (λ n. epoch_timed g T a r n.owners (calm_pages m n refl (λ row i. i) n.phased (omega arith) (λ b ne. refl)))
   timed_step (Announce c) calm x r may is actor =
-      subst (λ v. After m (Announce c) v r) (sym is) (λ n. announce_timed g T a c r n.owners (calm_pages m n refl (λ row i. i) n.phased (omega arith) (λ b ne. refl)))
+      rw is (λ n. announce_timed g T a c r n.owners (calm_pages m n refl (λ row i. i) n.phased (omega arith) (λ b ne. refl)))
   timed_step (Place q w) calm x r may is actor =
-      subst (λ v. After (memory_after a (Place q w) m) (Place q w) v r) (sym is)
+      rw is
       (λ n. place_timed g T a q w r n.owners (calm_pages (memory_after a (Place q w) m) n refl (λ row i. i) n.phased (omega arith) (λ b ne. refl)) may.1 may.2)
   timed_step (Exchange p old new) calm x r may is actor = rw is (exchange p old new r may.1)
   timed_step (TakePid q) calm x r may is actor = rw is (takes_pid q r (m.free_pids q) refl)
@@ -346,7 +346,7 @@ module _ {limits : Limits} {m : Memory} {log : List Update} {o : Owners} {knows 
   timed_step (Enter e) calm x r may is actor =
       λ n. enter_timed g T a e x r n.owners (calm_pages (memory_after a (Enter e) m) n refl (λ row i. i) n.phased (omega arith) (λ b ne. put_other m.announced a e b ne)) may.0 may.1 may.2 actor
   timed_step Leave calm x r may is actor =
-      subst (λ v. After (memory_after a Leave m) Leave v r) (sym is)
+      rw is
       (λ n. leave_timed g T a r n.owners (calm_pages (memory_after a Leave m) n refl (λ row i. i) n.phased (omega arith) (λ b ne. put_other m.announced a 0 b ne)))
   timed_step (Retire e) calm x r may is actor =
       let retired : (e : ℕ) → m.epoch ≤ (memory_after a (Retire e) m).epoch = λ e. by_equal m.epoch e (λ i t. rw t (omega arith)) (λ ne t. rw t (omega arith)) in
@@ -354,5 +354,5 @@ module _ {limits : Limits} {m : Memory} {log : List Update} {o : Owners} {knows 
   timed_step (ReusePids w b) calm x r may is actor = absurd (calm tt)
   timed_step (ReuseRows w b) calm x r may is actor = absurd (calm tt)
   timed_step s calm x r may is actor =
-      subst (λ v. After m s v r) (sym is.2)
+      rw is.2
       (λ n. still_timed (after_reply (learn (knows a) s (answer.Number is.0)) r) (calm_pages m n refl (λ row i. i) n.phased (omega arith) (λ b ne. refl)) refl refl refl refl refl refl)

@@ -1,8 +1,7 @@
 -- What an exchange that won makes of what its actor knows.
-use Rattle.tree_law.proofs.Words.{refl, suc, inl, inr, ℕ, ◌≡◌, zero, Page, record_link, Record, Base, Split, Put, Delete, Unterm, SplitOf, UntermOf, Knowledge, Ready, Empty, OwnPage, Other, Gone}
-use Rattle.tree_law.proofs.Words.{Written, after_filling, after_root, OwnRow, after_emptying, after_exchange, split_off, linked_over, handed_page, handed_over}
-use Rattle.tree_law.proofs.Words.{set_page, rebuilt, after_update, IsUpdateLink}
-use Rattle.traces.specs.discipline.Knowledge.{after_clear}
+use Rattle.tree_law.proofs.Words.{refl, suc, inl, inr, ℕ, ◌≡◌, zero, Page, record_link, Record, Base, Split, Put, Delete, Unterm, SplitOf, UntermOf, Knowledge, Ready, Empty, OwnPage, Other}
+use Rattle.tree_law.proofs.Words.{Gone, Written, after_filling, after_root, OwnRow, after_emptying, after_exchange, split_off, linked_over, handed_page, handed_over, set_page, rebuilt}
+use Rattle.tree_law.proofs.Words.{after_update, IsUpdateLink, after_clear}
 
 pub data Exchanging (k : Knowledge) : ℕ → ℕ → ℕ → Knowledge → Type 0 where
   roots : (x y base : ℕ) → k.own.pages y ≡ Ready base → Exchanging k zero x y (handed_page y Other base k)

@@ -1,10 +1,10 @@
 -- Links on an index page that change one term: a term is posted, held, or taken away.
-use Rattle.tree_law.proofs.Words.{false, ap, refl, cond, Option, suc, None, List, true, inl, ◌≢◌, ◌≤◌, ◌∷◌, subst, sym, ℕ, ◌≡◌, zero, ◌∙◌, ◌<◌, arith, Some, same_Some, is_eq, IsSome, key_cmp, Update}
+use Rattle.tree_law.proofs.Words.{false, ap, refl, cond, Option, suc, None, List, true, inl, ◌≢◌, ◌≤◌, ◌∷◌, sym, ℕ, ◌≡◌, zero, ◌∙◌, ◌<◌, arith, Some, same_Some, is_eq, IsSome, key_cmp, Update}
 use Rattle.tree_law.proofs.Words.{Reply, ContentOf, Child, next_row, Record, Hold, Term, Unterm, content_in, right_in, low_in, is_removed, level_in, high_in, HasRead, MayPost, MayUnterm, MayHold}
 use Rattle.tree_law.proofs.Words.{Knowledge, Foreign, Gone, Written, linked_over, handed_page, handed_over, Key, Covers, put_key, Linked, Owners, Reached, stage_removed, InOrder}
 use Rattle.tree_law.proofs.Words.{IsChain, OwnsPages, Placed, Indexed, PageOwner, Cleared, Fresh, rank, Held, Merged, Stage, rank_of, child_of, mark, put, Shared, IsTree, spec, inr}
 use Rattle.tree_law.proofs.shape.{by_key, key_other, covers_from, by_equal, put_same, put_other, reached_placed, same_page, placed_level, exact_moved}
-use Rattle.tree_law.proofs.links.Keeping.{OnSide, mine, alive_place}
+use Rattle.tree_law.proofs.links.Keeping.{OnSide, mine, alive_place, indexed_mark}
 use Rattle.tree_law.proofs.links.Relinking.{LinkedTree, Found, Moves, stay, go, clear, owned_row, found, place_of, relink_one}
 use Rattle.tree_law.proofs.shape.Terms.{mark_number}
 
@@ -73,7 +73,7 @@ module _ {m : Shared} {log : List Update} {o : Owners} {knows : ℕ → Knowledg
       (λ l' s' st' e. let i = placed_level to st' lv l' sep s' e in let j : to ≡ st' = cc in (i.0, i.1, ap (λ z. mark z q) (sym j) ∙ marks))
       (λ i e. (to, ap child_of (sym (same_Some v i e)) ∙ mark_number to q v marks, refl, marks ∙ e))
       (λ b l' s' e. absurd (cc))
-      (λ i e. subst (λ (u : ContentOf). Reached (rank_of u) lv sep (Placed to lv sep)) (same_Some v i e) (refl, refl, high))
+      (λ i e. rw (← same_Some v i e) (refl, refl, high))
       next wl wlow wright whigh wrem finds
       (handed_over y (knows a)) learned refl (λ n. n) refl refl r
 
@@ -143,17 +143,12 @@ module _ {m : Shared} {log : List Update} {o : Owners} {knows : ℕ → Knowledg
       let covers = covers_from basis.chain h.key h.covers in
       let place = place_of g a p x basis.chain (found g a p x basis) basis.alive s in
       let n = (g.tree.exact.named h.level h.key (Child h.child false) (term_at p x basis.chain place h.level h.key h.is_level covers ∙ h.present)).1 in
-      let was : o.page h.child ≡ Placed Indexed h.level h.key = n.1 ∙ ap (λ st. Placed st h.level h.key) (is_indexed n.0 h.child n.2) in (
+      let was : o.page h.child ≡ Placed Indexed h.level h.key = n.1 ∙ ap (λ st. Placed st h.level h.key) (indexed_mark n.0 h.child n.2) in (
         term_goes p x y basis s (Hold (record { level = level_in basis.chain; next = x; separator = h.key; child = h.child })) (written ∙ ap Written h.is)
             h.level h.key h.child h.is_level covers Indexed Held was h.present
             (Child h.child true) refl (omega arith) (omega arith) refl (omega arith) refl refl refl refl refl refl (λ k. refl) refl r,
         was,
       )
-    where
-      is_indexed : (st : Stage) (q : ℕ) → mark st q ≡ Some (Child q false) → st ≡ Indexed
-      is_indexed Fresh q e = absurd (cc)
-      is_indexed Indexed q e = refl
-      is_indexed st q e = absurd (cc (same_Some (Child q true) (Child q false) e))
 
   -- the exchange that takes a held term away
   pub unterms : (p x y : ℕ) → m.slots p ≡ Some x → (basis : HasRead (knows a) p x) (content : Record) → (knows a).own.rows y ≡ Written content

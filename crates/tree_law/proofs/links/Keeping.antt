@@ -1,9 +1,9 @@
 -- What a step leaves, and what the tree says of a slot.
-use Rattle.tree_law.proofs.Words.{false, ◌⊎◌, ap, refl, Option, None, List, true, inl, ◌≤◌, inr, ◌∷◌, subst, sym, ℕ, ◌≡◌, ◌∙◌, arith, Some, same_Some, Update, Command, Reply, Answer, []}
+use Rattle.tree_law.proofs.Words.{false, ◌⊎◌, ap, refl, Option, None, List, true, inl, ◌≤◌, inr, ◌∷◌, sym, ℕ, ◌≡◌, ◌∙◌, arith, Some, same_Some, Update, Command, Reply, Answer, []}
 use Rattle.tree_law.proofs.Words.{Done, Leave, Enter, ContentOf, Child, Record, right_in, low_in, is_removed, level_in, HasRead, IsMet, NamesChild, after_begin}
 use Rattle.tree_law.proofs.Words.{Knowledge, after_reply, learn, forgotten, Key}
 use Rattle.tree_law.proofs.Words.{Owners, Reached, IsOut, Owner, LinkFits, InOrder, IsChain, IsClosed, SpellsLog, leaf_map, ChainNames, OwnsPages, Owns, Placed, Indexed}
-use Rattle.tree_law.proofs.Words.{PageOwner, Fresh, rank, Removed, Held, Merged, Stage, rank_of, child_of, mark, put, Shared, IsTree, spec, IsOff, Off, SidePage, InPlace, HasLevels, KnowsBy}
+use Rattle.tree_law.proofs.Words.{PageOwner, Fresh, rank, stage_removed, Removed, Merged, Stage, rank_of, child_of, mark, put, Shared, IsTree, spec, IsOff, Off, SidePage, InPlace, HasLevels, KnowsBy}
 use Rattle.traces.specs.discipline.Discipline.{IsBeyond}
 use Rattle.tree_law.specs.Tree.{FreeAreUnowned}
 use Rattle.tree_law.proofs.shape.KeyOrder.{covers_from}
@@ -11,23 +11,32 @@ use Rattle.tree_law.proofs.shape.Puts.{by_equal}
 use Rattle.tree_law.proofs.shape.Chains.{chain_unique}
 use Rattle.tree_law.proofs.shape.Kept.{Kept, cleared_forward, reached_placed, placed_reached, chain_kept, knows_kept, owns_spared, pages_spared}
 use Rattle.tree_law.proofs.shape.Sides.{locate}
-use Rattle.tree_law.proofs.shape.Relinked.{in_level_as, right_page, tree_kept}
+use Rattle.tree_law.proofs.shape.Relinked.{in_level_as, off_as, right_page, tree_kept}
 use Rattle.tree_law.proofs.shape.Frames.{Change, kept_change, spared_change, change_none, knows_more, chain_stands}
 
 pub spec_leaf : (log : List Update) (index : ℕ → Key → Option ContentOf) (l : ℕ) → l ≡ 0 → (k : Key) → spec log index l k ≡ leaf_map log k
-spec_leaf log index l e k = ap (λ n. spec log index n k) e
+spec_leaf log index l e k = rw e
 
 pub on_or_merged : (st : Stage) → (rank st ≤ 3) ⊎ (st ≡ Merged)
 on_or_merged Merged = inr refl
 on_or_merged st = inl (omega arith)
 
+-- a term that isn't held is that of an indexed page
+pub indexed_mark : (st : Stage) (q : ℕ) → mark st q ≡ Some (Child q false) → st ≡ Indexed
+indexed_mark Indexed q e = refl
+indexed_mark other q e = absurd (cc)
+
+-- of the stages on a side chain one is a removed page's
+pub is_gone : (st : Stage) → rank st ≤ 3 → stage_removed st ≡ true → st ≡ Removed
+is_gone Removed on gone = refl
+is_gone Merged on gone = absurd (omega (arith, on))
+is_gone other on gone = absurd (cc)
+
 -- a page is as far as its term says
 marked_rank : (st : Stage) (q : ℕ) (i : ContentOf) → mark st q ≡ Some i → rank_of i ≤ rank st
 marked_rank Fresh q i e = absurd (cc)
-marked_rank Indexed q i e = subst (λ (c : ContentOf). rank_of c ≤ 1) (same_Some (Child q false) i e) (omega arith)
-marked_rank Held q i e = subst (λ (c : ContentOf). rank_of c ≤ 2) (same_Some (Child q true) i e) (omega arith)
-marked_rank Removed q i e = subst (λ (c : ContentOf). rank_of c ≤ 3) (same_Some (Child q true) i e) (omega arith)
-marked_rank Merged q i e = subst (λ (c : ContentOf). rank_of c ≤ 4) (same_Some (Child q true) i e) (omega arith)
+marked_rank Indexed q i e = rw (← same_Some (Child q false) i e) (omega arith)
+marked_rank stage q i e = rw (← same_Some (Child q true) i e) (omega arith)
 
 module _ {m : Shared} {log : List Update} {o : Owners} {knows : ℕ → Knowledge} {point : ℕ → Option (List Update)} {logs : ℕ → List (List Update)} (g : IsTree m log o knows point logs) (a : ℕ) where
   -- what a step of the actor leaves
@@ -169,7 +178,7 @@ module _ {m : Shared} {log : List Update} {o : Owners} {knows : ℕ → Knowledg
         (low_in n.0.chain, n.2, placed_reached (level_in p.chain) (low_in n.0.chain) n.3.stage (o.page q) (ap o.page (sym n.1) ∙ n.3.placed));
     items = λ l s i at v d.
         let n = (g.tree.exact.named l s i (sym (e.is_page.same s v ∙ ap (λ n. spec log o.index n s) at) ∙ d)).1 in
-        subst (λ (w : PageOwner). Reached (rank_of i) l s w) (sym n.1) (refl, refl, marked_rank n.0 (child_of i) i n.2);
+        rw n.1 (refl, refl, marked_rank n.0 (child_of i) i n.2);
   }
 
   -- a removed page that was read and stands right of a page is on its side chain, with the chain that was read
@@ -194,7 +203,7 @@ module _ {m : Shared} {log : List Update} {o : Owners} {knows : ℕ → Knowledg
 
   -- a page that was met is in the tree
   pub lower : (r l : ℕ) (s : Key) (w : PageOwner) → Reached r l s w → Reached 0 l s w
-  lower r l s w h = elim (reached_placed r l s w h) [ inl u ↦ placed_reached l s u.0 w u.1 | inr u ↦ subst (λ (v : PageOwner). Reached 0 l s v) (sym u.1) (refl, refl) ]
+  lower r l s w h = elim (reached_placed r l s w h) [ inl u ↦ placed_reached l s u.0 w u.1 | inr u ↦ rw u.1 (refl, refl) ]
 
   pub met_placed : (p : ℕ) → ((knows a).read.roots p ≡ true) ⊎ IsMet (knows a) p → (l : ℕ) × (s : Key) × Reached 0 l s (o.page p)
   met_placed p (inl e) = let i = mine.roots_fit p e in (i.0, [], i.1)
@@ -220,17 +229,7 @@ module _ {m : Shared} {log : List Update} {o : Owners} {knows : ℕ → Knowledg
       → IsOut (o'.page q) (m'.slots q) ⊎ Off o' m' q l k
   off_still o' m' kept q l k s (inl e) = inl (s ∙ e.0, cleared_forward (o.page q) (o'.page q) (kept.page q) e.1)
   off_still o' m' kept q l k s (inr w) =
-      inr (record {
-        row = w.row;
-        chain = w.chain;
-        head = s ∙ w.head;
-        linked = (kept.row w.row w.linked).0;
-        is_chain = chain_kept g.closed kept w.chain
-            (Some w.row) w.linked w.is_chain;
-        flagged = w.flagged;
-        level = w.level;
-        low = w.low;
-      })
+      inr (off_as w s (kept.row w.row w.linked).0 (chain_kept g.closed kept w.chain (Some w.row) w.linked w.is_chain))
 
   -- at a step that touches no slot and no page
   pub tree_at : (row : ℕ → Owner) (m' : Shared) → Kept o (record o { row = row }) m m' → m'.slots ≡ m.slots → m'.root ≡ m.root → HasLevels (record o { row = row }) m' log

@@ -1,13 +1,12 @@
 -- The exchanges that merge a removed page into its left one, and that clear a merged page's slot.
-use Rattle.tree_law.proofs.Words.{◌⊎◌, ap, refl, Option, None, List, true, inl, ◌≢◌, ◌≤◌, inr, ◌∷◌, subst, sym, ℕ, ◌≡◌, ◌∙◌, arith, Some, same_Some, IsSome, Update, Reply, Record, Merge, right_in}
-use Rattle.tree_law.proofs.Words.{low_in, is_removed, level_in, high_in, HasRead, MayMerge, Knowledge, after_reply, Foreign, Gone, Written, after_filling}
-use Rattle.tree_law.proofs.Words.{after_emptying, handed_over, Key, IsBelow, Covers, Linked}
-use Rattle.tree_law.proofs.Words.{Owners, Spare, IsOut, OwnFits, IsChain, Placed, PageOwner, Cleared, rank, Removed, Merged, Stage, stage_removed, put, Shared, IsTree, spec, IsOff, SidePage, InPlace}
-use Rattle.traces.specs.discipline.Knowledge.{after_clear}
+use Rattle.tree_law.proofs.Words.{◌⊎◌, ap, refl, Option, None, List, true, inl, ◌≢◌, inr, ◌∷◌, subst, sym, ℕ, ◌≡◌, ◌∙◌, arith, Some, same_Some, IsSome, Update, Reply, Record, Merge}
+use Rattle.tree_law.proofs.Words.{right_in, low_in, is_removed, level_in, high_in, HasRead, MayMerge, Knowledge, after_reply, Foreign, Gone, Written, after_filling, after_emptying, handed_over}
+use Rattle.tree_law.proofs.Words.{Key, IsBelow, Covers, Linked, Owners, Spare, IsOut, OwnFits, IsChain, Placed, PageOwner, Cleared, rank, Removed, Merged, put, Shared}
+use Rattle.tree_law.proofs.Words.{IsTree, spec, IsOff, SidePage, InPlace, after_clear}
 use Rattle.tree_law.proofs.shape.{not_below, upto_same, under_trans, by_range, covers_to, by_equal, put_same, put_other, put_all, chain_unique, chain_kept, in_level_as, one_chain, right_page}
 use Rattle.tree_law.proofs.shape.{tree_kept, tree_merged, placed_level, exact_going, row_own, row_same, page_same, page_stage, page_link, page_gone, Change, kept_change}
 use Rattle.tree_law.proofs.shape.{closed_kept, chain_stands}
-use Rattle.tree_law.proofs.links.Keeping.{put_tree, mine, mine_at, off_still}
+use Rattle.tree_law.proofs.links.Keeping.{put_tree, mine, mine_at, off_still, is_gone}
 use Rattle.tree_law.proofs.links.Relinking.{LinkedTree, not_off, Found, not_own, found, found_as, place_of}
 use Rattle.tree_law.proofs.links.Updating.{below_top}
 use Rattle.tree_law.proofs.shape.Kept.{Kept}
@@ -147,13 +146,8 @@ module _ {m : Shared} {log : List Update} {o : Owners} {knows : ℕ → Knowledg
           (in_level_as (g.tree.levels lv (g.tree.exact.below p lv (low_in c) place.stage place.placed)) q (low_in next.0.chain) next.3.stage
           (ap o.page (sym next.1) ∙ next.3.placed) next.3.on h.row slot d fd.stands).place
 
-      is_frozen : (st : Stage) → rank st ≤ 3 → stage_removed st ≡ true → st ≡ Removed
-      is_frozen Removed i e = refl
-      is_frozen Merged i e = absurd (omega arith)
-      is_frozen st i e = absurd (cc)
-
       was : o.page q ≡ Placed Removed lv sq
-      was = removed_place.placed ∙ ap (λ st. Placed st lv sq) (is_frozen removed_place.stage removed_place.on (sym removed_place.flagged ∙ h.gone))
+      was = removed_place.placed ∙ ap (λ st. Placed st lv sq) (is_gone removed_place.stage removed_place.on (sym removed_place.flagged ∙ h.gone))
 
       level : level_in d ≡ lv
       level = removed_place.is_page.on_level

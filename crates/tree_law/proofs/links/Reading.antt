@@ -1,7 +1,7 @@
 -- The reads keep the invariant. At the read of a slot it is known for is_tree what stood in the slots that were read before.
-use Rattle.tree_law.proofs.Words.{ap, refl, Option, None, List, true, inl, ◌≤◌, ◌∷◌, subst, sym, ℕ, ◌≡◌, ◌∙◌, arith, Some, same_Some, IfSome, Update, Reply, Row, Child, next_row}
+use Rattle.tree_law.proofs.Words.{ap, refl, Option, None, List, true, inl, ◌≤◌, ◌∷◌, sym, ℕ, ◌≡◌, ◌∙◌, arith, Some, same_Some, IfSome, Update, Reply, Row, Child, next_row}
 use Rattle.tree_law.proofs.Words.{Record, low_in, is_removed, level_in, Knowledge, after_reply, learn, learnt_next, learn_head, Linked, Owners, Reached, IsLinked, HeadFits, OrderFits, SpellsLog}
-use Rattle.tree_law.proofs.Words.{SeenFits, Placed, Indexed, PageOwner, put, Shared, IsTree, [], inr}
+use Rattle.tree_law.proofs.Words.{SeenFits, Placed, Indexed, put, Shared, IsTree, [], inr}
 use Rattle.bw_model.specs.declared.step.Answer.TheVariants as answer
 use Rattle.tree_law.proofs.shape.{by_equal, put_all, chain_unique, reached_placed, placed_reached, in_level_as, no_gap, right_page, name_more}
 use Rattle.tree_law.proofs.links.Keeping.{spec_leaf, on_or_merged, quiet, mine, alive_place, beyond_place, place_names}
@@ -74,9 +74,9 @@ module _ {m : Shared} {log : List Update} {o : Owners} {knows : ℕ → Knowledg
                 | inl on ↦ absurd (
                     let b = no_gap (g.tree.levels (level_in d) (g.tree.exact.below q (level_in d) k u.0 u.1)) (record { page = p; row = x; chain = d }) w q k u.0 u.1 on lo hi in
                     ne b.0 b.1)
-                | inr e ↦ subst (λ (v : PageOwner). Reached 4 (level_in d) k v) (sym (u.1 ∙ ap (λ st. Placed st (level_in d) k) e)) (refl, refl, (let z : 4 ≤ 4 = omega arith in z))
+                | inr e ↦ rw (u.1 ∙ ap (λ st. Placed st (level_in d) k) e) (refl, refl, (let z : 4 ≤ 4 = omega arith in z))
               ]
-              | inr u ↦ subst (λ (v : PageOwner). Reached 4 (level_in d) k v) (sym u.1) (refl, refl)
+              | inr u ↦ rw u.1 (refl, refl)
             ];
       }
 

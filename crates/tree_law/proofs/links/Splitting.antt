@@ -1,5 +1,5 @@
 -- The exchange that links a split: the new page comes between the old one and its right.
-use Rattle.tree_law.proofs.Words.{ap, refl, cond, Option, None, List, inl, ◌≢◌, inr, ◌∷◌, sym, ℕ, ◌≡◌, ◌∙◌, arith, Some, not, Update, Reply, Record, Split, SplitOf, content_in, low_in}
+use Rattle.tree_law.proofs.Words.{ap, refl, Option, List, inl, ◌≢◌, inr, ◌∷◌, sym, ℕ, ◌≡◌, ◌∙◌, arith, Some, Update, Reply, Record, Split, SplitOf, content_in, low_in}
 use Rattle.tree_law.proofs.Words.{level_in, high_in, base_from, HasRead, MaySplit, Knowledge, after_reply, Other, Written, after_filling, handed_page, handed_over, Key, IsBelow, Covers, Linked}
 use Rattle.tree_law.proofs.Words.{Owners, Spare, Placed, Keeps, Fresh, Stage, put, Shared, IsTree, []}
 use Rattle.tree_law.proofs.shape.{under_trans, upto_trans, below_not, covers_to, by_equal, put_same, put_other, tree_relinked, placed_level, exact_fresh, row_own, row_same}
@@ -10,7 +10,7 @@ use Rattle.tree_law.proofs.shape.Kept.{Kept}
 
 -- what a split leaves below its separator
 split_below : (split : SplitOf) (c : List Record) (k : Key) → IsBelow k split.separator → content_in (Split split ∷ c) k ≡ content_in c k
-split_below split c k h = ap (λ t. cond (not t) None (content_in c k)) h
+split_below split c k h = rw h
 
 module _ {m : Shared} {log : List Update} {o : Owners} {knows : ℕ → Knowledge} {point : ℕ → Option (List Update)} {logs : ℕ → List (List Update)} (g : IsTree m log o knows point logs) (a : ℕ) where
   pub keeps_not : (q : ℕ) → o.page q ≡ Keeps a → (l : ℕ) (s : Key) (st : Stage) → o.page q ≡ Placed st l s → ⊥

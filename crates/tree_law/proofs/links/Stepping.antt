@@ -7,7 +7,7 @@ use Rattle.tree_law.proofs.Words.{base_from, HasRead, update_record, MayPost, Is
 use Rattle.tree_law.proofs.Words.{MayRemove, IsFitted, IsUnheld, Knowledge, after_reply, Ready}
 use Rattle.tree_law.proofs.Words.{learn, Empty, OwnPage, Gone, Written, after_filling, after_emptying, IsAnswer, memory_after, IsAdded, Key, put_key, IsReuse}
 use Rattle.tree_law.proofs.Words.{IsMoved, Next, IsHomed, Linked, Owners, Spare}
-use Rattle.tree_law.proofs.Words.{PageFits, Placed, Indexed, PageOwner, Cleared, Keeps, Fresh, Removed, Held, Merged, Phased, LinkMoves, put, shared_part, slot_in, row_in, Shared, IsTree, []}
+use Rattle.tree_law.proofs.Words.{PageFits, Placed, Indexed, PageOwner, Keeps, Fresh, Phased, LinkMoves, put, shared_part, slot_in, row_in, Shared, IsTree, []}
 use Rattle.tree_law.proofs.shape.{read_linked, chain_stands, by_equal, put_other, own_spare}
 use Rattle.tree_law.proofs.links.Keeping.{idles, enters, leaves, slot_of, met_placed}
 use Rattle.tree_law.proofs.links.Reading.{reads_root, reads_slot, reads_row}

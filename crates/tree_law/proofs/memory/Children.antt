@@ -1,17 +1,13 @@
 -- The page that a term names, and the term that a removed page has.
-use Rattle.tree_law.proofs.Words.{false, true, [], ap, refl, suc, List, inl, inr, ◌≤◌, subst, sym, ℕ, ◌≡◌, Bool, ◌∙◌, ◌<◌, arith, Some, cases_lt, Contains, IsTrue, Limits, ContentOf, Child, Record}
-use Rattle.tree_law.proofs.Words.{content_in, covers, is_removed, low_in, LivePage, Entry, memory_of, IsFitted, Key, Covers, Placed, Indexed, Removed, Merged}
-use Rattle.tree_law.proofs.Words.{Stage, mark, rank, stage_removed, shared_part, IsState, Off}
-use Rattle.base_page.proofs.PageLaws.{belongs}
+use Rattle.tree_law.proofs.Words.{false, true, [], ap, refl, suc, List, inl, inr, ◌≤◌, subst, sym, ℕ, ◌≡◌, Bool, ◌∙◌, ◌<◌, arith, Some, cases_lt, Contains, IsTrue, Limits, ContentOf, Child}
+use Rattle.tree_law.proofs.Words.{Record, content_in, covers, is_removed, low_in, LivePage, Entry, memory_of, IsFitted, Key, Covers, Placed, Indexed, Removed, Merged, Stage, mark}
+use Rattle.tree_law.proofs.Words.{stage_removed, shared_part, IsState, Off, belongs, is_below, page_of, ruled}
 use Rattle.base_page.specs.Places.{IsGreatest}
-use Rattle.bw_model.specs.Bytes.{is_below}
-use Rattle.traces.proofs.FittedLaws.{page_of, ruled}
 use Rattle.tree_law.specs.OneMemory.{IsChildAt}
-use Rattle.tree_law.proofs.links.Keeping.{on_or_merged}
+use Rattle.tree_law.proofs.links.Keeping.{on_or_merged, indexed_mark, is_gone}
 use Rattle.tree_law.proofs.memory.Neighbours.{left_term}
 use Rattle.tree_law.proofs.memory.Pages.{covering_on, each, in_range, listed, on_level, page_on, pages, stands}
 use Rattle.tree_law.proofs.shape.KeyOrder.{covers_from}
-use Rattle.tree_law.proofs.shape.LevelPages.{indexed_mark}
 use Rattle.tree_law.proofs.shape.Mapping.{chain_at, live}
 use Rattle.tree_law.proofs.shape.Puts.{by_equal}
 
@@ -21,12 +17,6 @@ in_own_range chain fitted key content e =
     let made = page_of chain fitted in
     let b = belongs made.0 (ruled chain made.0 fitted made.1).is_page key content (made.1.items.contents key ∙ e) in
     rw made.1.low at (rw made.1.high at b.within)
-
--- of the stages on a side chain one is a removed page's
-is_gone : (st : Stage) → rank st ≤ 3 → stage_removed st ≡ true → st ≡ Removed
-is_gone Removed on gone = refl
-is_gone Merged on gone = absurd (omega (arith, on))
-is_gone other on gone = absurd (cc)
 
 module _ (limits : Limits) (entries : List Entry) (state : IsState limits entries) where
   abbrev Pages : ℕ → List LivePage
@@ -75,11 +65,11 @@ module _ (limits : Limits) (entries : List Entry) (state : IsState limits entrie
   child l pid above key held has e =
       let a = on_level limits entries state (suc l) above has in
       let chain : a.place.chain ≡ above.chain = ap (λ (p : LivePage). p.chain) a.is in
-      let content : content_in a.place.chain key ≡ Some (Child pid held) = ap (λ c. content_in c key) chain ∙ e in
+      let content : content_in a.place.chain key ≡ Some (Child pid held) = rw chain e in
       let within : IsTrue (covers a.place.chain key) = in_own_range a.place.chain (state.fitted a.place.row a.here.linked a.place.chain a.here.is_page.is_chain).fitted key (Child pid held) content in
       let inside : Covers a.place.chain key = covers_from a.place.chain key within in
       let named = (state.is_tree.tree.exact.named l key (Child pid held) (sym (a.here.is_page.same key inside) ∙ content)).1 in
-      (subst (λ c. IsTrue (covers c key)) chain within, child_at l pid key held named.0 named.1 named.2)
+      (rw (← chain) within, child_at l pid key held named.0 named.1 named.2)
 
   -- a removed page is below the root's level
   below_root : (q l : ℕ) (s : Key) → state.owners.page q ≡ Placed Removed l s → l ≤ state.is_tree.tree.top → l < state.is_tree.tree.top

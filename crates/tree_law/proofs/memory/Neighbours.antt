@@ -1,16 +1,14 @@
 -- The greatest term below a held one is in the same page, and isn't held.
-use Rattle.tree_law.proofs.Words.{false, true, [], ap, refl, Option, None, Some, List, ◌∷◌, subst, sym, ℕ, ◌≡◌, ◌∙◌, ◌<◌, arith, same_Some, IsSome}
-use Rattle.tree_law.proofs.Words.{key_cmp, is_below, ContentOf, Child, Value, Item, Record, content_at, content_in, level_in, Key, IsFitted}
-use Rattle.std.specs.List.{AllByRecursion}
-use Rattle.std.specs.Ordering.{is_eq, is_lt}
+use Rattle.tree_law.proofs.Words.{false, true, [], ap, refl, Option, None, Some, List, ◌∷◌, subst, sym, ℕ, ◌≡◌, ◌∙◌, ◌<◌, arith, same_Some, IsSome, key_cmp, is_below, ContentOf, Child, Value}
+use Rattle.tree_law.proofs.Words.{Item, Record, content_at, content_in, level_in, Key, IsFitted, AllByRecursion, is_eq, same, found_first, page_of, ruled}
+use Rattle.std.specs.Ordering.{is_lt}
 use Rattle.std.specs.declared.cmp.Ordering.TheVariants.{Less}
 use Rattle.std.proofs.lemmas.List.Elements.{recursion_from_All}
 use Rattle.base_page.specs.Pages.{IsOfLevel}
 use Rattle.base_page.specs.Places.{IsGreatest}
 use Rattle.base_page.specs.Rules.{AreApart, IsFirstAt, is_held}
 use Rattle.base_page.proofs.ItemLaws.{AllAbove, Ascends, Ascends-from, all-weaker, of_content}
-use Rattle.base_page.proofs.KeyLaws.{above, by_order, differs_above, either, itself, same}
-use Rattle.traces.proofs.FittedLaws.{found_first, page_of, ruled}
+use Rattle.base_page.proofs.KeyLaws.{above, by_order, differs_above, either, itself}
 
 -- of the items below the key the greatest is a child's, and isn't held
 abbrev IsLeft : List Item → Key → Type 0

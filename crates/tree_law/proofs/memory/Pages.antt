@@ -78,7 +78,7 @@ module _ (limits : Limits) (entries : List Entry) (state : IsState limits entrie
           record {
             place = f.0;
             is = f.1;
-            contains = subst (λ d. Contains (pages_by l d) (live f.0)) (sym is) f.2;
+            contains = rw is f.2;
             here = f.3;
             begins = let w : Placed f.3.stage l (low_in f.0.chain) ≡ Placed st l s = sym f.3.placed ∙ ap owners.page f.1 ∙ e in cc;
           }
@@ -133,15 +133,15 @@ module _ (limits : Limits) (entries : List Entry) (state : IsState limits entrie
   one l page other key has had inside within =
       let a = on_level l page has in
       let b = on_level l other had in
-      let first : Covers a.place.chain key = covers_from a.place.chain key (subst (λ (p : LivePage). IsTrue (covers p.chain key)) (sym a.is) inside) in
-      let second : Covers b.place.chain key = covers_from b.place.chain key (subst (λ (p : LivePage). IsTrue (covers p.chain key)) (sym b.is) within) in
+      let first : Covers a.place.chain key = covers_from a.place.chain key (rw (← a.is) at inside) in
+      let second : Covers b.place.chain key = covers_from b.place.chain key (rw (← b.is) at within) in
       let pid : a.place.page ≡ b.place.page = same_page (state.is_tree.tree.levels l a.le) a.place b.place a.here b.here key first second in
       let chain : a.place.chain ≡ b.place.chain = one_chain owners (shared_part memory) l (decides l) (decides l) b.place a.place b.here a.here pid in
       let same : live a.place ≡ live b.place = (λ i. record { pid = pid i; chain = chain i }) in
       sym a.is ∙ same ∙ b.is
 
   pub spans : (l : ℕ) (page : LivePage) → Contains (pages l) page → IsUnder (low_in page.chain) (high_in page.chain)
-  spans l page has = let o = on_level l page has in subst (λ (p : LivePage). IsUnder (low_in p.chain) (high_in p.chain)) o.is o.here.is_page.some
+  spans l page has = let o = on_level l page has in rw (← o.is) o.here.is_page.some
 
   pub right : (l : ℕ) (page : LivePage) (next : ℕ) → Contains (pages l) page → right_in page.chain ≡ Some next
       → (after : LivePage) × Contains (pages l) after × (after.pid ≡ next) × (high_in page.chain ≡ Some (low_in after.chain))

@@ -1,11 +1,9 @@
 -- Of the terms of a removed page none is held.
-use Rattle.tree_law.proofs.Words.{false, true, ap, refl, List, ◌∷◌, [], subst, sym, ℕ, ◌≡◌, Bool, ◌∙◌, Contains, Limits, Record, Remove, RemoveOf, is_removed}
-use Rattle.tree_law.proofs.Words.{LivePage, Entry, memory_of, IsChainFrom, IsFitted, IsUnheld, IsState}
+use Rattle.tree_law.proofs.Words.{false, true, ap, refl, List, ◌∷◌, [], subst, sym, ℕ, ◌≡◌, Bool, ◌∙◌, Contains, Limits, Record, Remove, RemoveOf, is_removed, LivePage, Entry, memory_of}
+use Rattle.tree_law.proofs.Words.{IsChainFrom, IsFitted, IsUnheld, IsState, next_row, is_some, Page}
 use Rattle.deltas.specs.declared.record.Record.TheVariants as kind
 use Rattle.deltas.specs.Fits.{FitsOnPage}
-use Rattle.deltas.specs.Records.{next_row, removed_after}
-use Rattle.std.specs.Prelude.{is_some}
-use Rattle.base_page.specs.Pages.{Page}
+use Rattle.deltas.specs.Records.{removed_after}
 use Rattle.tree_law.proofs.memory.Pages.{on_level, pages}
 
 -- a page that wasn't removed isn't where nothing changes that
@@ -37,4 +35,4 @@ unheld limits entries state l page has gone =
     let below : IsUnheld under = state.unheld a.place.row remove under a.here.linked stands.0 stands.1 in
     let whole : IsUnheld (Remove remove ∷ under) = below in
     let here : IsUnheld a.place.chain = subst IsUnheld (sym is) whole in
-    subst (λ (p : LivePage). IsUnheld p.chain) a.is here
+    rw (← a.is) here

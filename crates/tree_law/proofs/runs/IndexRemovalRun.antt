@@ -1,9 +1,7 @@
 -- Each step of the run in which an index page is removed is allowed.
-use Rattle.tree_law.proofs.Words.{false, [], refl, None, true, inl, inr, ◌∷◌, ℕ, ◌≡◌, ◌≤◌, List, Bool, arith, Some, take, drop, lit<, All-from_recursion}
-use Rattle.tree_law.proofs.Words.{IsPage-from, Page, IsPage, IsRuled, held_count, Child, Item, Applies, HasPid}
-use Rattle.tree_law.proofs.Words.{FitsOn, IsFitted, IsBelow, IsFalse, content_at, MayAdd, MayRoot, IsMet, IsDisciplined, MayReply, knows, Knowledge, Ready}
-use Rattle.tree_law.proofs.Words.{Empty, OwnPage, Other, small, root_a, a, two_splits, upper_b, second_split, Key}
-use Rattle.bw_model.specs.Bytes.{is_below}
+use Rattle.tree_law.proofs.Words.{false, [], refl, None, true, inl, inr, ◌∷◌, ℕ, ◌≡◌, ◌≤◌, List, Bool, arith, Some, take, drop, lit<, All-from_recursion, IsPage-from, Page, IsPage, IsRuled}
+use Rattle.tree_law.proofs.Words.{held_count, Child, Item, Applies, HasPid, FitsOn, IsFitted, IsBelow, IsFalse, content_at, MayAdd, MayRoot, IsMet, IsDisciplined, MayReply, knows, Knowledge}
+use Rattle.tree_law.proofs.Words.{Ready, Empty, OwnPage, Other, small, root_a, a, two_splits, upper_b, second_split, Key, is_below}
 use Rattle.std.specs.List.Sorted.{IsStrictlySortedBy}
 use Rattle.bw_model.specs.declared.command.Reply.TheVariants as reply
 use Rattle.traces.proofs.UnheldLaws.{unheld_at}

@@ -1,12 +1,10 @@
 -- Each step of the runs with cursor pages is allowed.
-use Rattle.tree_law.proofs.Words.{false, [], refl, cond, suc, None, Option, List, true, inl, ◌++◌, inr, ◌∷◌, subst, sym, ℕ, ◌≡◌, zero, ◌<◌, arith, Some, take}
-use Rattle.tree_law.proofs.Words.{lit<, Contains, IsTrue, not, slice_index_or}
-use Rattle.tree_law.proofs.Words.{codes, is_in_range, is_below, ArePairsOf, Record, MayReply, chain_value, value_of, MayAdd, IsMet, IsDisciplined, HoldsBack}
-use Rattle.tree_law.proofs.Words.{knows, Entry, Knowledge, small, right_term}
-use Rattle.tree_law.proofs.Words.{root_a, a, hold_a, other_put, helped_term, helped_split, Key, removal, upper_c, b}
+use Rattle.tree_law.proofs.Words.{false, [], refl, cond, suc, None, Option, List, true, inl, ◌++◌, inr, ◌∷◌, subst, sym, ℕ, ◌≡◌, zero, ◌<◌, arith, Some, take, lit<, Contains, IsTrue, not}
+use Rattle.tree_law.proofs.Words.{slice_index_or, codes, is_in_range, is_below, ArePairsOf, Record, MayReply, chain_value, value_of, MayAdd, IsMet, IsDisciplined, HoldsBack, knows, Entry}
+use Rattle.tree_law.proofs.Words.{Knowledge, small, right_term, root_a, a, hold_a, other_put, helped_term, helped_split, Key, removal, upper_c, b, key_before}
 use Rattle.std.specs.List.Sorted.{IsStrictlySortedBy}
 use Rattle.bw_model.specs.declared.command.Reply.TheVariants as reply
-use Rattle.bw_model.specs.NextKeys.{key_after, key_before}
+use Rattle.bw_model.specs.NextKeys.{key_after}
 use Rattle.tree_law.specs.CursorPages.{page_a, page_b, back_b, tidy_b, upkeep, last_page, back_page}
 use Rattle.tree_law.proofs.runs.GoingLeft.{removed, held_child, left_child, right_beyond, beside}
 use Rattle.tree_law.proofs.runs.HelpFits.{grown, right_fits, term_applies}

@@ -90,9 +90,8 @@ module _ (m : Memory) {log : List Update} {o : Owners} {knows : ℕ → Knowledg
       go (TakePid p) (Whether true) e ph' = elsewhere o.page f' q l low st p (Keeps a) at on (λ i. let was : o.page p ≡ Nobody = taken_nobody p (cc) in absurd (cc)) ph'
       go (Exchange zero old new) (Whether true) e ph' = by_root o.page f' (shared_part m) a old new ph' q l low st at on
       go (Exchange (suc p) zero zero) (Whether true) e ph' = unchanged o.page f' q l low st at on ph'.0
-      go (Exchange (suc p) zero (suc new)) (Whether true) e ph' = unchanged o.page f' q l low st at on ph'.0
-      go (Exchange (suc p) (suc old) zero) (Whether true) e ph' = unchanged o.page f' q l low st at on ph'.0
       go (Exchange (suc p) (suc old) (suc new)) (Whether true) e ph' = by_links o.page f' (shared_part m) a ph'.0 (suc p) ph'.2 q l low st at on
+      go (Exchange (suc p) old new) (Whether true) e ph' = unchanged o.page f' q l low st at on ph'.0
       go (Exchange p old new) (Whether false) e ph' = unchanged o.page f' q l low st at on ph'
       go (TakePid p) (Whether false) e ph' = unchanged o.page f' q l low st at on ph'
       go (ReusePids word bits) y e ph' = elim (decided (is_among word bits q)) [ inl k ↦ absurd (let v = (ph' q).0 k in let f = sym at ∙ v.3 in cc) | inr k ↦ inl (st, (ph' q).1 k ∙ at, on) ]
@@ -110,9 +109,8 @@ module _ (m : Memory) {log : List Update} {o : Owners} {knows : ℕ → Knowledg
       go (TakePid p) (Whether true) e ph' = put_back o.page f' (shared_part m) a q l low st p (Keeps a) at ph' (λ i. absurd (cc))
       go (Exchange zero old new) (Whether true) e ph' = root_back o.page f' (shared_part m) a old new ph' q l low st at
       go (Exchange (suc p) zero zero) (Whether true) e ph' = same ph'.0
-      go (Exchange (suc p) zero (suc new)) (Whether true) e ph' = same ph'.0
-      go (Exchange (suc p) (suc old) zero) (Whether true) e ph' = same ph'.0
       go (Exchange (suc p) (suc old) (suc new)) (Whether true) e ph' = links_back o.page f' (shared_part m) a ph'.0 (suc p) ph'.2 q l low st at
+      go (Exchange (suc p) old new) (Whether true) e ph' = same ph'.0
       go (Exchange p old new) (Whether false) e ph' = same ph'
       go (TakePid p) (Whether false) e ph' = same ph'
       go (ReusePids word bits) y e ph' = elim (decided (is_among word bits q))

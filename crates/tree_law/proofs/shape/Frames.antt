@@ -1,5 +1,5 @@
 -- What a step touches was free or its actor's own: so all else stays.
-use Rattle.tree_law.proofs.Words.{false, ◌⊎◌, ap, refl, Option, suc, None, List, true, inl, ◌≢◌, ◌≤◌, inr, ◌∷◌, subst, sym, ℕ, ◌≡◌, Bool, ◌∙◌, arith, Some, same_Some, IfSome, Update}
+use Rattle.tree_law.proofs.Words.{false, ◌⊎◌, ap, refl, Option, suc, None, List, true, inl, ◌≢◌, ◌≤◌, inr, ◌∷◌, sym, ℕ, ◌≡◌, Bool, ◌∙◌, arith, Some, same_Some, IfSome, Update}
 use Rattle.tree_law.proofs.Words.{next_row, Record, content_in, low_in, is_removed, level_in, Key, Covers, Free, Linked, Owners, Reached, Spare, IsOut, IsLinked, Owner, HeadFits, OrderFits, IsChain}
 use Rattle.tree_law.proofs.Words.{IsClosed, IsCleared, SpellsLog, Knows, leaf_map, SeenFits, Forward, Nobody, Placed, PageOwner, Cleared, Keeps, rank, Merged, Stage, put, Shared, []}
 use Rattle.tree_law.proofs.shape.Puts.{by_equal}
@@ -46,7 +46,7 @@ kept_change {a} {o} {o'} {m} {m'} c = record {
     staged : (w n : PageOwner) (st st' : Stage) (lv : ℕ) (low : Key) → w ≡ Placed st lv low → n ≡ Placed st' lv low → rank st ≤ rank st' → Forward w n
     staged w n st st' lv low e f le r l s h =
         let i = rw e at h in
-        subst (λ (v : PageOwner). Reached r l s v) (sym f) (i.0, i.1, (let j = i.2 in let g : r ≤ rank st' = omega arith in g))
+        rw f (i.0, i.1, (let j = i.2 in let g : r ≤ rank st' = omega arith in g))
 
     page : (w n : PageOwner) (u v : Option ℕ) → PageChange a o m m' w n u v → Forward w n
     page w n u v (page_free e) r l s h = absurd (rw e at h)
@@ -54,7 +54,7 @@ kept_change {a} {o} {o'} {m} {m'} c = record {
     page w n u v (page_same e f) r l s h = rw e h
     page w n u v (page_stage st st' lv low e f le i) r l s h = staged w n st st' lv low e f le r l s h
     page w n u v (page_link st st' lv low e f le x y d i j k z q) r l s h = staged w n st st' lv low e f le r l s h
-    page w n u v (page_clear lv low e f i g) r l s h = let i = rw e at h in subst (λ (v : PageOwner). Reached r l s v) (sym f) (i.0, i.1)
+    page w n u v (page_clear lv low e f i g) r l s h = let i = rw e at h in rw f (i.0, i.1)
     page w n u v (page_gone lv low e f i) r l s h = rw (e ∙ sym f) at h
 
     back : (w n : PageOwner) (u v : Option ℕ) (x l : ℕ) (s : Key) → PageChange a o m m' w n u v → Reached 0 l s w → o.row x ≡ Linked → v ≡ Some x → u ≡ Some x

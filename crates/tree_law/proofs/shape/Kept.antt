@@ -1,5 +1,5 @@
 -- What stays of what actors know: linked rows stay, and pages go forward.
-use Rattle.tree_law.proofs.Words.{false, ◌⊎◌, [], refl, Option, suc, None, List, true, inl, ◌≤◌, inr, ◌∷◌, subst, sym, ℕ, ◌≡◌, Bool, ◌∙◌, ◌<◌, arith, Some, same_Some, IfSome, Update}
+use Rattle.tree_law.proofs.Words.{false, ◌⊎◌, [], refl, Option, suc, None, List, true, inl, ◌≤◌, inr, ◌∷◌, sym, ℕ, ◌≡◌, Bool, ◌∙◌, ◌<◌, arith, Some, same_Some, IfSome, Update}
 use Rattle.tree_law.proofs.Words.{next_row, Record, low_in, is_removed, level_in, Foreign, OwnPage, Taken, Other, Gone, Written, OwnRow, Key, Covers, Linked, Owners, Reached, Spare, IsOut, OwnFits}
 use Rattle.tree_law.proofs.Words.{LinkFits, HeadFits, OrderFits, InOrder, PageFits, IsChain, IsClosed, IsCleared, SpellsLog, Knows, SeenFits, ChainNames, OwnsPages, Forward, Owns, Placed, PageOwner}
 use Rattle.tree_law.proofs.Words.{Cleared, Keeps, Fresh, rank, Stage, rank_of, child_of, Shared}
@@ -38,13 +38,13 @@ rank_below st = omega arith
 
 pub cleared_forward : (w n : PageOwner) → Forward w n → IsCleared w → IsCleared n
 cleared_forward w n f u =
-    elim (reached_placed 5 u.1 u.2 n (f 5 u.1 u.2 (subst (λ (v : PageOwner). Reached 5 u.1 u.2 v) (sym u.3) (refl, refl)))) [
+    elim (reached_placed 5 u.1 u.2 n (f 5 u.1 u.2 (rw u.3 (refl, refl)))) [
       | inl r ↦ absurd (let i = rank_below r.0 in let j = r.2 in omega arith)
       | inr r ↦ (r.0, u.1, u.2, r.1)
     ]
 
 pub placed_reached : (l : ℕ) (s : Key) (st : Stage) (w : PageOwner) → w ≡ Placed st l s → Reached 0 l s w
-placed_reached l s st w e = subst (λ (v : PageOwner). Reached 0 l s v) (sym e) (refl, refl, (let h : 0 ≤ rank st = omega arith in h))
+placed_reached l s st w e = rw e (refl, refl, (let h : 0 ≤ rank st = omega arith in h))
 
 -- the chain of a linked row stays
 pub chain_kept : {o o' : Owners} {m m' : Shared} → IsClosed o m → Kept o o' m m' → (c : List Record) (x : Option ℕ) → IfSome x (λ r. o.row r ≡ Linked) → IsChain m.rows c x → IsChain m'.rows c x
@@ -60,7 +60,7 @@ pub chain_back : {o o' : Owners} {m m' : Shared} → IsClosed o m → Kept o o' 
 chain_back {o} {o'} {m} {m'} closed kept c x l h =
     let k = closed x l in
     let d : IsChain m.rows (k.content ∷ k.rest) (Some x) = (k.stands, k.is_rest) in
-    subst (λ (e : List Record). IsChain m.rows e (Some x)) (chain_unique m'.rows (k.content ∷ k.rest) c (Some x) (chain_kept closed kept (k.content ∷ k.rest) (Some x) l d) h) d
+    rw (← chain_unique m'.rows (k.content ∷ k.rest) c (Some x) (chain_kept closed kept (k.content ∷ k.rest) (Some x) l d) h) d
 
 abbrev pub spells_kept : (o o' : Owners) (m m' : Shared) → IsClosed o m → Kept o o' m m' → (x : ℕ) (l : List Update) → SpellsLog o m x l → SpellsLog o' m' x l
 spells_kept o o' m m' closed kept x l s =

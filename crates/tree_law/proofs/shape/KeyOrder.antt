@@ -1,5 +1,5 @@
 -- The order of keys is total, and the empty key is lowest.
-use Rattle.tree_law.proofs.Words.{false, [], ap, refl, Option, None, List, true, inl, ◌≢◌, inr, ◌∷◌, subst, ◌≡◌, Bool, ◌∙◌, Some, is_eq, IsTrue, ◌&&◌, not, key_cmp, is_under, is_in_range}
+use Rattle.tree_law.proofs.Words.{false, [], ap, refl, Option, None, List, true, inl, ◌≢◌, inr, ◌∷◌, ◌≡◌, Bool, ◌∙◌, Some, is_eq, IsTrue, ◌&&◌, not, key_cmp, is_under, is_in_range}
 use Rattle.tree_law.proofs.Words.{is_below, Record, low_in, high_in, covers, Key, IsBelow, IsUpTo, Covers, IsUnder, put_key}
 use Rattle.std.specs.declared.cmp.Ordering.TheVariants.{Less, Equal, Greater}
 use Rattle.std.specs.Ordering.{is_lt, ordering_reverse}
@@ -23,7 +23,7 @@ pub upto_refl : (a : Key) → IsUpTo a a
 upto_refl a = ap is_lt (tied_itself nat_list_cmp_total a)
 
 pub upto_same : (a b : Key) → a ≡ b → IsUpTo a b
-upto_same a b e = subst (λ (k : Key). IsUpTo a k) e (upto_refl a)
+upto_same a b e = rw (← e) (upto_refl a)
 
 -- not below is at or above
 pub not_below : (a b : Key) → IsBelow a b → IsUpTo b a → ⊥

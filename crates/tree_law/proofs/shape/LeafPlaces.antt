@@ -1,12 +1,11 @@
 -- A page in its place on the lowest level is a leaf, and no other leaf has its keys; and what such a leaf has, the log has.
-use Rattle.tree_law.proofs.Words.{[], ap, refl, Option, suc, None, List, inl, inr, ◌∷◌, ℕ, ◌≡◌, sym, zero, ◌∙◌, arith, Some, map, Contains, option_map, IsTrue}
-use Rattle.tree_law.proofs.Words.{is_below, is_in_range, Update, ArePairsOf, ContentOf, Value, Memory, Record, content_in, right_in, low_in, high_in, covers}
-use Rattle.tree_law.proofs.Words.{chain_value, value_of, Knowledge, LivePage, HasMapOf, IsUnder, IsUpTo, Key, Owners, leaf_map, Placed}
-use Rattle.tree_law.proofs.Words.{shared_part, IsLeafWith, IsTree, HasSidePage, SidePage, InPlace, IsPart}
+use Rattle.tree_law.proofs.Words.{[], ap, refl, Option, suc, None, List, inl, inr, ◌∷◌, ℕ, ◌≡◌, sym, zero, ◌∙◌, arith, Some, map, Contains, option_map, IsTrue, is_below, is_in_range, Update}
+use Rattle.tree_law.proofs.Words.{ArePairsOf, ContentOf, Value, Memory, Record, content_in, right_in, low_in, high_in, covers, chain_value, value_of, Knowledge, LivePage, HasMapOf, IsUnder}
+use Rattle.tree_law.proofs.Words.{IsUpTo, Key, Owners, leaf_map, Placed, shared_part, IsLeafWith, IsTree, HasSidePage, SidePage, InPlace, IsPart, key_before}
 use Rattle.base_page.proofs.KeyLaws.{not_true}
 use Rattle.bw_model.proofs.NextKeyLaws.{after_is_above}
 use Rattle.bw_model.specs.Bytes.{IsShort}
-use Rattle.bw_model.specs.NextKeys.{key_after, key_before}
+use Rattle.bw_model.specs.NextKeys.{key_after}
 use Rattle.bw_model.specs.Pairs.{IsPairsOf}
 use Rattle.linearization.specs.Answered.{IsBackPage, IsCursorPage}
 use Rattle.tree_law.proofs.shape.Exactness.{is_indexed}
@@ -46,7 +45,7 @@ module _ (memory : Memory) {log : List Update} {o : Owners} {knows : ℕ → Kno
       }
 
 valued : (content : Option ContentOf) (value : Key) → value_of content ≡ Some value → content ≡ Some (Value value)
-valued (Some (Value v)) value e = ap (λ (w : Key). Some (Value w)) (let f : v ≡ value = cc in f)
+valued (Some (Value v)) value e = rw (let f : v ≡ value = cc in f)
 valued content value e = absurd (cc)
 
 -- the pairs of such a leaf in a range that lies within its own are those of the log

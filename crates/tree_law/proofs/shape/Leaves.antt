@@ -1,10 +1,10 @@
 -- The pages of each level of a state stand, and are fewer than there are slots.
 use Rattle.tree_law.proofs.Words.{false, [], ap, Option, None, List, true, inl, ◌≢◌, length, ◌≤◌, inr, ◌∷◌, sym, ℕ, ◌≡◌, ◌∙◌, ◌<◌, arith, Some, map, cases_lt, nat_tests, All-weaker}
-use Rattle.tree_law.proofs.Words.{All-from_recursion, All, ⊤, Update, Limits, ContentOf, Memory, right_in, low_in, high_in, LivePage, memory_of, turn_of, Entry, IsLinearized, log_of, HasMapOf, Key}
-use Rattle.tree_law.proofs.Words.{Owners, leaf_map, Placed, Fresh, Stage, shared_part, Shared, IsState, phase_of, Level, SidePage, InPlace, IsPart}
+use Rattle.tree_law.proofs.Words.{All-from_recursion, All, ⊤, Update, Limits, ContentOf, Memory, right_in, low_in, high_in, LivePage, memory_of, turn_of, Entry, IsLinearized, log_of, HasMapOf}
+use Rattle.tree_law.proofs.Words.{Key, Owners, leaf_map, Placed, Fresh, Stage, shared_part, Shared, IsState, phase_of, Level, SidePage, InPlace, IsPart, AllByRecursion}
 use Rattle.base_page.proofs.ItemLaws.{all-weaker}
 use Rattle.std.proofs.Math.Dec.{eqb}
-use Rattle.std.specs.List.{AllByRecursion, AllPairs, list_any}
+use Rattle.std.specs.List.{AllPairs, list_any}
 use Rattle.std.proofs.lemmas.Bool.Decides.{Decides-eqb}
 use Rattle.std.proofs.lemmas.List.{length-map, take_all}
 use Rattle.std.proofs.lemmas.List.Folds.{list_any_none}

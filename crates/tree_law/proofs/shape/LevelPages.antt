@@ -1,18 +1,17 @@
 -- All levels of a state stand, and each one's first page is the child at the empty key of the first page above it.
-use Rattle.tree_law.proofs.Words.{false, ap, refl, suc, List, ◌∷◌, ◌≤◌, subst, sym, ℕ, ◌≡◌, ◌∙◌, ◌<◌, arith, Option, Some, Limits, ContentOf, Child, Value, Item, Memory, Record}
-use Rattle.tree_law.proofs.Words.{IsChainOf, IsChainOf-unique, content_in, content_at, low_in, high_in, memory_of, log_of, Entry, Key, Covers, IsUnder}
-use Rattle.tree_law.proofs.Words.{Indexed, Stage, mark, rank, shared_part, IsState, spec, []}
-use Rattle.std.specs.List.{AllByRecursion}
+use Rattle.tree_law.proofs.Words.{false, ap, refl, suc, List, ◌∷◌, ◌≤◌, subst, sym, ℕ, ◌≡◌, ◌∙◌, ◌<◌, arith, Option, Some, Limits, ContentOf, Child, Value, Item, Memory, Record, IsChainOf}
+use Rattle.tree_law.proofs.Words.{IsChainOf-unique, content_in, content_at, low_in, high_in, memory_of, log_of, Entry, Key, Covers, IsUnder, Indexed, rank, shared_part, IsState}
+use Rattle.tree_law.proofs.Words.{spec, [], AllByRecursion, found_first, page_of, ruled}
 use Rattle.std.proofs.lemmas.List.Elements.{recursion_from_All}
 use Rattle.base_page.specs.Pages.{IsOfLevel}
 use Rattle.base_page.specs.Rules.{IsFirstAt, is_held}
 use Rattle.traces.specs.chain.Fitted.{IsPageChain}
-use Rattle.traces.proofs.FittedLaws.{found_first, page_of, ruled}
 use Rattle.tree_law.specs.LevelPages.{HasAllLevels}
 use Rattle.tree_law.proofs.shape.Exactness.{first_only, first_page}
 use Rattle.tree_law.proofs.shape.KeyOrder.{empty_lowest}
 use Rattle.tree_law.proofs.shape.Leaves.{pages_on}
 use Rattle.tree_law.proofs.shape.Mapping.{chain_of}
+use Rattle.tree_law.proofs.links.Keeping.{indexed_mark}
 
 -- an index page has a child at its low key, which isn't held
 first_child : (level : ℕ) (low : Key) (items : List Item) → 0 < level → AllByRecursion (λ item. IsOfLevel level item.content) items → IsFirstAt low items
@@ -22,12 +21,7 @@ first_child level low (item ∷ items) above kinds first = go item.content kinds
   where
     go : (content : ContentOf) → IsOfLevel level content → is_held content ≡ false → item.content ≡ content → (child : ℕ) × (content_at (item ∷ items) low ≡ Some (Child child false))
     go (Value value) kind free e = absurd (omega (arith, above, kind))
-    go (Child page held) kind free e = (page, subst (λ (k : Key). content_at (item ∷ items) k ≡ Some (Child page false)) first.0 (found_first item items ∙ ap Some (e ∙ ap (λ h. Child page h) free)))
-
--- a term that isn't held is that of an indexed page
-pub indexed_mark : (st : Stage) (q : ℕ) → mark st q ≡ Some (Child q false) → st ≡ Indexed
-indexed_mark Indexed q e = refl
-indexed_mark other q e = absurd (cc)
+    go (Child page held) kind free e = (page, rw (← first.0) (found_first item items ∙ ap Some (e ∙ ap (λ h. Child page h) free)))
 
 from_empty : (c : List Record) → low_in c ≡ [] → IsUnder (low_in c) (high_in c) → Covers c []
 from_empty c e some = record { low = rw e (empty_lowest []); high = rw e at some }

@@ -169,7 +169,7 @@ module _ (limits : Limits) {log : List Update} {o : Owners} {knows : ℕ → Kno
   root_first : (n : ℕ) → n ≤ 0 → IsRootLevel (memory_at limits [] n) start.top
   root_first n le =
       let none : 0 ≡ n = omega arith in
-      subst (λ k. IsRootLevel (memory_at limits [] k) start.top) none (subst (λ (x : Memory). IsRootLevel x start.top) (sym (whole_trace limits [] g)) (root_now limits [] g))
+      rw (← none) (subst (λ (x : Memory). IsRootLevel x start.top) (sym (whole_trace limits [] g)) (root_now limits [] g))
 
   top_first : (n l : ℕ) → n ≤ 0 → IsRootLevel (memory_at limits [] n) l → l ≡ start.top
   top_first n l le h = let none : n ≡ 0 = omega arith in top_is limits [] g l (rw (whole_trace limits [] g) at (rw none at h))

@@ -1,7 +1,7 @@
 -- Levels and the tree: where their slots stay, and where pages stand in one's place, or one in the place of two.
-use Rattle.tree_law.proofs.Words.{◌⊎◌, ap, refl, Option, None, List, inl, ◌≢◌, ◌++◌, ◌≤◌, inr, ◌∷◌, subst, sym, ℕ, ◌≡◌, ◌∙◌, Some, same_Some, ⊤, Update, ContentOf, Record, right_in}
+use Rattle.tree_law.proofs.Words.{◌⊎◌, ap, refl, Option, None, List, inl, ◌≢◌, ◌++◌, ◌≤◌, inr, ◌∷◌, sym, ℕ, ◌≡◌, ◌∙◌, Some, same_Some, ⊤, Update, ContentOf, Record, right_in}
 use Rattle.tree_law.proofs.Words.{low_in, high_in, Key, IsBelow, IsUpTo, Covers, Owners, IsOut, IsChain, IsClosed, Placed, rank, Stage, Shared, spec, HasSidePage}
-use Rattle.tree_law.proofs.Words.{Level, IsOff, Off, SidePage, InPlace, IsPart, Exact, HasLevels, []}
+use Rattle.tree_law.proofs.Words.{Level, IsOff, Off, SidePage, InPlace, IsPart, Exact, HasLevels, [], Linked}
 use Rattle.tree_law.specs.Keys.{IsWithinEnd}
 use Rattle.tree_law.proofs.shape.KeyOrder.{not_below, below_not, upto_same, upto_refl, upto_both, upto_trans}
 use Rattle.tree_law.proofs.shape.Puts.{by_equal}
@@ -67,23 +67,25 @@ level_relinked {o} {o'} {m} {m'} lv mp mp' first closed kept t p s st e on x i c
 pub placed_level : (st st' : Stage) (l l' : ℕ) (s s' : Key) → Placed st l s ≡ Placed st' l' s' → (l ≡ l') × (s ≡ s')
 placed_level st st' l l' s s' e = ((let f : l ≡ l' = cc in f), (let f : s ≡ s' = cc in f))
 
+-- the same levels, first pages and root, in another memory
+pub with_levels : {o o' : Owners} {m m' : Shared} {log log' : List Update} (t : HasLevels o m log) → m'.root ≡ m.root
+    → ((l : ℕ) → l ≤ t.top → Level o' m' l (spec log' o'.index l) (t.first l)) → Exact o'.page o'.index t.top m'.root
+    → ((q l : ℕ) (s : Key) → IsOff (o'.page q) l s → IsOut (o'.page q) (m'.slots q) ⊎ Off o' m' q l s) → HasLevels o' m' log'
+with_levels t root levels exact off = record { top = t.top; first = t.first; leaf = t.leaf; root = root ∙ t.root; levels = levels; exact = exact; off = off }
+
+-- no more on a side chain, in another memory where the slot is the same and the chain stands
+pub off_as : {o o' : Owners} {m m' : Shared} {q l : ℕ} {s : Key} (w : Off o m q l s) → m'.slots q ≡ m.slots q → o'.row w.row ≡ Linked
+    → IsChain m'.rows w.chain (Some w.row) → Off o' m' q l s
+off_as w slot linked chain = record { row = w.row; chain = w.chain; head = slot ∙ w.head; linked = linked; is_chain = chain; flagged = w.flagged; level = w.level; low = w.low }
+
 -- the tree stays where its slots do
 pub tree_kept : {o o' : Owners} {m m' : Shared} (log : List Update) → IsClosed o m → Kept o o' m m'
     → ((p l : ℕ) (s : Key) (st : Stage) → o.page p ≡ Placed st l s → rank st ≤ 3 → Rest o o' m m' p l s st) → m'.root ≡ m.root → o'.index ≡ o.index
     → ((p l : ℕ) (s : Key) (st : Stage) → o'.page p ≡ Placed st l s → rank st ≤ 3 → (st' : Stage) × (o.page p ≡ Placed st' l s) × (rank st' ≤ 3)) → (t : HasLevels o m log)
     → Exact o'.page o'.index t.top m'.root → ((q l : ℕ) (s : Key) → IsOff (o'.page q) l s → IsOut (o'.page q) (m'.slots q) ⊎ Off o' m' q l s) → HasLevels o' m' log
 tree_kept {o} {o'} {m} {m'} log closed kept rests root index old t exact off =
-    record {
-      top = t.top;
-      first = t.first;
-      leaf = t.leaf;
-      root = root ∙ t.root;
-      levels =
-          λ l le. level_kept l (spec log o.index l) (spec log o'.index l) (t.first l) closed kept (λ p s st. rests p l s st)
-          (λ k. ap (λ (f : ℕ → Key → Option ContentOf). spec log f l k) index) (λ p s st. old p l s st) (t.levels l le);
-      exact = exact;
-      off = off;
-    }
+    with_levels t root (λ l le. level_kept l (spec log o.index l) (spec log o'.index l) (t.first l) closed kept (λ p s st. rests p l s st)
+    (λ k. rw index) (λ p s st. old p l s st) (t.levels l le)) exact off
 
 -- pages in the place of one
 pub tree_relinked : {o o' : Owners} {m m' : Shared} (log log' : List Update) → IsClosed o m → Kept o o' m m' → (t : HasLevels o m log) → (p lv : ℕ) (s : Key) (st : Stage)
@@ -94,23 +96,15 @@ pub tree_relinked : {o o' : Owners} {m m' : Shared} (log log' : List Update) →
     → ((q l : ℕ) (s : Key) (st : Stage) → o'.page q ≡ Placed st l s → rank st ≤ 3 → ((st' : Stage) × (o.page q ≡ Placed st' l s) × (rank st' ≤ 3)) ⊎ ((l ≡ lv) × HasSidePage q news))
     → Exact o'.page o'.index t.top m'.root → ((q l : ℕ) (s : Key) → IsOff (o'.page q) l s → IsOut (o'.page q) (m'.slots q) ⊎ Off o' m' q l s) → HasLevels o' m' log'
 tree_relinked {o} {o'} {m} {m'} log log' closed kept t p lv s st e on x i c h rests root outside news new has listed exact off =
-    record {
-      top = t.top;
-      first = t.first;
-      leaf = t.leaf;
-      root = root ∙ t.root;
-      levels = λ l le. by_equal l lv
-          (λ j is. rw j (level_relinked lv (spec log o.index lv) (spec log' o'.index lv) (t.first lv) closed kept (t.levels lv (t.exact.below p lv s st e)) p s
-          st e on x i c h (λ q s' st'. rests q lv s' st') (λ k n. outside lv k (λ j. n)) news new has
-          (λ q s' st' f on'. elim (listed q lv s' st' f on') [ inl u ↦ inl u | inr u ↦ inr u.1 ])))
-          (λ ne is. level_kept l (spec log o.index l) (spec log' o'.index l) (t.first l) closed kept
-          (λ q s' st' f. rests q l s' st' (λ j. ne (placed_level st' st l lv s' s (sym f ∙ ap o.page j ∙ e)).0) f)
-          (λ k. outside l k (λ j. absurd (ne j)))
-          (λ q s' st' f on'. elim (listed q l s' st' f on') [ inl u ↦ u | inr u ↦ absurd (ne u.0) ])
-          (t.levels l le));
-      exact = exact;
-      off = off;
-    }
+    with_levels t root (λ l le. by_equal l lv
+    (λ j is. rw j (level_relinked lv (spec log o.index lv) (spec log' o'.index lv) (t.first lv) closed kept (t.levels lv (t.exact.below p lv s st e)) p s
+    st e on x i c h (λ q s' st'. rests q lv s' st') (λ k n. outside lv k (λ j. n)) news new has
+    (λ q s' st' f on'. elim (listed q lv s' st' f on') [ inl u ↦ inl u | inr u ↦ inr u.1 ])))
+    (λ ne is. level_kept l (spec log o.index l) (spec log' o'.index l) (t.first l) closed kept
+    (λ q s' st' f. rests q l s' st' (λ j. ne (placed_level st' st l lv s' s (sym f ∙ ap o.page j ∙ e)).0) f)
+    (λ k. outside l k (λ j. absurd (ne j)))
+    (λ q s' st' f on'. elim (listed q l s' st' f on') [ inl u ↦ u | inr u ↦ absurd (ne u.0) ])
+    (t.levels l le))) exact off
 
 -- two pages of a level that have a key in common are one
 pub same_page : {o : Owners} {m : Shared} {lv : ℕ} {mp : Key → Option ContentOf} {first : ℕ} → Level o m lv mp first → (g f : SidePage) → InPlace o m lv mp g
@@ -127,7 +121,7 @@ same_page {o} {m} {lv} {mp} {first} t g f hg hf k cg cf =
         let l = locate o m lv mp gs p low None None e.page part has in
         let u = from_located l in
         let c : IsUpTo (low_in l.page.chain) k = (moved l.page e l.here ie l.is ce).low in
-        absurd (let i = under_start k (low_in l.page.chain) (high_in h.chain) ch.high (subst (λ (b : Option Key). StartsFrom b (low_in l.page.chain)) j u) in not_below k (low_in l.page.chain) i c)
+        absurd (let i = under_start k (low_in l.page.chain) (high_in h.chain) ch.high (rw (← j) u) in not_below k (low_in l.page.chain) i c)
       where
         from_located : (l : Located o m lv mp gs p low None None e.page) → StartsFrom low (low_in l.page.chain)
         from_located l = middle l.before p low l.first
@@ -279,20 +273,12 @@ pub tree_merged : {o o' : Owners} {m m' : Shared} (log : List Update) → IsClos
     → ((r l : ℕ) (s : Key) (st : Stage) → o'.page r ≡ Placed st l s → rank st ≤ 3 → (r ≢ q) × ((st' : Stage) × (o.page r ≡ Placed st' l s) × (rank st' ≤ 3)))
     → Exact o'.page o'.index t.top m'.root → ((q l : ℕ) (s : Key) → IsOff (o'.page q) l s → IsOut (o'.page q) (m'.slots q) ⊎ Off o' m' q l s) → HasLevels o' m' log
 tree_merged {o} {o'} {m} {m'} log closed kept t p lv sp q sq st st2 ep on eq lt rests root index new is pair right old exact off =
-    record {
-      top = t.top;
-      first = t.first;
-      leaf = t.leaf;
-      root = root ∙ t.root;
-      levels = λ l le. by_equal l lv
-          (λ j says. rw j (level_merged lv (spec log o.index lv) (spec log o'.index lv) (t.first lv) closed kept (t.levels lv (t.exact.below p lv sp st ep)) p
-          sp q sq st st2 ep on eq lt (λ r s. rests r lv s) (λ k. ap (λ (f : ℕ → Key → Option ContentOf). spec log f lv k) index) new is pair right
-          (λ r s. old r lv s)))
-          (λ ne says. level_kept l (spec log o.index l) (spec log o'.index l) (t.first l) closed kept
-          (λ r s' st' f. rests r l s' st' (λ j. ne (placed_level st' st l lv s' sp (sym f ∙ ap o.page j ∙ ep)).0) (λ j. ne (placed_level st' st2 l lv s' sq (sym f ∙ ap o.page j ∙ eq)).0) f)
-          (λ k. ap (λ (f : ℕ → Key → Option ContentOf). spec log f l k) index)
-          (λ r s' st' f i. (old r l s' st' f i).1)
-          (t.levels l le));
-      exact = exact;
-      off = off;
-    }
+    with_levels t root (λ l le. by_equal l lv
+    (λ j says. rw j (level_merged lv (spec log o.index lv) (spec log o'.index lv) (t.first lv) closed kept (t.levels lv (t.exact.below p lv sp st ep)) p
+    sp q sq st st2 ep on eq lt (λ r s. rests r lv s) (λ k. rw index) new is pair right
+    (λ r s. old r lv s)))
+    (λ ne says. level_kept l (spec log o.index l) (spec log o'.index l) (t.first l) closed kept
+    (λ r s' st' f. rests r l s' st' (λ j. ne (placed_level st' st l lv s' sp (sym f ∙ ap o.page j ∙ ep)).0) (λ j. ne (placed_level st' st2 l lv s' sq (sym f ∙ ap o.page j ∙ eq)).0) f)
+    (λ k. rw index)
+    (λ r s' st' f i. (old r l s' st' f i).1)
+    (t.levels l le))) exact off

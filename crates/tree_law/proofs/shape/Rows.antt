@@ -1,5 +1,5 @@
 -- The rows of a chain from a linked row are linked.
-use Rattle.tree_law.proofs.Words.{[], ap, Option, suc, None, List, length, ◌∷◌, subst, sym, ℕ, ◌≡◌, zero, ◌∙◌, ◌<◌, arith, Some, same_Some, Contains, IfSome, MatchOption, unwrap_or, slice_index_or}
+use Rattle.tree_law.proofs.Words.{[], Option, suc, None, List, length, ◌∷◌, subst, sym, ℕ, ◌≡◌, zero, ◌∙◌, ◌<◌, arith, Some, same_Some, Contains, IfSome, MatchOption, unwrap_or, slice_index_or}
 use Rattle.tree_law.proofs.Words.{next_row, Record, IsChainFrom-unique, chain_rows, IsChainFrom, Linked, Owners, IsClosed, Shared}
 
 -- the record of a linked row has a linked row under it
@@ -13,7 +13,7 @@ pub chain_linked : (o : Owners) (m : Shared) → IsClosed o m → (x : ℕ) (c :
 chain_linked o m closed x [] l h row among = absurd h
 chain_linked o m closed x (w ∷ c) l h row (zero, lt, e) = rw e at l
 chain_linked o m closed x (w ∷ c) l h row (suc k, lt, e) =
-    let nothing_under : c ≡ [] → k < length (chain_rows 0 c) → ⊥ = λ empty within. let none_there : length (chain_rows 0 c) ≡ 0 = ap (λ r. length (chain_rows 0 r)) empty in omega arith in
+    let nothing_under : c ≡ [] → k < length (chain_rows 0 c) → ⊥ = λ empty within. let none_there : length (chain_rows 0 c) ≡ 0 = rw empty in omega arith in
     elim (next_row w) as (λ n. IfSome n (λ n. o.row n ≡ Linked) → MatchOption n (c ≡ []) (λ n. IsChainFrom m.rows n c) → k < length
     (chain_rows (unwrap_or n 0) c) → slice_index_or (chain_rows (unwrap_or n 0) c) k row ≡ row → o.row row ≡ Linked) [
       | None ↦ λ i empty within at. absurd (nothing_under empty within)

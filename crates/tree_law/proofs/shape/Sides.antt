@@ -41,7 +41,7 @@ locate o m lv mp [] p low q high at h has = absurd has
 locate o m lv mp (g ∷ gs) p low q high at h (inl e) = record { before = []; page = g; after = gs; is = e; all = refl; first = (h.0, h.1); here = h.2; rest = h.3 }
 locate o m lv mp (g ∷ gs) p low q high at h (inr e) =
     let l = locate o m lv mp gs (right_in g.chain) (high_in g.chain) q high at h.3 e in
-    record { before = g ∷ l.before; page = l.page; after = l.after; is = l.is; all = ap (λ xs. g ∷ xs) l.all; first = (h.0, h.1, h.2, l.first); here = l.here; rest = l.rest }
+    record { before = g ∷ l.before; page = l.page; after = l.after; is = l.is; all = rw l.all; first = (h.0, h.1, h.2, l.first); here = l.here; rest = l.rest }
 
 -- a bound from which a key is
 abbrev pub StartsFrom : Option Key → Key → Type 0

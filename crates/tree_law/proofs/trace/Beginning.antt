@@ -3,7 +3,7 @@ use Rattle.tree_law.proofs.Words.{false, ◌⊎◌, ap, refl, ltb, Option, suc, 
 use Rattle.tree_law.proofs.Words.{ltb-true, fold-append, Update, Command, Limits, ReuseRows, ReusePids, opening, Memory, slice_get_below, slice_get_kept, slice_get-push_cases}
 use Rattle.tree_law.proofs.Words.{slice_get-push, IsRun-push, TakesStep-push_cases, memory_of-push, command_of-push, after_begin, knows, Knowledge, knows_after}
 use Rattle.tree_law.proofs.Words.{ShowsRow, memory_at, command_of, memory_of}
-use Rattle.tree_law.proofs.Words.{Entry, Begin, and_right, same_operation, and_left, log_of-push, IsOperation, Operation, indexed, log_at, log_of, HasMapOf, UnlinksPid, UnlinksRow, HandsPid}
+use Rattle.tree_law.proofs.Words.{Entry, Begin, and_right, same_operation, and_left, log_of-push, IsOperation, Operation, log_at, log_of, HasMapOf, UnlinksPid, UnlinksRow, HandsPid}
 use Rattle.tree_law.proofs.Words.{HandsRow, IsInLimbo, Owners, Indexed, put, shared_part, slot_in, IsReadyPage, Tells, operation_from, IsSearch, IsState, phase_of}
 use Rattle.tree_law.proofs.Words.{IsInTree, IsUnended, HaveStood, Times, Timed, Opens, IsTree, same_Some, []}
 use Rattle.std.proofs.Common.{leb}

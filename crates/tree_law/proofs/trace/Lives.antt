@@ -1,9 +1,9 @@
 -- One more entry: the life of each page, and that nothing is used again.
 use Rattle.tree_law.proofs.Words.{◌⊎◌, [], refl, Option, suc, List, true, inl, length, ◌++◌, inr, ◌∷◌, sym, ℕ, ◌≡◌, ◌∙◌, ◌<◌, arith, Command, Reply, Limits, Answer, Whether, StepOf, TakePid}
-use Rattle.tree_law.proofs.Words.{Memory, Record, Remove, RemoveOf, Happens-kept, Happens-push_cases, IsChainOf, IsAnswer, memory_of, IsUnheld, Entry, Begin, Step, Wins, Installs, free, IsInPhase}
-use Rattle.tree_law.proofs.Words.{MovesPhase, removes, Phase, cleared, splits, merges, becomes_root, reuses, under_root, terms, holds, unterms, PageOwner, phase_of}
+use Rattle.tree_law.proofs.Words.{Memory, Record, Remove, RemoveOf, Happens-kept, Happens-push_cases, IsChainOf, IsAnswer, memory_of, IsUnheld, Entry, Begin, Step, Wins, Installs, free}
+use Rattle.tree_law.proofs.Words.{IsInPhase, MovesPhase, removes, Phase, cleared, splits, merges, becomes_root, reuses, under_root, terms, holds, unterms, PageOwner, phase_of, Happens-below}
 use Rattle.bw_model.specs.declared.step.Link.TheVariants as link
-use Rattle.traces.proofs.TraceLaws.{Happens-below, Happens-last}
+use Rattle.traces.proofs.TraceLaws.{Happens-last}
 use Rattle.linearization.specs.Phases.{takes, KeepsPhases}
 use Rattle.linearization.proofs.PhaseLaws.{IsInPhase-moved, IsInPhase-rested, KeepsPhases-push}
 use Rattle.tree_law.proofs.trace.Owned.{pushed_length}

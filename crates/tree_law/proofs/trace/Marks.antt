@@ -11,7 +11,7 @@ pub take_whole : {X : Type 0} (xs : List X) (n : ℕ) → n ≡ length xs → ta
 take_whole [] zero e = refl
 take_whole [] (suc n) e = refl
 take_whole (x ∷ xs) zero e = absurd (omega arith)
-take_whole (x ∷ xs) (suc n) e = ap (λ rest. x ∷ rest) (take_whole xs n (omega arith))
+take_whole (x ∷ xs) (suc n) e = rw (take_whole xs n (omega arith))
 
 module _ (entries : List Entry) (points : List Bool) (last : Entry) (mark : Bool) (beside : length points ≡ length entries) where
   abbrev entries' : List Entry

@@ -1,5 +1,5 @@
 -- One more entry: what the names that actors have learnt are, and what is read.
-use Rattle.tree_law.proofs.Words.{false, ◌⊎◌, ap, refl, cond, Option, suc, None, List, true, inl, ◌≢◌, length, ◌++◌, ◌≤◌, inr, ◌∷◌, subst, sym, ℕ, ◌≡◌, Bool, zero, ◌∙◌, ◌<◌, arith, Some, ◌+◌, ◌^◌}
+use Rattle.tree_law.proofs.Words.{false, ◌⊎◌, ap, refl, cond, Option, suc, None, List, true, inl, ◌≢◌, length, ◌++◌, ◌≤◌, inr, ◌∷◌, subst, sym, ℕ, ◌≡◌, Bool, zero, ◌∙◌, ◌<◌, arith, Some, ◌^◌}
 use Rattle.tree_law.proofs.Words.{eqb, same_Some, Contains, unwrap_or, IsFalse, Update, Command, Reply, Limits, Answer, Whether, Content, Number, StepOf, ReuseRows, ReusePids, Leave}
 use Rattle.tree_law.proofs.Words.{TakePid, Row, Place, TakeRow, Slot, Enter, Exchange, Retire, Memory, next_row, Record, Base, slice_get_below, slice_get-push, take-push_whole, TakesStep-push_cases}
 use Rattle.tree_law.proofs.Words.{memory_at-push, IsOnChain, chain_rows, IsChainFrom, May, Knowledge, knows_after, after_reply, Ready, learn, learnt_next, ShowsRow, IsAnswer, memory_after}
@@ -78,7 +78,7 @@ named_begins limits entries o m knows a c old asks = record {
 abbrev Shown : StepOf Record → Answer Record → ℕ → Type 0
 Shown s x r = ((p : ℕ) × (0 < p) × (s ≡ Slot p) × (x ≡ Number r)) ⊎ ((above : ℕ) × (w : Record) × (s ≡ Row above) × (x ≡ Content w) × (next_row w ≡ Some r))
 
-learn_command : (k : Knowledge) (s : StepOf Record) (x : Answer Record) → (learn k s x).asked.command ≡ k.asked.command
+pub learn_command : (k : Knowledge) (s : StepOf Record) (x : Answer Record) → (learn k s x).asked.command ≡ k.asked.command
 learn_command k s x = elim (learning k s x) as (λ s x k' v. k'.asked.command ≡ k.asked.command) [ wins p y z ↦ (exchanged_alike p y z k).command | v ↦ refl ]
 
 learnt_cases : (k : Knowledge) (s : StepOf Record) (x : Answer Record) (r : ℕ) → (learn k s x).read.learnt r ≡ true → ((k.read.learnt r ≡ true) × Stays s) ⊎ Shown s x r
@@ -149,7 +149,7 @@ base_alone m x row base [] chain among e = absurd chain
 base_alone m x row base (v ∷ c) chain (zero, lt, at) e = at
 base_alone m x row base (v ∷ c) chain (suc k, lt, at) e =
     let none : c ≡ [] = rw (same_Some v (Base base) (sym chain.0 ∙ e)) at chain.1 in
-    let short : length (chain_rows (unwrap_or (next_row v) 0) c) ≡ 0 = ap (λ d. length (chain_rows (unwrap_or (next_row v) 0) d)) none in
+    let short : length (chain_rows (unwrap_or (next_row v) 0) c) ≡ 0 = rw none in
     absurd (omega arith)
 
 -- the slot from which a row is on a chain
@@ -370,7 +370,7 @@ module _ {limits : Limits} {entries : List Entry} {o : Owners} {m : Memory} {kno
       let i = h.1 in
       let ab : a ≡ b = cc in
       let st : s ≡ t = cc in
-      subst (λ u. IsFalse (touches_pages u)) st (elim (touches_inside a (knows a) s may) [
+      rw (← st) (elim (touches_inside a (knows a) s may) [
         | inl inside ↦ let lt : 0 < m.announced a = old.announced a inside in let z' : m.announced a ≡ 0 = rw ab z in absurd (omega arith)
         | inr no_touch ↦ no_touch
       ])

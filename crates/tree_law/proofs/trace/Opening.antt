@@ -1,5 +1,5 @@
 -- The opening memory meets the invariant: one empty leaf, which is the root.
-use Rattle.tree_law.proofs.Words.{false, ap, refl, cond, Option, suc, None, inl, inr, ◌∷◌, subst, sym, ℕ, ◌≡◌, Bool, arith, Some, nat_tests, Limits, empty_leaf, opening, Base, nothing, Key, Free}
+use Rattle.tree_law.proofs.Words.{false, ap, refl, cond, Option, suc, None, inl, inr, ◌∷◌, sym, ℕ, ◌≡◌, Bool, arith, Some, nat_tests, Limits, empty_leaf, opening, Base, nothing, Key, Free}
 use Rattle.tree_law.proofs.Words.{Linked, Owners, Nobody, Placed, Indexed, put, shared_part, slot_in, row_in, Shared, IsTree, spec, Level, IsOff, SidePage, []}
 use Rattle.std.specs.Prelude.{nat_le}
 use Rattle.tree_law.proofs.shape.Puts.{by_equal}
@@ -56,7 +56,7 @@ module _ (free free_pages : ℕ → Bool) (taken : free 1 ≡ false) (taken_page
       first = λ l. 1;
       leaf = refl;
       root = refl;
-      levels = λ l le. let z : 0 ≡ l = omega arith in subst (λ (n : ℕ). Level o start n (spec [] o.index n) 1) z leaves;
+      levels = λ l le. let z : 0 ≡ l = omega arith in rw (← z) leaves;
       exact = record {
         below = λ q l s st. by_equal q 1 (λ i t. rw t λ e. (let f : 0 ≡ l = cc in omega arith)) (λ i t. rw t λ e. absurd (cc));
         posted = λ q l s st i e lt. absurd (omega arith);

@@ -29,7 +29,7 @@ module _ {X : Type 0} (after : (ℕ → X) → Entry → ℕ → X) (a : ℕ) (o
 
   -- what an entry of another actor leaves, a run of them leaves
   lasts : (xs : ℕ → X) (seen run : List Entry) → Extends a seen run → fold after xs run a ≡ fold after xs seen a
-  lasts xs seen run (rest, is, none) = ap (λ es. fold after xs es a) is ∙ ap (λ (f : ℕ → X). f a) (fold-append after xs seen rest) ∙ folds rest (fold after xs seen) none
+  lasts xs seen run (rest, is, none) = rw is (ap (λ (f : ℕ → X). f a) (fold-append after xs seen rest) ∙ folds rest (fold after xs seen) none)
 
 -- another actor's entry leaves what this one can afford
 accounts_other : (limits : Limits) (entries : List Entry) (entry : Entry) (a left : ℕ) → is_entry_of a entry ≡ false → Accounts limits entries a left → Accounts limits (entries ++ entry ∷ []) a left

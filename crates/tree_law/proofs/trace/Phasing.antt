@@ -1,14 +1,14 @@
 -- A step moves each PID from the phase that its owner says to the one that it says afterwards.
-use Rattle.tree_law.proofs.Words.{false, ◌⊎◌, ap, refl, cond, Option, suc, None, List, true, inl, inr, ◌∷◌, subst, sym, ℕ, ◌≡◌, Bool, zero, ◌∙◌, Some, eqb, same_Some, option_map, is_eq}
-use Rattle.tree_law.proofs.Words.{if◌then◌else◌, key_cmp, Update, is_among, Reply, Answer, Whether, Link, StepOf, ReusePids, TakePid, Exchange, ContentOf, Child, record_link, Memory, Record, Remove}
-use Rattle.tree_law.proofs.Words.{Base, Hold, Split, Merge, Term, Unterm, RemoveOf, IsChainFrom-unique, IsChainOf, right_in, May, root_over, Knowledge, IsAnswer}
-use Rattle.tree_law.proofs.Words.{IsUnheld, Entry, Step, link_without, link_of, Wins, Installs, indexed, free, MovesPhase, removes, Phase, cleared, held, removed, merged, splits, merges, becomes_root}
-use Rattle.tree_law.proofs.Words.{reuses, under_root, terms, holds, unterms, IsBelow, Owners, Nobody, Placed, Indexed, PageOwner, Cleared, Keeps, Fresh, Removed, Held, Merged, Phased, LinkMoves, put}
-use Rattle.tree_law.proofs.Words.{shared_part, slot_in, row_in, IsReadyPage, phase_of, IsInTree, IsTree, []}
+use Rattle.tree_law.proofs.Words.{false, ◌⊎◌, ap, refl, cond, Option, suc, None, List, true, inl, inr, ◌∷◌, sym, ℕ, ◌≡◌, Bool, zero, ◌∙◌, Some, eqb, same_Some, option_map, is_eq, if◌then◌else◌}
+use Rattle.tree_law.proofs.Words.{key_cmp, Update, is_among, Reply, Answer, Whether, Link, StepOf, ReusePids, TakePid, Exchange, ContentOf, Child, record_link, Memory, Record, Remove, Base}
+use Rattle.tree_law.proofs.Words.{Hold, Split, Merge, Term, Unterm, RemoveOf, IsChainFrom-unique, IsChainOf, right_in, May, root_over, Knowledge, IsAnswer, IsUnheld, Entry, Step, link_without}
+use Rattle.tree_law.proofs.Words.{link_of, Wins, Installs, indexed, free, MovesPhase, removes, Phase, cleared, splits, merges, becomes_root, reuses, under_root, terms, holds, unterms, IsBelow}
+use Rattle.tree_law.proofs.Words.{Owners, Nobody, Placed, Indexed, PageOwner, Cleared, Keeps, Fresh, Removed, Held, Merged, Phased, LinkMoves, put, shared_part, slot_in, row_in, IsReadyPage}
+use Rattle.tree_law.proofs.Words.{phase_of, IsInTree, IsTree, [], owned}
 use Rattle.tree_law.proofs.shape.{by_key, not_self, slot_some, eqb_true, eqb_apart, by_equal, put_same, put_other, decided}
 use Rattle.bw_model.specs.declared.step.Link.TheVariants as link
 use Rattle.base_page.specs.Pages as pages
-use Rattle.linearization.specs.Phases.{owned, fresh, MakesRoot, takes}
+use Rattle.linearization.specs.Phases.{fresh, MakesRoot, takes}
 
 -- whether it is the link of a record in front of a chain
 abbrev is_front : Link → Bool
@@ -42,8 +42,7 @@ not_zero n = eqb_apart (suc n) 0 (λ e. absurd (cc))
 -- the link of an exchange on a page, by its numbers
 link_page : (m : Memory) (p old new : ℕ)
     → link_of m (suc p) old new ≡ cond (eqb old 0) (Some link.Ready) (cond (eqb new 0) (option_map link_without (m.rows old)) (option_map record_link (m.rows new)))
-link_page m p old new =
-    ap (λ t. cond t (Some link.Root) (cond (eqb old 0) (Some link.Ready) (cond (eqb new 0) (option_map link_without (m.rows old)) (option_map record_link (m.rows new))))) (not_zero p)
+link_page m p old new = rw (not_zero p)
 
 pub link_ready : (m : Memory) (p new : ℕ) → link_of m (suc p) 0 new ≡ Some link.Ready
 link_ready m p new = link_page m p 0 new
@@ -59,7 +58,7 @@ link_front m p old new =
 
 -- what is put at a place has its phase there
 put_phase : (f f' : ℕ → PageOwner) (p : ℕ) (w : PageOwner) → f' ≡ put f p w → phase_of (f' p) ≡ phase_of w
-put_phase f f' p w e = ap (λ (g : ℕ → PageOwner). phase_of (g p)) e ∙ ap phase_of (put_same f p w)
+put_phase f f' p w e = rw e (ap phase_of (put_same f p w))
 
 -- what a new root has at its second key, and above its low key at no other one
 abbrev children : List ℕ → ℕ → ℕ → List ℕ → Option ContentOf
@@ -111,13 +110,13 @@ module _ (m : Memory) {log : List Update} {o : Owners} {knows : ℕ → Knowledg
   moves_between pid from to (takes b step) = let e = step.1 in taken pid (cc) (cc)
   moves_between pid from to (splits slot split installs at) =
       let h = (installed slot (Split split) installs).2 in
-      subst (λ q. (phase_of (o.page q) ≡ owned) × (phase_of (f' q) ≡ fresh)) at (ap phase_of h.4, put_phase o.page f' split.page (Placed Fresh h.1 split.separator) h.5)
+      rw (← at) (ap phase_of h.4, put_phase o.page f' split.page (Placed Fresh h.1 split.separator) h.5)
   moves_between pid from to (becomes_root makes) =
       let h = (rooted pid makes).1 in
       (ap phase_of h.5, put_phase (put o.page h.0 (Placed Indexed h.1 h.2)) f' pid (Placed Indexed (suc h.1) []) h.6)
   moves_between pid from to (terms slot term installs at) =
       let h = (installed slot (Term term) installs).2 in
-      subst (λ q. (phase_of (o.page q) ≡ fresh) × (phase_of (f' q) ≡ indexed)) at (ap phase_of h.1, put_phase o.page f' term.child (Placed Indexed h.0 term.separator) h.2)
+      rw (← at) (ap phase_of h.1, put_phase o.page f' term.child (Placed Indexed h.0 term.separator) h.2)
   moves_between pid from to (under_root root chain key mark makes stands above said) =
       let old = (rooted root makes).0 in
       let h = (rooted root makes).1 in
@@ -125,18 +124,18 @@ module _ (m : Memory) {log : List Update} {o : Owners} {knows : ℕ → Knowledg
       let at : m.slots root ≡ base.0 = (slot_some m.slots root base.0 base.2).1 in
       let same : chain ≡ root_over base.1 old h.2 h.0 ∷ [] = IsChainFrom-unique m.rows (m.slots root) chain (root_over base.1 old h.2 h.0 ∷ []) stands.records (ap m.rows at ∙ base.3, refl) in
       let here : h.0 ≡ pid = second_child key h.2 old h.0 pid mark (rw same at above) (rw same at said) in
-      subst (λ q. (phase_of (o.page q) ≡ fresh) × (phase_of (f' q) ≡ indexed)) here (
+      rw (← here) (
         ap phase_of h.4,
         ap (λ (k : ℕ → PageOwner). phase_of (k h.0)) h.6 ∙ ap phase_of
             (put_other (put o.page h.0 (Placed Indexed h.1 h.2)) root (Placed Indexed (suc h.1) []) h.0 (λ i. absurd (cc (h.4, h.5))) ∙ put_same o.page h.0 (Placed Indexed h.1 h.2)),
       )
   moves_between pid from to (holds slot hold installs at) =
       let h = (installed slot (Hold hold) installs).2 in
-      subst (λ q. (phase_of (o.page q) ≡ indexed) × (phase_of (f' q) ≡ held)) at (ap phase_of h.1, put_phase o.page f' hold.child (Placed Held h.0 hold.separator) h.2)
+      rw (← at) (ap phase_of h.1, put_phase o.page f' hold.child (Placed Held h.0 hold.separator) h.2)
   moves_between pid from to (removes remove installs) =
       let i = installed pid (Remove remove) installs in
       let h = i.2 in
-      subst (λ q. (phase_of (o.page q) ≡ held) × (phase_of (f' q) ≡ removed)) (sym i.1) (ap phase_of h.2, put_phase o.page f' (suc i.0) (Placed Removed h.0 h.1) h.3)
+      rw i.1 (ap phase_of h.2, put_phase o.page f' (suc i.0) (Placed Removed h.0 h.1) h.3)
   moves_between pid from to (merges slot merge chain installs stood right) =
       let i = installed slot (Merge merge) installs in
       let h = i.2 in
@@ -144,10 +143,10 @@ module _ (m : Memory) {log : List Update} {o : Owners} {knows : ℕ → Knowledg
       let at : m.slots (suc i.0) ≡ side.0 = (slot_some m.slots (suc i.0) side.0 side.2).1 in
       let same : side.1 ≡ chain = IsChainFrom-unique m.rows side.0 side.1 chain side.3 (rw at at (rw i.1 at stood).records) in
       let here : h.0 ≡ pid = same_Some h.0 pid (sym side.4 ∙ ap right_in same ∙ right) in
-      subst (λ q. (phase_of (o.page q) ≡ removed) × (phase_of (f' q) ≡ merged)) here (ap phase_of h.2, put_phase o.page f' h.0 (Placed Merged h.1 merge.low) h.3)
+      rw (← here) (ap phase_of h.2, put_phase o.page f' h.0 (Placed Merged h.1 merge.low) h.3)
   moves_between pid from to (unterms slot unterm installs at) =
       let h = (installed slot (Unterm unterm) installs).2 in
-      subst (λ q. (phase_of (o.page q) ≡ merged) × (phase_of (f' q) ≡ cleared)) at (ap phase_of h.1, put_phase o.page f' unterm.child (Cleared a h.0 unterm.separator) h.2)
+      rw (← at) (ap phase_of h.1, put_phase o.page f' unterm.child (Cleared a h.0 unterm.separator) h.2)
   moves_between pid from to (reuses b word bits answer step among) =
       let e = step.1 in
       let i : s ≡ ReusePids word bits = cc in
@@ -235,9 +234,8 @@ module _ (m : Memory) {log : List Update} {o : Owners} {knows : ℕ → Knowledg
       go (TakePid q) (Whether false) i j h e ph' = same_phase pid ph'
       go (Exchange zero old new) (Whether true) i j h e ph' = by_root old new i j ph' pid
       go (Exchange (suc p) zero zero) (Whether true) i j h e ph' = absurd h.1
-      go (Exchange (suc p) zero (suc new)) (Whether true) i j h e ph' = same_phase pid ph'.0
-      go (Exchange (suc p) (suc old) zero) (Whether true) i j h e ph' = same_phase pid ph'.0
       go (Exchange (suc p) (suc old) (suc new)) (Whether true) i j h e ph' = by_link p old new ph'.0 i j ph'.1 ph'.2 pid
+      go (Exchange (suc p) old new) (Whether true) i j h e ph' = same_phase pid ph'.0
       go (Exchange p old new) (Whether false) i j h e ph' = same_phase pid ph'
       go (ReusePids word bits) y i j h e ph' = elim (decided (is_among word bits pid)) [
         | inl k ↦ let v = (ph' pid).0 k in inl (rw (ap phase_of v.3) (rw (ap phase_of v.4) (reuses a word bits y (r, λ d. Step a (i d) (j d) r) k)))

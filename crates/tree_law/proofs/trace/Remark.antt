@@ -27,13 +27,13 @@ take_set_below : {X : Type 0} (xs : List X) (m : ℕ) (x : X) (n : ℕ) → n �
 take_set_below xs m x zero le = refl
 take_set_below [] m x (suc n) le = refl
 take_set_below (y ∷ xs) zero x (suc n) le = absurd (omega arith)
-take_set_below (y ∷ xs) (suc m) x (suc n) le = ap (λ rest. y ∷ rest) (take_set_below xs m x n (omega arith))
+take_set_below (y ∷ xs) (suc m) x (suc n) le = rw (take_set_below xs m x n (omega arith))
 
 take_set_above : {X : Type 0} (xs : List X) (m : ℕ) (x : X) (n : ℕ) → m < n → take n (set xs m x) ≡ set (take n xs) m x
 take_set_above xs m x zero lt = absurd (omega arith)
 take_set_above [] m x (suc n) lt = refl
 take_set_above (y ∷ xs) zero x (suc n) lt = refl
-take_set_above (y ∷ xs) (suc m) x (suc n) lt = ap (λ rest. y ∷ rest) (take_set_above xs m x n (omega arith))
+take_set_above (y ∷ xs) (suc m) x (suc n) lt = rw (take_set_above xs m x n (omega arith))
 
 unmarked : (points : List Bool) (m : ℕ) → m < length points → (IsPoint points m → ⊥) → slice_get points m ≡ Some false
 unmarked [] m lt never = absurd (omega arith)

@@ -2,10 +2,9 @@
 use Rattle.tree_law.proofs.Words.{[], ap, refl, Option, None, List, inl, ◌≢◌, length, inr, sym, ℕ, ◌≡◌, Bool, ◌∙◌, ◌<◌, arith, Some, take, ⊎_elim, same_Some, IfSome, MatchOption, Update}
 use Rattle.tree_law.proofs.Words.{logged_value, update_of, command_key, Command, Reply, Limits, Record, slice_get_below, IsChainFrom, low_in, level_in, high_in, MayReply, MayAnswer, knows}
 use Rattle.tree_law.proofs.Words.{memory_at, command_of, memory_of, Entry, WasHeldBack, RepliesAt, Operation, IsOwnStep, log_at, log_of, IsPoint, IsQuiet, UpdatesAtLinks, IsRepliedAt}
-use Rattle.tree_law.proofs.Words.{shared_part, Tells, operation_from, IsState, IsAnsweredBy, IsMarked, HasFound, HaveStood, WereRead, WasLeafWith}
+use Rattle.tree_law.proofs.Words.{shared_part, Tells, operation_from, IsState, IsAnsweredBy, IsMarked, HasFound, HaveStood, WereRead, WasLeafWith, key_before}
 use Rattle.traces.specs.discipline.Discipline.{IsHeldBack, MayShowBack, MayShowPage, MayCallTidy, MayGiveUp}
 use Rattle.tree_law.proofs.answering.Answering.{answers}
-use Rattle.bw_model.specs.NextKeys.{key_before}
 use Rattle.tree_law.proofs.shape.{chain_stands, shows, shows_back}
 use Rattle.tree_law.proofs.trace.Remark.{remarked, log_of_same, log_at_same, marked', marked_now, told, told_other, updates', quiet'}
 use Rattle.tree_law.proofs.trace.Searches.{held_back, lacks}

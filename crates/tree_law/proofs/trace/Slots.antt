@@ -1,5 +1,5 @@
 -- Which slots hold rows, after a step.
-use Rattle.tree_law.proofs.Words.{false, ◌⊎◌, ap, refl, Option, suc, None, List, true, inl, ◌≢◌, inr, subst, sym, ℕ, ◌≡◌, zero, ◌∙◌, Some, eqb, same_Some, Update, Reply, Answer, Whether}
+use Rattle.tree_law.proofs.Words.{false, ◌⊎◌, ap, refl, Option, suc, None, List, true, inl, ◌≢◌, inr, sym, ℕ, ◌≡◌, zero, ◌∙◌, Some, eqb, same_Some, Update, Reply, Answer, Whether}
 use Rattle.tree_law.proofs.Words.{Content, Number, StepOf, ReuseRows, ReusePids, TakePid, Row, Place, TakeRow, Slot, Epoch, PidBits, Exchange, RowBits, Announce, Memory, replaced_at, Record, Remove}
 use Rattle.tree_law.proofs.Words.{Base, Hold, Split, Merge, Term, Unterm, low_in, level_in, May, IsOwn, MayExchange, IsOwnBase, Knowledge, after_reply, Ready}
 use Rattle.tree_law.proofs.Words.{learn, Empty, OwnPage, Other, Gone, Written}
@@ -131,7 +131,7 @@ module _ (m : Memory) {log : List Update} {o : Owners} {knows : ℕ → Knowledg
         ready = rw (put_same knows a k) (rw i (put_same (knows a).own.pages (suc n) (Ready (suc y)) ∙ ap Ready at));
         owned = owned_after a q (inr (rw at at own.0));
         base = own.1.0;
-        stands = subst (λ z. m.rows z ≡ Some (Base own.1.0)) at own.1.1;
+        stands = rw (← at) own.1.1;
       }))
       (λ ne t. let f = rw t at e in elim (held p q f) [
         | inl h ↦ inl (rw same h)

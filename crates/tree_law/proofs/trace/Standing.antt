@@ -1,5 +1,5 @@
 -- The pages and leaves that an operation has read stood at its own steps.
-use Rattle.tree_law.proofs.Words.{false, ◌⊎◌, ap, refl, Option, suc, List, true, inl, length, ◌++◌, ◌≤◌, inr, ◌∷◌, subst, sym, ℕ, ◌≡◌, ◌∙◌, ◌<◌, arith, Some, slice_get, Update, Command, Reply, Limits}
+use Rattle.tree_law.proofs.Words.{false, ◌⊎◌, ap, refl, Option, suc, List, true, inl, length, ◌++◌, ◌≤◌, inr, ◌∷◌, sym, ℕ, ◌≡◌, ◌∙◌, ◌<◌, arith, Some, slice_get, Update, Command, Reply, Limits}
 use Rattle.tree_law.proofs.Words.{Answer, Number, StepOf, Slot, Memory, Record, [], take-push, take-push_whole, IsChainFrom, right_in, low_in, is_removed, level_in, May, WasStanding}
 use Rattle.tree_law.proofs.Words.{Knowledge, learn, Readings, LivePage, IsAnswer, memory_after, memory_at, command_of, Entry, Begin, Step, Operation, Key, Linked, Owners, Reached}
 use Rattle.tree_law.proofs.Words.{InOrder, shared_part, slot_in, row_in, Shared, operation_from, IsUnended, HaveStood, WasRead, WereRead, WasLeafWith}
@@ -65,7 +65,7 @@ module _ (memory : Memory) {log : List Update} {o : Owners} {knows : ℕ → Kno
       let same : h.2.chain ≡ chain = chain_unique memory.rows h.2.chain chain (Some row) h.2.is_chain stands in
       let slot : slot_in memory.slots other ≡ Some row = elim (h.4 (ap is_removed same ∙ gone)) [ inl u ↦ u | inr u ↦ absurd (cc (n.3.placed, n.1, u.1.3)) ] in
       let r = (in_level_as on other (low_in n.0.chain) n.3.stage (ap o.page (sym n.1) ∙ n.3.placed) n.3.on row slot chain stands).place in
-      is_leaf memory g other row chain (subst (λ (l : ℕ). InPlace o (shared_part memory) l (spec log o.index l) (record { page = other; row = row; chain = chain })) (sym r.is_page.on_level ∙ leaf) r)
+      is_leaf memory g other row chain (rw (sym r.is_page.on_level ∙ leaf) at r)
 
 module _ (limits : Limits) (entries : List Entry) (last : Entry) where
   abbrev longer : List Entry

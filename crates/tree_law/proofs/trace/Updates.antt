@@ -1,8 +1,7 @@
 -- One more entry: where updates are made.
 use Rattle.tree_law.proofs.Words.{[], ap, suc, List, true, inl, length, ◌++◌, ◌≤◌, inr, ◌∷◌, sym, ℕ, ◌≡◌, Bool, ◌∙◌, ◌<◌, arith, Some, take, cases_lt, slice_get, ◌↔◌, Update, Limits}
-use Rattle.tree_law.proofs.Words.{slice_get_below, slice_get_kept, slice_get-push_cases, slice_get-push, take-push_whole, memory_at-push, memory_at, memory_of, Entry, log_at-push, log_at, log_of}
-use Rattle.tree_law.proofs.Words.{UpdatesAtLinks, LinksUpdate}
-use Rattle.traces.specs.trace.Trace.{Happens}
+use Rattle.tree_law.proofs.Words.{slice_get_below, slice_get_kept, slice_get-push_cases, slice_get-push, take-push_whole, memory_at-push, memory_at, memory_of, Entry, log_at-push, log_at}
+use Rattle.tree_law.proofs.Words.{log_of, UpdatesAtLinks, LinksUpdate, Happens}
 use Rattle.linearization.specs.Updates.{IsUpdating}
 use Rattle.tree_law.proofs.trace.Marks.{take_whole}
 use Rattle.tree_law.proofs.trace.Owned.{pushed_length, point_below, point_last}

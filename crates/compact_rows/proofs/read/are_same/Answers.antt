@@ -1,4 +1,5 @@
-use Rattle.std.proofs.Common.{rules, MatchBool, Bool, true, false, refl}
+use Rattle.compact_rows.proofs.Words.{Bool, true, false, refl}
+use Rattle.std.proofs.Common.{rules, MatchBool}
 use Rattle.std.specs.Bool.{Decides}
 use Rattle.std.proofs.lemmas.Slice.Eq.{slice_eq-Decides}
 use Rattle.compact_rows.proofs.read.are_same.Goals as goal

@@ -1,4 +1,5 @@
-use Rattle.std.proofs.Common.{◌≡◌, ◌≢◌, ◌<◌, length, arith, get_or-set_other, get_or-set_same, below_more}
+use Rattle.compact_rows.proofs.Words.{◌<◌, length, arith}
+use Rattle.std.proofs.Common.{◌≢◌, get_or-set_other, get_or-set_same, below_more}
 use Rattle.std.proofs.lemmas.List.{length-set}
 use Rattle.compact_rows.proofs.read.spread.Goals as goal
 

@@ -1,5 +1,4 @@
-use Rattle.std.proofs.Common.{◌≡◌, ℕ, ◌<◌, get_or, length}
-use Rattle.compact_rows.specs.Seen.{seen}
+use Rattle.compact_rows.proofs.Words.{◌≡◌, ℕ, ◌<◌, get_or, length, seen}
 use Rattle.compact_rows.proofs.read.spread.Given as goal
 
 abbrev pub invariant-loop-at : goal.invariant-loop-at

@@ -1,4 +1,4 @@
-use Rattle.std.proofs.Common.{arith}
+use Rattle.compact_rows.proofs.Words.{arith}
 use Rattle.record_slots.proofs.ShortTexts.{short_text}
 use Rattle.compact_rows.proofs.short.are_short.Goals as goal
 

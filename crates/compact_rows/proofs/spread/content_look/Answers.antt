@@ -1,7 +1,5 @@
-use Rattle.std.proofs.Common.{◌≡◌, ◌==◌, ◌<◌, ◌≤◌, ◌+◌, ◌/◌, ℕ, List, length, get_or, ◌∙◌, sym, ap, subst, arith}
-use Rattle.std.proofs.lemmas.Bool.{eq-eqb, ne_eqb}
-use Rattle.compact_rows.specs.Seen.{code_at, code_number, code_tail, content_seen, count_seen, level_seen, text_seen}
-use Rattle.compact_rows.specs.Spelling.{compact_words, words_for}
+use Rattle.compact_rows.proofs.Words.{◌≡◌, ◌==◌, ◌≤◌, ◌+◌, ℕ, List, get_or, ◌∙◌, sym, ap, arith, eq-eqb, ne_eqb, code_at, code_number, code_tail, count_seen, level_seen, text_seen}
+use Rattle.compact_rows.proofs.Words.{compact_words, words_for}
 use Rattle.compact_rows.proofs.Texts.{if_false, if_true}
 use Rattle.compact_rows.proofs.Within.{code_room, text_within}
 use Rattle.compact_rows.proofs.spread.content_look.Goals as goal
@@ -20,15 +18,15 @@ text_look-requires-clause-has g c =
     let a = c.requires.has.0 in
     let h = c.requires.has.1 in
     let words : List ℕ = compact_words a in
-    let there = subst (λ n. c.args.item < n) (c.requires.counts a h) c.requires.there in
+    let there = rw (c.requires.counts a h) at c.requires.there in
     let other : ℕ = get_or words (2 + count_seen words + c.args.item) 0 in
     let code : c.look-code.result ≡ other = c.look-code.ensures.word a h ∙ ap (λ n. get_or words (2 + n + c.args.item) 0) (c.requires.counts a h) in
     let same : c.code_at.result + c.code_tail.result + c.words_for.result ≡ code_at other + code_tail other + words_for (code_number other) =
     λ i. (c.code_at.ensures.at ∙ ap code_at code) i + (c.code_tail.ensures.tail ∙ ap code_tail code) i + (c.words_for.ensures ∙ ap (λ n. words_for (code_number n)) code) i in
     let leaf : level_seen words ≡ 0 = sym (c.requires.levels a h) ∙ none c.args.level c.if-level-gt0.false in (
       a,
-      subst (λ p. g.R.CompactRows.has c.args.rows.now p c.args.row a) (sym c.look-code.ensures.same) h,
-      subst (λ n. n ≤ length words) (sym same) ((text_within a (c.requires.spelt a h) c.args.item there).value leaf),
+      rw c.look-code.ensures.same h,
+      rw same ((text_within a (c.requires.spelt a h) c.args.item there).value leaf),
     )
 
 pub returns-then-level-gt0-clause-word : goal.returns-then-level-gt0-clause-word
@@ -42,7 +40,7 @@ returns-then-level-gt0-clause-word g c content h =
 pub returns-clause-word : goal.returns-clause-word
 returns-clause-word g c content h =
     let words : List ℕ = compact_words content in
-    let there = subst (λ p. g.R.CompactRows.has c.args.rows.now p c.args.row content) (sym c.look-code.ensures.same) h in
+    let there = rw (← c.look-code.ensures.same) at h in
     let other : ℕ = get_or words (2 + count_seen words + c.args.item) 0 in
     let code : c.look-code.result ≡ other = c.look-code.ensures.word content h ∙ ap (λ n. get_or words (2 + n + c.args.item) 0) (c.requires.counts content h) in
     let leaf : level_seen words ≡ 0 = sym (c.requires.levels content h) ∙ none c.args.level c.if-level-gt0.false in

@@ -1,4 +1,3 @@
-use Rattle.std.proofs.Common.{sym, subst}
 use Rattle.compact_rows.proofs.Within.{code_room, text_room}
 use Rattle.compact_rows.proofs.spread.item_look.Goals as goal
 
@@ -13,6 +12,6 @@ rest_look-requires-clause-has g c =
     let a = c.requires.has.0 in
     let h = c.requires.has.1 in (
       a,
-      subst (λ p. g.R.CompactRows.has c.args.rows.now p c.args.row a) (sym c.look-code.ensures.same) h,
+      rw c.look-code.ensures.same h,
       text_room a (c.requires.spelt a h) c.args.count c.args.item (c.requires.counts a h) c.requires.there c.args.first c.look-code.result (c.requires.first a h) (c.look-code.ensures.word a h),
     )

@@ -1,7 +1,4 @@
-use Rattle.std.proofs.Common.{◌≡◌, ◌==◌, ◌<◌, ◌≤◌, ◌+◌, ◌-◌, ℕ, List, length, get_or, ◌∙◌, sym, ap, subst, arith}
-use Rattle.std.proofs.lemmas.Bool.{ne_eqb}
-use Rattle.compact_rows.specs.Seen.{code_at, code_tail, count_seen, key_seen, text_seen}
-use Rattle.compact_rows.specs.Spelling.{compact_words}
+use Rattle.compact_rows.proofs.Words.{◌≡◌, ◌==◌, ◌+◌, ◌-◌, ℕ, List, get_or, ◌∙◌, sym, ap, ne_eqb, code_at, code_tail, count_seen, text_seen, compact_words}
 use Rattle.compact_rows.proofs.Texts.{if_false}
 use Rattle.compact_rows.proofs.Within.{code_room, text_within}
 use Rattle.compact_rows.proofs.spread.key_look.Goals as goal
@@ -17,20 +14,20 @@ text_look-requires-clause-has g c =
     let a = c.requires.has.0 in
     let h = c.requires.has.1 in
     let words : List ℕ = compact_words a in
-    let there = subst (λ n. c.args.item < n) (c.requires.counts a h) c.requires.there in
+    let there = rw (c.requires.counts a h) at c.requires.there in
     let code : c.look-code.result ≡ get_or words (2 + count_seen words + c.args.item) 0 =
     c.look-code.ensures.word a h ∙ ap (λ n. get_or words (2 + n + c.args.item) 0) (c.requires.counts a h) in
     let same : c.code_at.result + c.code_tail.result ≡ code_at (get_or words (2 + count_seen words + c.args.item) 0) + code_tail (get_or words (2 + count_seen words + c.args.item) 0) =
     λ i. (c.code_at.ensures.at ∙ ap code_at code) i + (c.code_tail.ensures.tail ∙ ap code_tail code) i in (
       a,
-      subst (λ p. g.R.CompactRows.has c.args.rows.now p c.args.row a) (sym c.look-code.ensures.same) h,
-      subst (λ n. n ≤ length words) (sym same) (text_within a (c.requires.spelt a h) c.args.item there).key,
+      rw c.look-code.ensures.same h,
+      rw same (text_within a (c.requires.spelt a h) c.args.item there).key,
     )
 
 pub returns-clause-word : goal.returns-clause-word
 returns-clause-word g c content h =
     let words : List ℕ = compact_words content in
-    let there = subst (λ p. g.R.CompactRows.has c.args.rows.now p c.args.row content) (sym c.look-code.ensures.same) h in
+    let there = rw (← c.look-code.ensures.same) at h in
     let code : c.look-code.result ≡ get_or words (2 + count_seen words + c.args.item) 0 =
     c.look-code.ensures.word content h ∙ ap (λ n. get_or words (2 + n + c.args.item) 0) (c.requires.counts content h) in
     c.text_look.ensures.word content there

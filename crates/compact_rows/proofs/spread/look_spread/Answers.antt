@@ -1,5 +1,4 @@
-use Rattle.std.proofs.Common.{◌≤◌, ◌∙◌, arith}
-use Rattle.compact_rows.specs.Spelling.{compact_words}
+use Rattle.compact_rows.proofs.Words.{◌≤◌, ◌∙◌, arith, compact_words}
 use Rattle.compact_rows.proofs.Spreading.{at_items}
 use Rattle.compact_rows.proofs.spread.look_spread.Goals as goal
 

@@ -1,5 +1,4 @@
-use Rattle.std.proofs.Common.{◌≡◌, ◌∙◌, sym, ap, length}
-use Rattle.compact_rows.specs.Spelling.{bound_text, words_for}
+use Rattle.compact_rows.proofs.Words.{◌∙◌, sym, ap, length, words_for}
 use Rattle.compact_rows.proofs.Texts.{packed_long}
 use Rattle.compact_rows.proofs.write.bound_size.Goals as goal
 

@@ -1,5 +1,4 @@
-use Rattle.std.proofs.Common.{◌≡◌, ◌+◌, ◌-◌, ◌∙◌, sym, ap, drop, length, arith, length-append, length-drop}
-use Rattle.compact_rows.specs.Spelling.{content_text, packed, words_for}
+use Rattle.compact_rows.proofs.Words.{◌≡◌, ◌-◌, ◌∙◌, sym, ap, drop, length, arith, length-append, length-drop, content_text, packed, words_for}
 use Rattle.compact_rows.proofs.Texts.{packed_long}
 use Rattle.compact_rows.proofs.write.item_size.Goals as goal
 

@@ -1,5 +1,4 @@
-use Rattle.std.proofs.Common.{◌++◌, ◌∷◌, [], ◌∙◌, ap, length, arith, length-append}
-use Rattle.compact_rows.specs.Spelling.{codes, texts}
+use Rattle.compact_rows.proofs.Words.{◌++◌, ◌∷◌, [], ◌∙◌, ap, length, arith, length-append, codes}
 use Rattle.compact_rows.proofs.Written.{code_written, one_left, text_left}
 use Rattle.compact_rows.proofs.write.push_codes.Goals as goal
 

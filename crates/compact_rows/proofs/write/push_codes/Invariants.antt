@@ -1,5 +1,4 @@
-use Rattle.std.proofs.Common.{◌≡◌, ◌≤◌, ◌+◌, ◌++◌, drop, length}
-use Rattle.compact_rows.specs.Spelling.{codes, texts}
+use Rattle.compact_rows.proofs.Words.{◌≡◌, ◌≤◌, ◌+◌, ◌++◌, drop, length, codes, texts}
 use Rattle.compact_rows.proofs.write.push_codes.Given as goal
 
 abbrev pub invariant-loop-item : goal.invariant-loop-item

@@ -1,6 +1,4 @@
-use Rattle.std.proofs.Common.{◌++◌, ◌∷◌, [], ◌∙◌, ap, length, arith, length-append}
-use Rattle.record_slots.specs.Spelling.{big_endian}
-use Rattle.compact_rows.specs.Spelling.{heads}
+use Rattle.compact_rows.proofs.Words.{◌++◌, ◌∷◌, [], ◌∙◌, ap, length, arith, length-append, big_endian, heads}
 use Rattle.compact_rows.proofs.Written.{head_written, one_left}
 use Rattle.compact_rows.proofs.write.push_heads.Goals as goal
 

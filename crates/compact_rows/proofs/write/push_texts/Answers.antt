@@ -1,9 +1,6 @@
-use Rattle.std.proofs.Common.{◌++◌, get_or, subst, ap, length, arith, length-append, ◌∙◌}
-use Rattle.std.specs.List.{All}
+use Rattle.compact_rows.proofs.Words.{◌++◌, get_or, ap, length, arith, length-append, ◌∙◌, IsShortItem, item_text, texts}
 use Rattle.std.proofs.lemmas.List.{take_all}
 use Rattle.std.proofs.lemmas.List.Elements.{All-more}
-use Rattle.record_slots.specs.Spells.{IsShortItem}
-use Rattle.compact_rows.specs.Spelling.{item_text, texts}
 use Rattle.compact_rows.proofs.Written.{text_left, text_written}
 use Rattle.compact_rows.proofs.write.push_texts.Goals as goal
 
@@ -15,7 +12,7 @@ loop-item-preserved c =
     let within = c.loop-item-test.true in
     let before = c.loop-item.row in
     let now = c.push_text.new.row in
-    let one : IsShortItem (get_or items place item) = subst IsShortItem c.item-item.is c.push_text.ensures.short in
+    let one : IsShortItem (get_or items place item) = rw c.item-item.is at c.push_text.ensures.short in
     let longer = ap length c.push_text.ensures.words ∙ length-append before (item_text item) in
     let left = text_left items place item within c.item-item.is in
     record {
@@ -32,4 +29,4 @@ push_text-requires c =
     omega arith
 
 pub returns-clause-short : goal.returns-clause-short
-returns-clause-short c = subst (All IsShortItem) (take_all c.loop-item.item-index c.args.items.now c.loop-item-test.false) c.loop-item.invariant.short
+returns-clause-short c = rw (take_all c.loop-item.item-index c.args.items.now c.loop-item-test.false) at c.loop-item.invariant.short

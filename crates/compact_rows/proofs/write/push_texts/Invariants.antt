@@ -1,7 +1,5 @@
-use Rattle.std.proofs.Common.{◌≡◌, ◌≤◌, ◌+◌, ◌++◌, drop, length, take}
-use Rattle.std.specs.List.{All}
-use Rattle.record_slots.specs.Spells.{IsShortItem}
-use Rattle.compact_rows.specs.Spelling.{texts}
+use Rattle.compact_rows.proofs.Words.{◌≡◌, ◌≤◌, ◌+◌, ◌++◌, drop, length, All, IsShortItem, texts}
+use Rattle.std.proofs.Common.{take}
 use Rattle.compact_rows.proofs.write.push_texts.Given as goal
 
 abbrev pub invariant-loop-item : goal.invariant-loop-item

@@ -1,8 +1,6 @@
-use Rattle.std.proofs.Common.{◌≡◌, ◌+◌, ◌-◌, ◌*◌, ◌++◌, ◌∷◌, [], ℕ, List, drop, ap, ◌∙◌, sym, suc, arith, append_assoc, length, length-append, length-drop}
-use Rattle.std.proofs.lemmas.List.{drop-drop}
-use Rattle.record_slots.specs.Spelling.{big_endian, text_words}
+use Rattle.compact_rows.proofs.Words.{◌≡◌, ◌+◌, ◌*◌, ◌++◌, ◌∷◌, [], ℕ, List, drop, ap, ◌∙◌, sym, suc, arith, append_assoc, length, length-append, length-drop, drop-drop, big_endian}
+use Rattle.compact_rows.proofs.Words.{text_words}
 use Rattle.record_slots.proofs.TextLaws.{text_grows}
-use Rattle.compact_rows.specs.Spelling.{packed, words_for}
 use Rattle.compact_rows.proofs.Texts.{packed_long}
 use Rattle.compact_rows.proofs.write.push_words.Goals as goal
 

@@ -1,5 +1,4 @@
-use Rattle.std.proofs.Common.{◌≡◌, ◌+◌, ◌++◌, drop, length}
-use Rattle.record_slots.specs.Spelling.{text_words}
+use Rattle.compact_rows.proofs.Words.{◌≡◌, ◌+◌, ◌++◌, drop, length, text_words}
 use Rattle.compact_rows.proofs.write.push_words.Given as goal
 
 abbrev pub invariant-loop-place : goal.invariant-loop-place

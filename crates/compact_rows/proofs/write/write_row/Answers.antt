@@ -1,17 +1,30 @@
-use Rattle.std.proofs.Common.{◌≡◌, ◌+◌, ◌*◌, ◌++◌, ◌∷◌, [], ◌∙◌, sym, ap, length, arith, length-append}
+use Rattle.compact_rows.proofs.Words.{◌≡◌, ◌+◌, ◌*◌, ◌++◌, ℕ, List, ◌∷◌, [], ◌∙◌, sym, ap, length, arith, length-append, Item, bound_text, codes, first_word, heads, packed, second_word, texts}
+use Rattle.compact_rows.proofs.Words.{texts_at, words_for, Row}
+use Rattle.std.proofs.Common.{Option}
 use Rattle.std.specs.Prelude.{option_copied}
-use Rattle.compact_rows.specs.Spelling.{bound_text, codes, first_word, heads, packed, second_word, texts, texts_at, words_for}
-use Rattle.record_slots.specs.declared.row.Row.{Row}
 use Rattle.compact_rows.proofs.Sizes.{row_long}
 use Rattle.compact_rows.proofs.Texts.{packed_long}
 use Rattle.compact_rows.proofs.Written.{written}
 use Rattle.compact_rows.proofs.write.write_row.Goals as goal
 
+abbrev of_parts : ℕ → ℕ → ℕ → ℕ → List ℕ → Option (List ℕ) → List Item → Row
+of_parts kind level next page first second items =
+    record { kind = kind; level = level; count = length items; next = next; page = page; first = first; second = second }
+
+-- how long the row is once its two words, its heads and its codes are written
+up_to_codes : {row one two : List ℕ} {three four : ℕ} (first second many : ℕ) → row ≡ [] → one ≡ row ++ first ∷ [] → two ≡ one ++ second ∷ []
+    → three ≡ length two + many → four ≡ three + many → four ≡ 2 + 2 * many
+up_to_codes {row = row} {one = one} first second many empty is next after behind =
+    let none = ap length empty in
+    let more = ap length is ∙ length-append row (first ∷ []) in
+    let two = ap length next ∙ length-append one (second ∷ []) in
+    omega arith
+
 pub push_codes-requires-clause-low : goal.push_codes-requires-clause-low
 push_codes-requires-clause-low c =
     let a = c.args in
     let items = a.items.now in
-    let whole = row_long (record { kind = a.kind; level = a.level; count = length items; next = a.next; page = a.page; first = a.first.now; second = option_copied a.second }) items in
+    let whole = row_long (of_parts a.kind a.level a.next a.page a.first.now (option_copied a.second) items) items in
     let first : c.words_for.result ≡ length (packed a.first.now) =
     c.words_for.ensures.words ∙ ap (λ bytes. words_for (length bytes)) c.key_bytes-bytes.ensures.bytes ∙ sym (packed_long a.first.now) in
     let second = c.bound_size.ensures.size in
@@ -22,13 +35,10 @@ pub push_words-requires-clause-room : goal.push_words-requires-clause-room
 push_words-requires-clause-room c =
     let a = c.args in
     let items = a.items.now in
-    let whole = row_long (record { kind = a.kind; level = a.level; count = length items; next = a.next; page = a.page; first = a.first.now; second = option_copied a.second }) items in
+    let whole = row_long (of_parts a.kind a.level a.next a.page a.first.now (option_copied a.second) items) items in
     let first = ap (λ bytes. length (packed bytes)) c.key_bytes-bytes.ensures.bytes in
-    let none = ap length c.requires.empty in
-    let one = ap length c.push.ensures ∙ length-append a.row.now (c.first_word.result ∷ []) in
-    let two = ap length c.push-2.ensures ∙ length-append c.push.new.self (c.second_word.result ∷ []) in
-    let three = c.push_heads.ensures.count in
-    let four = c.push_codes.ensures.count in
+    let before = up_to_codes c.first_word.result c.second_word.result (length items) c.requires.empty c.push.ensures c.push-2.ensures
+    c.push_heads.ensures.count c.push_codes.ensures.count in
     let room = c.requires.room in
     omega arith
 
@@ -36,14 +46,11 @@ pub push_bound-requires : goal.push_bound-requires
 push_bound-requires c =
     let a = c.args in
     let items = a.items.now in
-    let whole = row_long (record { kind = a.kind; level = a.level; count = length items; next = a.next; page = a.page; first = a.first.now; second = option_copied a.second }) items in
+    let whole = row_long (of_parts a.kind a.level a.next a.page a.first.now (option_copied a.second) items) items in
     let first = ap (λ bytes. length (packed bytes)) c.key_bytes-bytes.ensures.bytes in
-    let none = ap length c.requires.empty in
-    let one = ap length c.push.ensures ∙ length-append a.row.now (c.first_word.result ∷ []) in
-    let two = ap length c.push-2.ensures ∙ length-append c.push.new.self (c.second_word.result ∷ []) in
-    let three = c.push_heads.ensures.count in
-    let four = c.push_codes.ensures.count in
-    let five = ap length c.push_words.ensures ∙ length-append c.push_codes.new.row (packed c.key_bytes-bytes.result.now) in
+    let before = up_to_codes c.first_word.result c.second_word.result (length items) c.requires.empty c.push.ensures c.push-2.ensures
+    c.push_heads.ensures.count c.push_codes.ensures.count in
+    let words = ap length c.push_words.ensures ∙ length-append c.push_codes.new.row (packed c.key_bytes-bytes.result.now) in
     let room = c.requires.room in
     omega arith
 
@@ -51,15 +58,12 @@ pub push_texts-requires : goal.push_texts-requires
 push_texts-requires c =
     let a = c.args in
     let items = a.items.now in
-    let whole = row_long (record { kind = a.kind; level = a.level; count = length items; next = a.next; page = a.page; first = a.first.now; second = option_copied a.second }) items in
+    let whole = row_long (of_parts a.kind a.level a.next a.page a.first.now (option_copied a.second) items) items in
     let first = ap (λ bytes. length (packed bytes)) c.key_bytes-bytes.ensures.bytes in
-    let none = ap length c.requires.empty in
-    let one = ap length c.push.ensures ∙ length-append a.row.now (c.first_word.result ∷ []) in
-    let two = ap length c.push-2.ensures ∙ length-append c.push.new.self (c.second_word.result ∷ []) in
-    let three = c.push_heads.ensures.count in
-    let four = c.push_codes.ensures.count in
-    let five = ap length c.push_words.ensures ∙ length-append c.push_codes.new.row (packed c.key_bytes-bytes.result.now) in
-    let six = ap length c.push_bound.ensures.words ∙ length-append c.push_words.new.row (bound_text (option_copied a.second)) in
+    let before = up_to_codes c.first_word.result c.second_word.result (length items) c.requires.empty c.push.ensures c.push-2.ensures
+    c.push_heads.ensures.count c.push_codes.ensures.count in
+    let words = ap length c.push_words.ensures ∙ length-append c.push_codes.new.row (packed c.key_bytes-bytes.result.now) in
+    let bound = ap length c.push_bound.ensures.words ∙ length-append c.push_words.new.row (bound_text (option_copied a.second)) in
     let room = c.requires.room in
     omega arith
 
@@ -69,7 +73,7 @@ returns-clause-words c =
     let items = a.items.now in
     let key = a.first.now in
     let second = option_copied a.second in
-    let row : Row = record { kind = a.kind; level = a.level; count = length items; next = a.next; page = a.page; first = key; second = second } in
+    let row : Row = of_parts a.kind a.level a.next a.page key second items in
     let at = 2 + 2 * length items + (c.words_for.result + c.bound_size.result) in
     let first : c.words_for.result ≡ length (packed key) =
     c.words_for.ensures.words ∙ ap (λ bytes. words_for (length bytes)) c.key_bytes-bytes.ensures.bytes ∙ sym (packed_long key) in

@@ -1,4 +1,4 @@
-use Rattle.listing.proofs.Words.{◌≡◌, ◌∷◌, ◌++◌, ◌+◌, ◌∙◌, [], take, true, false, option_copied, sym, subst, is_in_range}
+use Rattle.listing.proofs.Words.{◌≡◌, ◌∷◌, ◌++◌, ◌+◌, ◌∙◌, [], take, true, false, option_copied, sym, is_in_range}
 use Rattle.std.proofs.lemmas.List.{take_all}
 use Rattle.std.proofs.lemmas.Result.{IfOk-weaker}
 use Rattle.bw_model.specs.Log.{updated_key}
@@ -16,14 +16,14 @@ loop-update-preserved c =
     let grown : take (i + 1) log ≡ take i log ++ update ∷ [] = take-grown log i update c.loop-update-test.true c.update-item.is in
     elim c.if-is_inside.branch [
       | then-is_inside+in_ok-note w ↦
-          let within : is_in_range low high (updated_key update) ≡ true = subst (λ key. is_in_range low high key ≡ true) c.key.ensures (sym c.is_inside.ensures ∙ w.if-is_inside.true) in
+          let within : is_in_range low high (updated_key update) ≡ true = rw (← c.key.ensures) (sym c.is_inside.ensures ∙ w.if-is_inside.true) in
           rw (w.values-is, grown) record {
             ordered = w.in_ok-note.ensures.ordered;
             says = Says-inside (take i log) update low high c.loop-update.values
                 w.note.new.values within c.loop-update.invariant.says w.in_ok-note.ensures.noted;
           }
       | else-is_inside w ↦
-          let within : is_in_range low high (updated_key update) ≡ false = subst (λ key. is_in_range low high key ≡ false) c.key.ensures (sym c.is_inside.ensures ∙ w.if-is_inside.false) in
+          let within : is_in_range low high (updated_key update) ≡ false = rw (← c.key.ensures) (sym c.is_inside.ensures ∙ w.if-is_inside.false) in
           rw (w.values-is, grown) record { ordered = c.loop-update.invariant.ordered; says = Says-outside (take i log) update low high c.loop-update.values within c.loop-update.invariant.says }
     ]
 

@@ -79,7 +79,7 @@ loop-place-preserved g c = λ memory chain has stands.
     (c.loop-place.place - 1) within 0 c.record.result c.record.result (c.record.ensures memory has) in
     let next : c.loop-place.place ≡ suc (c.loop-place.place - 1) = omega (arith, c.loop-place-test.true) in
     next_makes chain (c.loop-place.place - 1) within c.record.result at _ _
-    (subst (λ n. Makes (drop n chain) c.loop-place.page) next (c.loop-place.invariant memory chain has stands)) c.apply.ensures.applies
+    (rw (← next) (c.loop-place.invariant memory chain has stands)) c.apply.ensures.applies
 
 pub returns-clause-ruled : goal.returns-clause-ruled
 returns-clause-ruled g c =

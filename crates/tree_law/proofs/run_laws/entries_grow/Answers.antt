@@ -1,6 +1,4 @@
-use Rattle.std.proofs.Common.{[], ◌∷◌}
-use Rattle.std.proofs.lemmas.List.Sums.{fold-append}
-use Rattle.traces.proofs.TraceLaws.{command_of-push, memory_of-push}
+use Rattle.tree_law.proofs.Words.{[], ◌∷◌, fold-append, command_of-push, memory_of-push}
 use Rattle.tree_law.proofs.run_laws.entries_grow.Goals as goal
 
 pub returns : goal.returns

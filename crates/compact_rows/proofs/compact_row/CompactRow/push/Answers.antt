@@ -1,4 +1,4 @@
-use Rattle.std.proofs.Common.{◌∙◌, ℕ, ap, length, arith}
+use Rattle.compact_rows.proofs.Words.{◌∙◌, ℕ, ap, length, arith}
 use Rattle.std.proofs.lemmas.List.{length-set, length-take-le}
 use Rattle.compact_rows.proofs.compact_row.CompactRow.push.Goals as goal
 
