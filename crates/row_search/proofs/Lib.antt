@@ -1,6 +1,7 @@
 pub mod Bisect
 pub mod Bounds
 pub mod ChangeLaws
+pub mod Ends
 pub mod Found
 pub mod ItemReads
 pub mod ItemTexts

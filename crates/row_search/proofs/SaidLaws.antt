@@ -2,7 +2,7 @@
 use Rattle.std.proofs.Common.{◌≡◌, ◌==◌, ℕ, List, get_or, refl, ap, arith}
 use Rattle.std.specs.Prelude.{true, false, Option, Some, None, unwrap_or}
 use Rattle.row_search.proofs.Words.{Child, Item, Record, row_of, items_of}
-use Rattle.base_page.specs.Pages.{content_at}
+use Rattle.base_page.specs.Pages.{content_at, value_in}
 use Rattle.deltas.specs.Records.{content_said, high_after, removed_after, right_after}
 use Rattle.deltas.specs.declared.record.Record.TheVariants.{Base, Put, Split, Term, Hold, Merge}
 use Rattle.row_search.specs.OneKey.{one_key, split_at}
@@ -38,6 +38,13 @@ module _ (key : List ℕ) where
   said_none (Hold hold) a b c d e = absurd (d refl)
   said_none (Merge merge) a b c d e = absurd (e refl)
   said_none content a b c d e = refl
+
+  -- other records say no value
+  pub no_value : (content : Record) → ((row_of content).kind ≡ 1 → ⊥) → ((row_of content).kind ≡ 2 → ⊥) → ((row_of content).kind ≡ 8 → ⊥) → None ≡ value_in (content_said content key)
+  no_value (Base page) a b c = absurd (a refl)
+  no_value (Put put) a b c = absurd (b refl)
+  no_value (Merge merge) a b c = absurd (c refl)
+  no_value content a b c = refl
 
 -- the page's right after it
 some_right : (right : Option ℕ) → (unwrap_or right 0 ≡ 0 → ⊥) → Some (unwrap_or right 0) ≡ right

@@ -1,6 +1,7 @@
 -- Texts that are compared one word after the other, up to the first one that differs.
-use Rattle.std.proofs.Common.{◌≡◌, ◌<◌, ◌≤◌, ◌+◌, ◌*◌, ℕ, zero, suc, List, [], ◌∷◌, false, true≢false, length, get_or, drop, take, refl, sym, ap, subst, ◌∙◌, arith}
+use Rattle.std.proofs.Common.{◌≡◌, ◌<◌, ◌≤◌, ◌+◌, ◌*◌, ℕ, zero, suc, List, [], ◌∷◌, true, false, true≢false, length, get_or, drop, take, refl, sym, ap, subst, ◌∙◌, arith}
 use Rattle.std.proofs.Common.{length-drop}
+use Rattle.std.proofs.lemmas.Map.Lookups.{exact_unsigned}
 use Rattle.row_search.proofs.Words.{get_or-drop, get_or-take, Ordering, Less, Equal, Greater, is_eq, nat_cmp, ordering_then, nat_cmp_is, slice_cmp, key_cmp, text_size, text_words, IsText}
 use Rattle.record_slots.proofs.WordLaws.{no_packed}
 use Rattle.row_search.proofs.KeyOrder.{lead_order, words_order}
@@ -13,6 +14,12 @@ settled Equal rest e = absurd (true≢false e)
 
 same_words : (x y : ℕ) → x ≡ y → nat_cmp x y ≡ Equal
 same_words x y e = sym (nat_cmp_is x y Equal e)
+
+-- words that compare as equal are the same
+pub same_word : (x y : ℕ) (o : Ordering) → o ≡ nat_cmp x y → is_eq o ≡ true → x ≡ y
+same_word x y Less e h = cc
+same_word x y Equal e h = exact_unsigned x y (sym e)
+same_word x y Greater e h = cc
 
 first_other : (place : ℕ) (xs ys : List ℕ) (o : Ordering) → place < length xs → place < length ys → ((j : ℕ) → j < place → get_or xs j 0 ≡ get_or ys j 0)
     → o ≡ nat_cmp (get_or xs place 0) (get_or ys place 0) → is_eq o ≡ false → slice_cmp nat_cmp xs ys ≡ o

@@ -101,7 +101,7 @@ impl KeyWords {
 
     /// How a text of a record compares with the key. Its length, beside which a held term has a mark, is looked at last, and only if all words are
     /// the same.
-    #[inline]
+    #[inline(always)]
     pub(crate) fn compare_text<R: Rows>(
         &self,
         row: &RowAt<R>,
@@ -125,9 +125,9 @@ impl KeyWords {
         count.cmp(&self.count)
     }
 
-    /// How the words of a text compare with the key's, up to the first one that differs. No words are looked at behind the key's last: where all
-    /// before them are the same, the lengths decide.
-    #[inline]
+    /// How the words of a text compare with the key's, up to the first one that differs. The first ones decide most comparisons, before the key's
+    /// length is loaded. None is looked at behind the key's last: where all before it are the same, the lengths decide.
+    #[inline(always)]
     fn compare_words<R: Rows>(
         &self,
         row: &RowAt<R>,
@@ -144,8 +144,14 @@ impl KeyWords {
         ensures alike { is_eq result ≡ true → (count : ℕ) (bytes : List ℕ)
             → IsText count (take TEXT_WORDS (drop (length_at text + 1) (row_words_of row.now))) bytes → nat_cmp count (length self.now) ≡ key_cmp bytes self.now }
     {
+        let order = row
+            .text_word(rows, pass, place, text, 0)
+            .cmp(&self.words[0]);
+        if !order.is_eq() {
+            return order;
+        }
         let used = ((self.count + 7) / 8) as usize;
-        let mut at = 0;
+        let mut at = 1;
         while at < used {
             let word = row.text_word(rows, pass, place, text, at);
             let order = word.cmp(&self.words[at]);

@@ -1,7 +1,7 @@
 //! What a record says of a key, looked at where it lies.
 ghost use Rattle.std.specs.Prelude.{◌≡◌, ◌<◌, Some, is_some, length, slice_index_or};
 ghost use Rattle.base_page.specs.declared.item.Item.{Item};
-ghost use Rattle.base_page.specs.declared.item.Content.TheVariants.{Child};
+ghost use Rattle.base_page.specs.declared.item.Content.TheVariants.{Child, Value as ValueSeen};
 ghost use Rattle.base_page.specs.Pages.{content_at, value_in};
 ghost use Rattle.deltas.specs.Records.{content_said};
 ghost use Rattle.record_slots.specs.Parts.{items_of, row_of};
@@ -68,10 +68,44 @@ impl<R: Rows> RowAt<R> {
         ensures same { pass.new ≡ pass.old }
         ensures said { result ≡ value_in (content_said self.now.content key.now) }
     {
-        match self.content_said(rows, pass, key) {
-            Some(Content::Value(value)) => Some(value),
-            _ => None,
+        let kind = self.kind();
+        if kind == kinds::BASE {
+            return self.value_at(rows, pass, key);
         }
+        if kind == kinds::PUT {
+            return self.value(rows, pass, 0);
+        }
+        if kind == kinds::MERGE {
+            return self.value_at(rows, pass, key);
+        }
+        None
+    }
+
+    /// The value that the items have at the key.
+    fn value_at(&self, rows: &R, pass: &mut R::Pass, key: &KeyWords) -> Option<Value>
+        requires read { R.has rows.now pass.old self.now.row self.now.content }
+        ensures same { pass.new ≡ pass.old }
+        ensures value { result ≡ value_in (content_at (items_of self.now.content) key.now) }
+    {
+        match self.place_of(rows, pass, key) {
+            Ok(place) => self.value(rows, pass, place),
+            Err(_) => None,
+        }
+    }
+
+    /// The value that the item at the place has.
+    fn value(&self, rows: &R, pass: &mut R::Pass, place: usize) -> Option<Value>
+        requires read { R.has rows.now pass.old self.now.row self.now.content }
+        requires there { place < length (items_of self.now.content) }
+        ensures same { pass.new ≡ pass.old }
+        ensures value { (d : Item) → result ≡ value_in (Some (slice_index_or (items_of self.now.content) place d).content) }
+    {
+        self.keeps_spelling();
+        if self.level() > 0 {
+            return None;
+        }
+        let lies = self.place(rows, pass);
+        Some(self.leaf_value(rows, pass, lies, place))
     }
 
     /// What the items have at the key.
@@ -129,9 +163,22 @@ impl<R: Rows> RowAt<R> {
             let held = self.length(rows, pass, lies, Text::Key(place)) >= HELD;
             return Content::Child { page, held };
         }
+        Content::Value(self.leaf_value(rows, pass, lies, place))
+    }
+
+    /// The value that the item at the place has, of a leaf's record that lies there.
+    #[inline(always)]
+    fn leaf_value(&self, rows: &R, pass: &mut R::Pass, lies: R::Place, place: usize) -> Value
+        requires read { R.lies rows.now pass.old lies self.now.content }
+        requires there { place < length (items_of self.now.content) }
+        requires leaf { (row_of self.now.content).level ≡ 0 }
+        ensures same { pass.new ≡ pass.old }
+        ensures value { (d : Item) → ValueSeen result ≡ (slice_index_or (items_of self.now.content) place d).content }
+    {
+        self.keeps_spelling();
         let count = self.length(rows, pass, lies, Text::Content(place));
         let bytes = self.bytes(rows, pass, lies, Text::Content(place), count);
-        Content::Value(Value::first_of(&bytes, count as u8))
+        Value::first_of(&bytes, count as u8)
     }
 
     /// The child that a term names.
