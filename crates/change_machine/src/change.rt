@@ -147,7 +147,9 @@ impl<A: Allocator> Change<A> {
         }
     }
 
-    /// The step that the change wants next, with the record that is to be placed lent from where it lies.
+    /// The step that the change wants next, with the record that is to be placed lent from where it lies. Inlined, so that a compiler drops it
+    /// where its contract alone is of use.
+    #[inline(always)]
     pub fn wanted(&self, spares: &Spares) -> Step<&Record>
         requires sound { IsSoundChange self.now spares.now }
         requires made { IsMade self.now spares.now }

@@ -1,6 +1,6 @@
 -- What an operation in its place is after an answer, from what its work or its sweep is.
 use Rattle.op_machine.proofs.Words.{◌≡◌, ◌<◌, Option, Some, None, is_some, true, false, refl, ap, ◌∙◌, arith, IsSome, Answer, StepOf, Record, Spares, Hand, IsToldOp}
-use Rattle.op_machine.proofs.Words.{Obeys, Op, asked_by, wanted_of, has_begun, Sweep}
+use Rattle.op_machine.proofs.Words.{Obeys, Op, asked_by, wanted_of, has_begun, Sweep, HoldsLimbo, Knowledge, Task, is_writer}
 use Rattle.bw_model.specs.declared.step.Answer.TheVariants.{Start}
 use Rattle.epochs.specs.Limbo.{Limbo}
 use Rattle.op_machine.specs.machine.InPlace.{ShowsOn, Takes, Wants}
@@ -9,7 +9,7 @@ use Rattle.op_machine.specs.machine.Spending.{Spends, SpendsSteps, steps_left, s
 use Rattle.op_machine.specs.machine.Sweeping.{HasFewer, IsSameWork, MovesSweep, ObeysSweep, with_limbo}
 use Rattle.op_machine.specs.machine.Works.{AsksOn, IsToldWith, KeepsLimbo, asked_of}
 use Rattle.op_machine.specs.machine.Wants.{Step}
-use Rattle.op_machine.specs.machine.States.{State, Begun}
+use Rattle.op_machine.specs.machine.States.{State, Begun, Epoch}
 use Rattle.op_machine.proofs.GoingLeft.{goes_left}
 use Rattle.op_machine.proofs.Nexts.{asks, asks_none, fewer, fits_on, fits_swept, kept_after, kept_begun, left_first, left_is, nothing_left, rests, starts, sweep_asks, told_after, unswept}
 use Rattle.sweep.specs.Bounded as sweep
@@ -149,3 +149,33 @@ module _ (old mid : Op) (spares : Spares) (limbo now : Limbo) (told : Answer Rec
         steps = rw first tt;
         left = rw first tt;
       }
+
+pub yet_begun : (state : State) → has_begun state ≡ false → state ≡ Begun
+yet_begun Begun off = refl
+yet_begun other off = cc
+
+-- the first step of the work
+pub starts_work : (task : Task) (sweep : Option Sweep) (spares : Spares) (state : State) → state ≡ Begun
+    → AsksOn (record { task = task; sweep = sweep; state = state }) spares Start (record { task = task; sweep = sweep; state = Epoch }) spares
+starts_work task sweep spares Begun first = record {
+  works = λ k r h f. h;
+  spends = λ k r h f. omega arith;
+  asks = refl;
+  same = record { limits = refl; actor = refl; command = refl };
+  sweep = refl;
+  steps = tt;
+}
+starts_work task sweep spares other first = cc
+
+-- a reader has no sweep, and begins its work at once
+module _ (old : Op) (had : Hand) (told : Answer Record) (first : old.state ≡ Begun) (reader : is_writer old.task.command ≡ false) where
+  without_sweep : (k : Knowledge) (o : Option Sweep) → HoldsLimbo old.task old.state had.limbo k o → o ≡ None
+  without_sweep k None holds = refl
+  without_sweep k (Some sweep) holds = let e = sym holds.writer ∙ reader in cc
+
+  pub takes_reader : (new : Op) → AsksOn old had.spares Start new had.spares → IsToldOp old had told → Takes old had told new had
+  takes_reader new after is =
+      let none = without_sweep is.k old.sweep is.shows.limbo in
+      takes_after old old had.spares had.limbo had.limbo told first (record { task = refl; state = refl })
+      (λ k r spares h f. subst (λ (o : Option Sweep). Shows old (with_limbo spares had.limbo) (learn_last k (asked_by o None) told) (recall_last r (asked_by o None) told)) (sym none) h)
+      none new had after (λ k r h f kept. rw first kept)

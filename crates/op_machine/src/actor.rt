@@ -154,6 +154,8 @@ impl<R: Rows, A: Allocator> Actor<R, A> {
     }
 
     /// Takes the answer to the step that its operation wants, which isn't the leave and reads no row, so that the operation goes on.
+    /// Inlined: each number that a lookup reads comes through here.
+    #[inline(always)]
     pub fn go_on(&mut self, told: Told)
         requires told { IsToldActor self.old (answer_of told) }
         requires stays { wanted_by self.old.running ≢ Some Step.Leave }

@@ -3,12 +3,13 @@ ghost use Rattle.std.specs.Prelude.{◌≡◌, ◌<◌, ◌≤◌, ◌^◌, [], 
 ghost use Rattle.bw_model.specs.Answers.{answer_of};
 ghost use Rattle.bw_model.specs.Lent.{step_of_loan};
 ghost use Rattle.bw_model.specs.declared.step.Answer.{Answer as AnswerOf};
-ghost use Rattle.bw_model.specs.declared.step.Answer.TheVariants.{Content};
+ghost use Rattle.bw_model.specs.declared.step.Answer.TheVariants.{Content, Start};
 ghost use Rattle.bw_model.specs.declared.step.Step.TheVariants.{Row};
 ghost use Rattle.traces.specs.discipline.Knowledge.{Knowledge, after_begin};
 ghost use Rattle.traces.specs.discipline.Recalled.{Recalled, blank, cause_worth};
 ghost use Rattle.deltas.specs.declared.record.Record.{Record as RecordOf};
 ghost use Rattle.change_machine.specs.Changes.{EndsByDeciding};
+ghost use Rattle.change_machine.specs.Spares.{Spares as SparesSeen};
 ghost use Rattle.op_parts.specs.Hands.{Hand as HandSeen};
 ghost use Rattle.op_machine.specs.machine.InPlace.{IsOpShown, Takes, Wants};
 ghost use Rattle.op_machine.specs.machine.Ops.{EndsAtLeave, IsAtRestWith, IsToldOp, IsToldOpThere, Obeys, Shows, wanted_of};
@@ -109,7 +110,8 @@ impl<R: Rows, A: Allocator> Operation<R, A> {
         self.task.errands()
     }
 
-    /// The step that the operation wants, with the record that is to be placed lent from where it lies.
+    /// The step that the operation wants, with the record that is to be placed lent from where it lies. Inlined with what it calls: an actor calls
+    /// it after each step for its contract alone, and a compiler drops that call.
     #[inline(always)]
     pub fn wanted(&self, hand: &Hand<A>) -> Step<&Record>
         requires shown { IsOpShown self.now hand.now }
@@ -140,7 +142,9 @@ impl<R: Rows, A: Allocator> Operation<R, A> {
         self.places.lacks()
     }
 
-    /// Takes the answer to the step that it wanted, which isn't the leave, and reads no row, or `Start`.
+    /// Takes the answer to the step that it wanted, which isn't the leave, and reads no row, or `Start`. Inlined: each number that a
+    /// lookup reads comes through here.
+    #[inline(always)]
     pub fn go_on(&mut self, hand: &mut Hand<A>, told: Told)
         requires told { IsToldOp self.old hand.old (answer_of told) }
         requires stays { is_leaving self.old.state ≡ false }
@@ -149,7 +153,10 @@ impl<R: Rows, A: Allocator> Operation<R, A> {
         if self.places.has_begun() {
             return self.work_on(hand, told);
         }
-        self.sweep_first(hand, told);
+        if self.task.command().is_writer() {
+            return self.sweep_first(hand, told);
+        }
+        self.ask_epoch();
     }
 
     /// Takes the record that it wanted to read.
@@ -163,7 +170,16 @@ impl<R: Rows, A: Allocator> Operation<R, A> {
         self.round_record(&hand.spares, found, rows, pass);
     }
 
-    /// Takes an answer before the first step of its work, which comes after a writer's sweep.
+    /// The first step of its work: asks for the epoch.
+    #[inline(always)]
+    fn ask_epoch(&mut self)
+        requires first { self.old.state ≡ State.Begun }
+        ensures { (spares : SparesSeen) → AsksOn self.old spares Start self.new spares }
+    {
+        self.places.go_to(StateKind::Epoch);
+    }
+
+    /// A writer takes an answer before the first step of its work, which comes after its sweep.
     #[inline(never)]
     fn sweep_first(&mut self, hand: &mut Hand<A>, told: Told)
         requires told { IsToldOp self.old hand.old (answer_of told) }
@@ -221,7 +237,8 @@ impl<R: Rows, A: Allocator> Operation<R, A> {
         }
     }
 
-    /// Takes the answer where no change is under way.
+    /// Takes the answer where no change is under way. Inlined: each number that a lookup reads comes through here.
+    #[inline(always)]
     fn move_on(&mut self, spares: &Spares, told: Told)
         requires told { IsToldOn self.old spares.now (answer_of told) }
         requires still { is_changing self.old.state ≡ false }
@@ -235,8 +252,8 @@ impl<R: Rows, A: Allocator> Operation<R, A> {
         }
     }
 
-    /// From a state without a machine the operation goes to another one.
-    #[inline(never)]
+    /// From a state without a machine the operation goes to another one. Inlined: each operation comes here twice.
+    #[inline(always)]
     fn turn(&mut self, spares: &Spares, told: Told)
         requires told { IsToldOn self.old spares.now (answer_of told) }
         requires alone { has_machine self.old.state ≡ false }
@@ -267,7 +284,8 @@ impl<R: Rows, A: Allocator> Operation<R, A> {
         }
     }
 
-    /// A reader's round takes a number.
+    /// A reader's round takes a number. Inlined: a lookup comes here for each page.
+    #[inline(always)]
     fn read_number(&mut self, spares: &Spares, told: Told)
         requires told { IsToldOn self.old spares.now (answer_of told) }
         requires reading { is_reading self.old.state ≡ true }
@@ -291,7 +309,8 @@ impl<R: Rows, A: Allocator> Operation<R, A> {
         }
     }
 
-    /// A writer's round takes a number.
+    /// A writer's round takes a number. Not inlined: a lookup doesn't come here.
+    #[inline(never)]
     fn write_number(&mut self, spares: &Spares, told: Told)
         requires told { IsToldOn self.old spares.now (answer_of told) }
         requires writing { is_writing self.old.state ≡ true }
