@@ -126,7 +126,7 @@ impl KeyWords {
     }
 
     /// How the words of a text compare with the key's, up to the first one that differs. The first ones decide most comparisons, before the key's
-    /// length is loaded. None is looked at behind the key's last: where all before it are the same, the lengths decide.
+    /// length is loaded. Of the others, none is looked at behind the key's last: where all before it are the same, the lengths decide.
     #[inline(always)]
     fn compare_words<R: Rows>(
         &self,

@@ -1,4 +1,4 @@
-use Rattle.std.proofs.Common.{sym, ◌∙◌}
+use Rattle.std.proofs.Common.{sym}
 use Rattle.row_search.proofs.Ends.{below_last}
 use Rattle.row_search.proofs.row_at.RowAt.ends_after.Goals as goal
 

@@ -1,4 +1,4 @@
-use Rattle.std.proofs.Common.{◌-◌, ℕ, length, get_or, sym, ap, ◌∙◌}
+use Rattle.std.proofs.Common.{◌-◌, ℕ, get_or, sym, ap, ◌∙◌}
 use Rattle.bw_model.specs.Bytes.{is_below}
 use Rattle.row_search.proofs.Words.{is_gt, items_of}
 use Rattle.row_search.proofs.RowTexts.{below_turned}
