@@ -1,6 +1,6 @@
 -- What an operation in its place is after an answer, from what its work or its sweep is.
-use Rattle.op_machine.proofs.Words.{◌≡◌, ◌<◌, Option, Some, None, is_some, true, false, refl, ap, ◌∙◌, arith, IsSome, Answer, StepOf, Record, Spares, Hand, IsToldOp}
-use Rattle.op_machine.proofs.Words.{Obeys, Op, asked_by, wanted_of, has_begun, Sweep, HoldsLimbo, Knowledge, Task, is_writer}
+use Rattle.op_machine.proofs.Words.{◌≡◌, ◌<◌, Option, Some, None, is_some, true, false, refl, sym, ap, subst, ◌∙◌, arith, IsSome, Answer, StepOf, Record, Spares, Hand, IsToldOp}
+use Rattle.op_machine.proofs.Words.{Obeys, Op, Shows, asked_by, wanted_of, has_begun, Sweep, HoldsLimbo, Knowledge, Task, is_writer}
 use Rattle.bw_model.specs.declared.step.Answer.TheVariants.{Start}
 use Rattle.epochs.specs.Limbo.{Limbo}
 use Rattle.op_machine.specs.machine.InPlace.{ShowsOn, Takes, Wants}

@@ -30,7 +30,7 @@ use bw_model::{Command, Key, Limits, Reply, Step, Told};
 use change_machine::{End, Kind, Spares};
 use deltas::Record;
 use epochs::Limbo;
-use op_parts::{Hand, sweeping, swept};
+use op_parts::{Hand, sweeping};
 use row_search::{RowAt, Rows};
 use std::alloc::{AllocError, Allocator, Global};
 use std::marker::Model;
@@ -202,11 +202,15 @@ impl<R: Rows, A: Allocator> Operation<R, A> {
         ensures same { IsSameWork self.old self.new }
         ensures on { result ≡ is_some self.new.sweep }
     {
-        self.sweep = match self.sweep.take() {
-            None => self.task.sweep(limbo),
-            Some(sweep) => swept(sweep, limbo, told),
+        let Some(sweep) = &mut self.sweep else {
+            self.sweep = self.task.sweep(limbo);
+            return self.sweep.is_some();
         };
-        self.sweep.is_some()
+        if sweep.next(limbo, told) {
+            return true;
+        }
+        self.sweep = None;
+        false
     }
 
     /// Takes the answer once the sweep is over, and comes to where the operation asks for its next step.
