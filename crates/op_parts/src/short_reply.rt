@@ -237,7 +237,9 @@ impl ReplyPlace {
     }
 }
 
-/// Tells the pairs of a leaf from a key on, or up to it: over the cursor page of the direction that lies there, where one does.
+/// Tells the pairs of a leaf from a key on, or up to it: over the cursor page of the direction that lies there, where one does. Not inlined:
+/// no other reply needs its frame.
+#[inline(never)]
 fn tell_page(leaf: &Page, direction: Direction, bound: &Key, reply: &mut Reply)
     ensures { reply.new ≡ page_shown direction bound.now leaf.now }
 {
