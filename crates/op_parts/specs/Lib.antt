@@ -1,4 +1,3 @@
 pub mod Errands
 pub mod ShortReplies
 pub mod Hands
-pub mod Sweeping
