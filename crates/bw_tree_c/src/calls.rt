@@ -16,6 +16,7 @@ use seats::BUDGET;
 
 impl TreeHandle {
     /// Runs a command on a seat, for at most so many steps.
+    #[inline(always)]
     fn run(&self, seat: u32, command: Command, budget: u32, old: &mut Bytes, since: Receipt) -> Told
         requires may { MayCallOn self.now.kept.value since }
         requires some { 1 ≤ budget }
@@ -42,6 +43,7 @@ impl TreeHandle {
 }
 
 /// Runs a command on a seat of a handle.
+#[inline(always)]
 fn run_in(
     shared: &Shared,
     seat: u32,

@@ -12,6 +12,7 @@ use seats::{BUDGET, called_in, resumed_in};
 
 impl Place {
     /// Runs a command for at most so many steps, if the seat is idle.
+    #[inline(always)]
     pub(crate) fn run(&mut self, command: Command, budget: u32, old: &mut Bytes) -> u32
         requires some { 1 ≤ budget }
         ensures later { IsLater self.old.seat self.new.seat }

@@ -27,9 +27,9 @@ pub lent_stays : (step : StepOf (Bor Record)) → (step ≡ Leave → ⊥) → s
 lent_stays Leave stays leaves = stays refl
 lent_stays step stays leaves = cc leaves
 
--- a step that reads a slot
-pub on_slot : (limits : Limits) (step : StepOf (Bor Record)) (pid : ℕ) → step ≡ Slot pid → IsWithin limits (step_of_loan step) → HasWord limits (step_of_loan step)
-on_slot limits step pid is = subst (λ s. IsWithin limits (step_of_loan s) → HasWord limits (step_of_loan s)) (sym is) (λ within. within)
-
+-- a step that reads a slot, or enters
 pub slot_stays : (step : StepOf (Bor Record)) (pid : ℕ) → step ≡ Slot pid → step_of_loan step ≡ Leave → ⊥
 slot_stays step pid is = subst (λ s. step_of_loan s ≡ Leave → ⊥) (sym is) (λ leaves. cc)
+
+pub enter_stays : (step : StepOf (Bor Record)) (epoch : ℕ) → step ≡ Enter epoch → step_of_loan step ≡ Leave → ⊥
+enter_stays step epoch is = subst (λ s. step_of_loan s ≡ Leave → ⊥) (sym is) (λ leaves. cc)

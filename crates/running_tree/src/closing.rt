@@ -11,9 +11,10 @@ use crate::closing::closed_tree::ClosedTree;
 use crate::lawful_runs::{TreeLaw, TreeWords, runs_are_one_history};
 use crate::seat::BwSeat;
 use crate::tree::Tree;
-use bw_model::{Key, Limits, Value};
+use bw_model::{Key, Value};
 use std::alloc::Allocator;
 use table_rule::{TableSeat, blank, closing_spells, join};
+use tree_words::Layout;
 
 impl<A: Allocator> Tree<A> {
     /// Closes the tree, and returns its pairs in the order of their keys. Refused, with the tree and the seats as they were, if a seat is
@@ -31,13 +32,13 @@ impl<A: Allocator> Tree<A> {
         ensures tree { IfErr result (λ error. error.tree ≡ self) }
         ensures seats { IfErr result (λ error. error.seats.items ≡ seats.items) }
     {
-        if (seats.len() as u64) < self.limits.actors {
+        if (seats.len() as u64) < self.limits.limits().actors {
             return Err(refused(CloseRefusal::Seats, self, seats));
         }
         if !are_idle(seats.as_slice()) {
             return Err(refused(CloseRefusal::NotIdle, self, seats));
         }
-        let Ok(pairs) = Vec::with_capacity(alloc, 24 * self.limits.pids as usize) else {
+        let Ok(pairs) = Vec::with_capacity(alloc, 24 * self.limits.limits().pids as usize) else {
             return Err(refused(CloseRefusal::Memory, self, seats));
         };
         Ok(self.shut(seats).listed(pairs))
@@ -54,7 +55,7 @@ impl<A: Allocator> Tree<A> {
         ensures tree { IfErr result (λ error. error.tree ≡ self) }
         ensures seats { IfErr result (λ error. error.seats.items ≡ seats.items) }
     {
-        if (seats.len() as u64) < self.limits.actors {
+        if (seats.len() as u64) < self.limits.limits().actors {
             return Err(refused(CloseRefusal::Seats, self, seats));
         }
         if !are_idle(seats.as_slice()) {
@@ -76,7 +77,7 @@ impl<A: Allocator> Tree<A> {
         let words = table.close_with(whole);
         // The leftmost leaf has PID 1 for ever.
         ClosedTree {
-            limits,
+            limits: *limits.limits(),
             words,
             near: 1,
         }
@@ -113,7 +114,7 @@ pub fn are_idle<A: Allocator>(seats: &[BwSeat<A>]) -> bool
 }
 
 /// All seats in one.
-fn joined<A: Allocator>(words: &TreeWords, limits: &Limits, seats: Vec<BwSeat<A>, A>) -> TableSeat
+fn joined<A: Allocator>(words: &TreeWords, limits: &Layout, seats: Vec<BwSeat<A>, A>) -> TableSeat
     requires table { IsTreeTable limits.now words.now.key words.now.table_id }
     requires own { AreSeatsOf (record { limits = limits.now; table = words.now.table_id }) seats.items }
     ensures table { result.table_id ≡ words.now.table_id }

@@ -19,7 +19,7 @@ use op_machine::{Actor, idle_actors_rest};
 use std::alloc::{AllocError, Allocator};
 use std::mem::replace;
 use table_rule::{TableSeat, cut, join, opening_keeps, refresh};
-use tree_words::opening_words;
+use tree_words::{Layout, opening_words};
 
 /// A tree with one leaf, the seat of its first actor, and one place in which all others stand.
 pub(crate) fn begun<A: Allocator + Copy>(
@@ -39,14 +39,22 @@ pub(crate) fn begun<A: Allocator + Copy>(
         return Err(AllocError);
     };
     let (table, mut place) = Table::of_words(alloc, words.as_slice(), &limits)?;
-    let others = cut(&table.shared, &mut place, &limits);
+    let layout = Layout::of(&limits);
+    let others = cut(&table.shared, &mut place, &layout);
     let first = BwSeat {
         desk: Desk { place, number: 0 },
-        limits,
+        limits: Layout::of(&limits),
         actor,
         spelt: CompactRow::new(),
     };
-    Ok((Tree { limits, table }, first, others))
+    Ok((
+        Tree {
+            limits: layout,
+            table,
+        },
+        first,
+        others,
+    ))
 }
 
 /// Puts the others behind a seat, and sees the longest run for all of them, which stand in a place of their own again.
@@ -90,20 +98,21 @@ pub(crate) fn dealt_out<A: Allocator + Copy>(
     seats_last();
     empty_run_is_lawful();
     idle_actors_rest();
-    let limits = tree.limits;
+    let layout = &tree.limits;
+    let limits = layout.limits();
     let _ = &first.limits;
     let mut seats = Vec::with_capacity(alloc, limits.actors as usize)?;
     let mut rest = others;
     seats.push(first)?;
     for number in 1..limits.actors as u8 {
-        let others = cut(&tree.table.shared, &mut rest, &limits);
+        let others = cut(&tree.table.shared, &mut rest, layout);
         let place = replace(&mut rest, others);
-        let Ok(actor) = Actor::<Tree<A>, A>::idle(alloc, &limits, number) else {
+        let Ok(actor) = Actor::<Tree<A>, A>::idle(alloc, limits, number) else {
             return Err(AllocError);
         };
         seats.push(BwSeat {
             desk: Desk { place, number },
-            limits,
+            limits: Layout::of(limits),
             actor,
             spelt: CompactRow::new(),
         })?;

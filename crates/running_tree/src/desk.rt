@@ -13,7 +13,6 @@ use compact_rows::{CompactRows, length_spread, look_spread, records_have_room, w
 use row_search::{Rows, Text};
 use std::alloc::Allocator;
 use table_rule::{TableSeat, look_at};
-use tree_words::row_place;
 
 /// A seat at the table of words, and the actor whose seat it is: by it rows are looked at.
 #[derive(Drop)]
@@ -28,6 +27,8 @@ pub struct PlacedRow {
     pub(crate) row: u32,
     pub(crate) place: usize,
     pub(crate) first: u64,
+    /// Whether it is a large tree's.
+    pub(crate) is_large: bool,
 }
 
 impl<A: Allocator> Rows for Tree<A> {
@@ -49,8 +50,9 @@ impl<A: Allocator> Rows for Tree<A> {
         let _ = pass;
         PlacedRow {
             row,
-            place: row_place(&self.limits, row),
+            place: self.limits.row(row),
             first,
+            is_large: self.limits.is_large(),
         }
     }
 
@@ -58,7 +60,7 @@ impl<A: Allocator> Rows for Tree<A> {
     /// texts.
     #[inline(never)]
     fn look(&self, pass: &mut Desk, place: PlacedRow, at: usize) -> u64 {
-        if self.limits.is_large {
+        if self.limits.is_large() {
             return look_compact(self, pass, place, at);
         }
         look_word(self, pass, place, at)
@@ -66,7 +68,7 @@ impl<A: Allocator> Rows for Tree<A> {
 
     #[inline(always)]
     fn length(&self, pass: &mut Desk, place: PlacedRow, text: Text) -> u64 {
-        if self.limits.is_large {
+        if place.is_large {
             return length_spread(self, pass, place, place.first, text);
         }
         look_word(self, pass, place, text.length_at())
@@ -74,7 +76,7 @@ impl<A: Allocator> Rows for Tree<A> {
 
     #[inline(always)]
     fn word(&self, pass: &mut Desk, place: PlacedRow, text: Text, at: usize) -> u64 {
-        if self.limits.is_large {
+        if place.is_large {
             return word_spread(self, pass, place, place.first, text, at);
         }
         look_word(self, pass, place, text.length_at() + 1 + at)

@@ -39,7 +39,7 @@ impl<A: Allocator> Tree<A> {
     {
         Note {
             place: note(&self.table.shared, &mut seat.desk.place, &self.limits),
-            limits: seat.limits,
+            limits: *seat.limits.limits(),
         }
     }
 

@@ -11,7 +11,7 @@ ghost use Rattle.table_rule.specs.Views.{IsOf};
 use crate::lawful_runs::{TreeWords, seats_last};
 use crate::seat::BwSeat;
 use crate::tree::Tree;
-use bw_model::{Limits, Step};
+use bw_model::Step;
 use change_machine::Kind;
 use deltas::Record;
 use std::alloc::Allocator;
@@ -56,7 +56,7 @@ impl<A: Allocator> BwSeat<A> {
         ensures counted { HasCounted self.old.limits self.old.actor kind (count_of self.old.limits kind) self.old.seen self.new.seen result }
     {
         let mut count = 0;
-        for word in 0..kind.count(&self.limits) / 64 {
+        for word in 0..kind.count(self.limits.limits()) / 64 {
             count += self.watch_bits(words, kind, word as u32);
         }
         count

@@ -10,20 +10,21 @@ ghost use Rattle.table_rule.specs.declared.view.Reach.TheVariants.{Idle};
 
 use crate::desk::Desk;
 use crate::lawful_runs::{laws_of_runs, runs_are_one_history};
-use crate::taking::{Taken, take, take_leave};
+use crate::taking::{Taken, take, take_first, take_leave};
 use crate::tree::Tree;
-use bw_model::{Command, Limits, Reply};
+use bw_model::{Command, Reply};
 use compact_rows::CompactRow;
 use op_machine::Actor;
 use row_search::RowAt;
 use std::alloc::{Allocator, Global};
 use std::marker::Model;
-use table_rule::{TableSeat, act};
+use table_rule::TableSeat;
+use tree_words::Layout;
 
 /// A seat (session) of a tree: whoever has it acts as one actor, one call at a time.
 pub struct BwSeat<A: Allocator = Global> {
     pub(crate) desk: Desk,
-    pub(crate) limits: Limits,
+    pub(crate) limits: Layout,
     pub(crate) actor: Actor<Tree<A>, A>,
     pub(crate) spelt: CompactRow,
 }
@@ -90,15 +91,15 @@ impl<A: Allocator> BwSeat<A> {
         ensures begins { HasBegun self.old command self.new }
     {
         laws_of_runs();
-        self.actor.begin(command, self.desk.number, &self.limits);
-        let told = act(
+        self.actor
+            .begin(command, self.desk.number, self.limits.limits());
+        let told = take_first(
             &tree.table.shared,
             &mut self.desk.place,
             &self.limits,
             self.desk.number,
-            &self.actor.wanted(),
+            self.actor.wanted(),
             self.actor.command(),
-            None,
         );
         self.actor.go_on(told);
     }
@@ -131,7 +132,7 @@ impl<A: Allocator> BwSeat<A> {
             &mut self.desk.place,
             &self.limits,
             self.desk.number,
-            &self.actor.wanted(),
+            self.actor.wanted(),
             &mut self.spelt,
         );
         match taken {

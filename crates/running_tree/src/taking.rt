@@ -1,5 +1,5 @@
 //! One step on the words of the tree.
-ghost use Rattle.std.specs.Prelude.{◌≡◌, ◌≢◌, ◌<◌, None, Some, true, false, slice_index};
+ghost use Rattle.std.specs.Prelude.{◌≡◌, ◌≢◌, ◌<◌, None, Some, true, false, option_copied, slice_index};
 ghost use Rattle.deltas.specs.declared.record.Record.{Record as RecordSeen};
 ghost use Rattle.record_slots.specs.Spells.{HasSpelling};
 ghost use Rattle.row_search.specs.Begins.{Begins};
@@ -21,11 +21,12 @@ ghost use Rattle.table_rule.specs.Steps.{IsLawfulStep, Took};
 ghost use Rattle.table_rule.specs.Views.{SitsAt, IsOf, seen_of};
 
 use crate::lawful_runs::{TreeWords, runs_keep_rows_apart};
-use bw_model::{Limits, Reply, Step, Told};
+use bw_model::{Command, Reply, Step, Told};
 use compact_rows::{CompactRow, compact_in, records_have_room, words_are_seen};
 use deltas::Record;
 use record_slots::{WrittenRow, write_record};
 use table_rule::{TableSeat, act, place_row, read_first};
+use tree_words::Layout;
 
 /// What a step answers.
 #[derive(Drop)]
@@ -38,68 +39,126 @@ pub(crate) enum Taken {
     Told(Told),
 }
 
-/// Takes a step that the seat's actor may take, but for the leave. Reads of rows and slots are most of all steps, and are taken here.
+/// Takes a step that the seat's actor may take, but for the leave. Reads of rows and slots are most of all steps, and are taken here, as an
+/// operation's entering is. By value: a step that is lent lies in memory.
 #[inline(always)]
 pub(crate) fn take(
     words: &TreeWords,
     place: &mut TableSeat,
-    limits: &Limits,
+    limits: &Layout,
     number: u8,
-    step: &Step<&Record>,
+    step: Step<&Record>,
     spelt: &mut CompactRow,
 ) -> Taken
     requires table { IsOf limits.now words.now.key words.now.table_id place.old.table_id }
     requires there { number < limits.now.actors }
-    requires within { IsWithin limits.now (step_of_loan step.now) }
+    requires within { IsWithin limits.now (step_of_loan step) }
     requires seat { SitsAt limits.now number Idle place.old.me }
-    requires known { May number (knows (seen_of place.old.me) number) (step_of_loan step.now) }
-    requires may { step_of_loan step.now ≢ Leave → IsLawfulStep IsLawfulRun limits.now number (seen_of place.old.me) None (step_of_loan step.now) None }
+    requires known { May number (knows (seen_of place.old.me) number) (step_of_loan step) }
+    requires may { step_of_loan step ≢ Leave → IsLawfulStep IsLawfulRun limits.now number (seen_of place.old.me) None (step_of_loan step) None }
     ensures same { place.new.table_id ≡ place.old.table_id }
     ensures seat { SitsAt limits.now number Idle place.new.me }
-    ensures took { HasTaken limits.now number (seen_of place.old.me) (step_of_loan step.now) result (seen_of place.new.me) }
+    ensures took { HasTaken limits.now number (seen_of place.old.me) (step_of_loan step.entry) result (seen_of place.new.me) }
     ensures leaving { result ≡ Leaving → place.new.me ≡ place.old.me }
 {
     match step {
         Step::Leave => Taken::Leaving,
         Step::Row(row) => {
             runs_keep_rows_apart();
-            let first = read_first(words, place, limits, number, *row);
+            let first = read_first(words, place, limits, number, row);
             row_begins(limits, first);
-            Taken::First(*row, first)
+            Taken::First(row, first)
         }
         Step::Place(row, record) => {
-            place_record(words, place, limits, number, *row, record, spelt);
+            place_record(words, place, limits, number, row, record, spelt);
             Taken::Told(Told::Done)
         }
-        Step::Slot(_) => Taken::Told(act(words, place, limits, number, step, None, None)),
+        Step::Slot(pid) => {
+            let step = Step::Slot(pid);
+            Taken::Told(act(words, place, limits, number, &step, None, None))
+        }
+        Step::Enter(epoch) => {
+            let step = Step::Enter(epoch);
+            Taken::Told(act(words, place, limits, number, &step, None, None))
+        }
         _ => Taken::Told(act_on(words, place, limits, number, step)),
     }
 }
 
-/// Takes a step that is one atomic operation on a word. Not inlined: a lookup takes two such steps.
+/// Takes a step that is one atomic operation on a word. Not inlined: a lookup takes no such step.
 #[inline(never)]
 fn act_on(
     words: &TreeWords,
     place: &mut TableSeat,
-    limits: &Limits,
+    limits: &Layout,
     number: u8,
-    step: &Step<&Record>,
+    step: Step<&Record>,
 ) -> Told
     requires table { IsOf limits.now words.now.key words.now.table_id place.old.table_id }
-    requires range { HasWord limits.now (step_of_loan step.now) }
+    requires range { HasWord limits.now (step_of_loan step) }
     requires actor { number < most_large_actors }
     requires seat { SitsAt limits.now number Idle place.old.me }
-    requires may { IsLawfulStep IsLawfulRun limits.now number (seen_of place.old.me) None (step_of_loan step.now) None }
+    requires may { IsLawfulStep IsLawfulRun limits.now number (seen_of place.old.me) None (step_of_loan step) None }
     ensures same { place.new.table_id ≡ place.old.table_id }
     ensures seat { SitsAt limits.now number Idle place.new.me }
-    ensures took { Took IsLawfulRun limits.now number (seen_of place.old.me) None (step_of_loan step.now) (answer_of result) None (seen_of place.new.me) }
+    ensures took { Took IsLawfulRun limits.now number (seen_of place.old.me) None (step_of_loan step.entry) (answer_of result) None (seen_of place.new.me) }
 {
-    act(words, place, limits, number, step, None, None)
+    act(words, place, limits, number, &step, None, None)
+}
+
+/// Takes the first step of an operation, which reads the epoch, with the operation's command.
+#[inline(always)]
+pub(crate) fn take_first(
+    words: &TreeWords,
+    place: &mut TableSeat,
+    limits: &Layout,
+    number: u8,
+    step: Step<&Record>,
+    begun: Option<&Command>,
+) -> Told
+    requires table { IsOf limits.now words.now.key words.now.table_id place.old.table_id }
+    requires range { HasWord limits.now (step_of_loan step) }
+    requires actor { number < most_large_actors }
+    requires seat { SitsAt limits.now number Idle place.old.me }
+    requires may { IsLawfulStep IsLawfulRun limits.now number (seen_of place.old.me) (option_copied begun) (step_of_loan step) None }
+    ensures same { place.new.table_id ≡ place.old.table_id }
+    ensures seat { SitsAt limits.now number Idle place.new.me }
+    ensures took { Took IsLawfulRun limits.now number (seen_of place.old.me) (option_copied begun.entry) (step_of_loan step.entry) (answer_of result) None (seen_of place.new.me) }
+{
+    match step {
+        Step::Epoch => {
+            let step = Step::Epoch;
+            act(words, place, limits, number, &step, begun, None)
+        }
+        _ => act_first(words, place, limits, number, step, begun),
+    }
+}
+
+/// Takes any other first step. Not inlined: there is none, and so no step lies in memory.
+#[inline(never)]
+fn act_first(
+    words: &TreeWords,
+    place: &mut TableSeat,
+    limits: &Layout,
+    number: u8,
+    step: Step<&Record>,
+    begun: Option<&Command>,
+) -> Told
+    requires table { IsOf limits.now words.now.key words.now.table_id place.old.table_id }
+    requires range { HasWord limits.now (step_of_loan step) }
+    requires actor { number < most_large_actors }
+    requires seat { SitsAt limits.now number Idle place.old.me }
+    requires may { IsLawfulStep IsLawfulRun limits.now number (seen_of place.old.me) (option_copied begun) (step_of_loan step) None }
+    ensures same { place.new.table_id ≡ place.old.table_id }
+    ensures seat { SitsAt limits.now number Idle place.new.me }
+    ensures took { Took IsLawfulRun limits.now number (seen_of place.old.me) (option_copied begun.entry) (step_of_loan step.entry) (answer_of result) None (seen_of place.new.me) }
+{
+    act(words, place, limits, number, &step, begun, None)
 }
 
 /// Shows that a record's row begins with its first word, whichever form it has there, at no cost.
 #[inline(always)]
-fn row_begins(limits: &Limits, first: u64)
+fn row_begins(limits: &Layout, first: u64)
     ensures { (content : RecordSeen) → HasSpelling content → first ≡ slice_index (stored limits.now content) 0 → Begins first content }
 {
     words_are_seen();
@@ -112,7 +171,7 @@ fn row_begins(limits: &Limits, first: u64)
 pub(crate) fn take_leave(
     words: &TreeWords,
     place: &mut TableSeat,
-    limits: &Limits,
+    limits: &Layout,
     number: u8,
     reply: &Reply,
 )
@@ -139,7 +198,7 @@ pub(crate) fn take_leave(
 fn place_record(
     words: &TreeWords,
     place: &mut TableSeat,
-    limits: &Limits,
+    limits: &Layout,
     number: u8,
     row: u32,
     content: &Record,
@@ -155,7 +214,7 @@ fn place_record(
     ensures seat { SitsAt limits.now number Idle place.new.me }
     ensures took { Took IsLawfulRun limits.now number (seen_of place.old.me) None (Step.Place row content.now) Answer.Done None (seen_of place.new.me) }
 {
-    if limits.is_large {
+    if limits.is_large() {
         place_compact(words, place, limits, number, row, content, spelt);
     } else {
         place_spelt(words, place, limits, number, row, content);
@@ -167,7 +226,7 @@ fn place_record(
 fn place_compact(
     words: &TreeWords,
     place: &mut TableSeat,
-    limits: &Limits,
+    limits: &Layout,
     number: u8,
     row: u32,
     content: &Record,
@@ -194,7 +253,7 @@ fn place_compact(
 fn place_spelt(
     words: &TreeWords,
     place: &mut TableSeat,
-    limits: &Limits,
+    limits: &Layout,
     number: u8,
     row: u32,
     content: &Record,

@@ -14,11 +14,12 @@ use std::alloc::{Allocator, Global};
 use std::marker::Model;
 use std::mem::replace;
 use table_rule::{Rule, View, blank, cut, join, refresh};
+use tree_words::Layout;
 
 /// An ordered map that threads share by reference, each with a seat of its own.
 #[derive(Drop)]
 pub struct Tree<A: Allocator = Global> {
-    pub(crate) limits: Limits,
+    pub(crate) limits: Layout,
     pub(crate) table: Table<(), View, Limits, Rule<TreeLaw>, A>,
 }
 
@@ -50,6 +51,7 @@ impl<A: Allocator> Tree<A> {
 
     /// As `call`, but writes the reply into the caller's place, and returns whether the operation is done: a lookup then
     /// moves no reply's room, 3.2 KB. Where it isn't done, any reply may lie there.
+    #[inline(always)]
     pub fn call_in(
         &self,
         seat: &mut BwSeat<A>,

@@ -86,6 +86,7 @@ pub fn called(tree: &Tree, seat: &mut BwSeat, command: Command, budget: u32) -> 
 
 /// As `called`, but writes the reply into the caller's place, and returns whether the operation is done. A lookup then moves no reply's
 /// room.
+#[inline(always)]
 pub fn called_in(
     tree: &Tree,
     seat: &mut BwSeat,

@@ -16,10 +16,9 @@ ghost use Rattle.table_rule.specs.Views.{SitsAt, IsOf, seen_of};
 use crate::plays::{Beginning, Filling, Measuring, Placing, Telling};
 use crate::rule::{Law, TableSeat, Words};
 use crate::used::words_over;
-use bw_model::Limits;
 use deltas::Record;
 use std::marker::Brand;
-use tree_words::row_place;
+use tree_words::Layout;
 
 /// A record that is to be placed.
 #[derive(Clone, Copy)]
@@ -37,7 +36,7 @@ struct Placed<'a> {
 pub fn place_row<P: Law>(
     words: &Words<P>,
     seat: &mut TableSeat,
-    limits: &Limits,
+    limits: &Layout,
     actor: u8,
     row: u32,
     content: &Record,
@@ -70,7 +69,7 @@ pub fn place_row<P: Law>(
 fn begin_row<P: Law>(
     words: &Words<P>,
     seat: &mut TableSeat,
-    limits: &Limits,
+    limits: &Layout,
     actor: u8,
     placed: &Placed,
 ) -> u64
@@ -86,8 +85,8 @@ fn begin_row<P: Law>(
     ensures room { used_by result ≤ ROW_WORDS }
 {
     let _ = actor;
-    let base = row_place(limits, placed.row);
-    if limits.is_large {
+    let base = limits.row(placed.row);
+    if limits.is_large() {
         words.store::<Beginning>(seat, base + 1, placed.spelt[1]);
         0
     } else {
@@ -99,7 +98,7 @@ fn begin_row<P: Law>(
 fn fill_row<P: Law>(
     words: &Words<P>,
     seat: &mut TableSeat,
-    limits: &Limits,
+    limits: &Layout,
     actor: u8,
     first: u64,
     placed: &Placed,
@@ -116,9 +115,9 @@ fn fill_row<P: Law>(
     ensures seat { SitsAt limits.now actor (Writing placed.now.row first (written_over limits.now first placed.now.spelt.now)) seat.new.me }
     ensures seen { seen_of seat.new.me ≡ seen_of seat.old.me }
 {
-    let base = row_place(limits, placed.row);
+    let base = limits.row(placed.row);
     let behind = words_over(limits, first, placed.spelt);
-    let mut i = usize::from(limits.is_large);
+    let mut i = usize::from(limits.is_large());
     while i < behind {
         words.store::<Filling>(seat, base + i + 1, placed.spelt[i + 1]);
         i += 1;
@@ -129,7 +128,7 @@ fn fill_row<P: Law>(
 fn place_header<P: Law, C: Telling>(
     words: &Words<P>,
     seat: &mut TableSeat,
-    limits: &Limits,
+    limits: &Layout,
     actor: u8,
     first: u64,
     placed: &Placed,
@@ -149,5 +148,5 @@ fn place_header<P: Law, C: Telling>(
     ensures took { Took P.law limits.now actor (seen_of seat.old.me) None (Place placed.now.row placed.now.content.now) Done None (seen_of seat.new.me) }
 {
     let _ = first;
-    words.store::<Placing<P, C>>(seat, row_place(limits, placed.row), placed.spelt[0]);
+    words.store::<Placing<P, C>>(seat, limits.row(placed.row), placed.spelt[0]);
 }

@@ -15,8 +15,7 @@ ghost use Rattle.table_rule.specs.Views.{SitsAt, IsOf, seen_of};
 
 use crate::plays::{Looking, Reading};
 use crate::rule::{Law, TableSeat, Words};
-use bw_model::Limits;
-use tree_words::row_place;
+use tree_words::Layout;
 
 /// The words of a cache line.
 const LINE_WORDS: usize = 8;
@@ -27,7 +26,7 @@ const LINE_WORDS: usize = 8;
 pub fn read_first<P: Law>(
     words: &Words<P>,
     seat: &mut TableSeat,
-    limits: &Limits,
+    limits: &Layout,
     actor: u8,
     row: u32,
 ) -> u64
@@ -41,7 +40,7 @@ pub fn read_first<P: Law>(
     ensures seat { SitsAt limits.now actor Idle seat.new.me }
     ensures took { ReadsFirst P.law limits.now actor (seen_of seat.old.me) row result (seen_of seat.new.me) }
 {
-    let place = row_place(limits, row);
+    let place = limits.row(row);
     look_ahead::<P>(words, seat, limits, actor, row, place);
     words.load::<Reading<P>>(seat, place)
 }
@@ -52,7 +51,7 @@ pub fn read_first<P: Law>(
 fn look_ahead<P: Law>(
     words: &Words<P>,
     seat: &mut TableSeat,
-    limits: &Limits,
+    limits: &Layout,
     actor: u8,
     row: u32,
     place: usize,
@@ -65,7 +64,7 @@ fn look_ahead<P: Law>(
     requires known { KnowsReadable (knows (seen_of seat.old.me) actor) row }
     ensures same { seat.new ≡ seat.old }
 {
-    if limits.is_large && u64::from(row) >= limits.narrow_rows {
+    if limits.is_large() && !limits.is_narrow(row) {
         look_at::<P>(words, seat, limits, actor, row, place, LINE_WORDS);
         look_at::<P>(words, seat, limits, actor, row, place, 2 * LINE_WORDS);
         look_at::<P>(words, seat, limits, actor, row, place, 3 * LINE_WORDS);
@@ -80,7 +79,7 @@ fn look_ahead<P: Law>(
 pub fn look_at<P: Law>(
     words: &Words<P>,
     seat: &mut TableSeat,
-    limits: &Limits,
+    limits: &Layout,
     actor: u8,
     row: u32,
     place: usize,

@@ -4,10 +4,10 @@ ghost use Rattle.table_rule.specs.Views.{HasPart, IsBlank, IsOf, IsRefreshed, fi
 
 use crate::plays::{Apart, Blank, Noting, Refreshing, Together};
 use crate::rule::{Law, TableSeat, Words};
-use bw_model::Limits;
+use tree_words::Layout;
 
 /// Sees the longest run, by one load that tells nothing else.
-pub fn refresh<P: Law>(words: &Words<P>, seat: &mut TableSeat, limits: &Limits)
+pub fn refresh<P: Law>(words: &Words<P>, seat: &mut TableSeat, limits: &Layout)
     requires table { IsOf limits.now words.now.key words.now.table_id seat.old.table_id }
     requires some { HasPart limits.now seat.old.me.0 }
     ensures same { seat.new.table_id ≡ seat.old.table_id }
@@ -18,7 +18,7 @@ pub fn refresh<P: Law>(words: &Words<P>, seat: &mut TableSeat, limits: &Limits)
 }
 
 /// Cuts a seat in two: the first actor stays, and a new seat has the others.
-pub fn cut<P: Law>(words: &Words<P>, seat: &mut TableSeat, limits: &Limits) -> TableSeat
+pub fn cut<P: Law>(words: &Words<P>, seat: &mut TableSeat, limits: &Layout) -> TableSeat
     requires table { IsOf limits.now words.now.key words.now.table_id seat.old.table_id }
     ensures same { seat.new.table_id ≡ seat.old.table_id }
     ensures table { result.table_id ≡ seat.old.table_id }
@@ -30,7 +30,7 @@ pub fn cut<P: Law>(words: &Words<P>, seat: &mut TableSeat, limits: &Limits) -> T
 }
 
 /// A note of what the first actor of a seat has seen. The seat stays as it is.
-pub fn note<P: Law>(words: &Words<P>, seat: &mut TableSeat, limits: &Limits) -> TableSeat
+pub fn note<P: Law>(words: &Words<P>, seat: &mut TableSeat, limits: &Layout) -> TableSeat
     requires table { IsOf limits.now words.now.key words.now.table_id seat.old.table_id }
     ensures same { seat.new.table_id ≡ seat.old.table_id }
     ensures stays { seat.new.me ≡ seat.old.me }
@@ -42,7 +42,7 @@ pub fn note<P: Law>(words: &Words<P>, seat: &mut TableSeat, limits: &Limits) -> 
 }
 
 /// Puts the actors of another seat, or a note, behind those of this one.
-pub fn join<P: Law>(words: &Words<P>, seat: &mut TableSeat, other: TableSeat, limits: &Limits)
+pub fn join<P: Law>(words: &Words<P>, seat: &mut TableSeat, other: TableSeat, limits: &Layout)
     requires table { IsOf limits.now words.now.key words.now.table_id seat.old.table_id }
     requires other { other.table_id ≡ words.now.table_id }
     requires home { other.me.1 ≡ [] }

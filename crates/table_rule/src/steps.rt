@@ -10,11 +10,11 @@ ghost use Rattle.tree_words.specs.Changes.{HasWord, SetsBits, changed_word, oper
 
 use crate::plays::{Acting, Telling};
 use crate::rule::{Law, TableSeat, Words};
-use bw_model::{Command, Limits, Reply, Step, Told};
+use bw_model::{Command, Reply, Step, Told};
 use deltas::Record;
 use std::marker::Brand;
 use tree_words::{
-    Operation, made_by, operations_are_steps, steps_change_one_word, told_by, word_place,
+    Layout, Operation, made_by, operations_are_steps, steps_change_one_word, told_by, word_place,
 };
 
 /// Takes a step of the seat's actor that is one atomic operation on a word, and returns its answer. `begun` is the command of an operation
@@ -23,7 +23,7 @@ use tree_words::{
 pub fn act<P: Law>(
     words: &Words<P>,
     seat: &mut TableSeat,
-    limits: &Limits,
+    limits: &Layout,
     actor: u8,
     step: &Step<&Record>,
     begun: Option<&Command>,
@@ -46,7 +46,7 @@ pub fn act<P: Law>(
 fn act_told<P: Law, C: Telling>(
     words: &Words<P>,
     seat: &mut TableSeat,
-    limits: &Limits,
+    limits: &Layout,
     actor: u8,
     step: &Step<&Record>,
     begun: Option<&Command>,
@@ -83,7 +83,7 @@ fn act_told<P: Law, C: Telling>(
 fn operate<P: Law, C: Telling>(
     words: &Words<P>,
     seat: &mut TableSeat,
-    limits: &Limits,
+    limits: &Layout,
     actor: u8,
     at: usize,
     operation: Operation,

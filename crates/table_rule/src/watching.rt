@@ -10,15 +10,15 @@ ghost use Rattle.tree_words.specs.declared.operations.Operation.TheVariants.{Loa
 
 use crate::plays::Watching;
 use crate::rule::{Law, TableSeat, Words};
-use bw_model::{Limits, Step};
+use bw_model::Step;
 use deltas::Record;
-use tree_words::{steps_change_one_word, word_place};
+use tree_words::{Layout, steps_change_one_word, word_place};
 
 /// What a step that reads a word would be told now, by one load of the word. The seat takes no step, and has now seen the longest run.
 pub fn watch<P: Law>(
     words: &Words<P>,
     seat: &mut TableSeat,
-    limits: &Limits,
+    limits: &Layout,
     actor: u8,
     step: &Step<&Record>,
 ) -> u64

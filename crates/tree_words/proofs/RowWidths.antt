@@ -76,6 +76,14 @@ module _ (limits : Limits) where
       let none : limits.wide_from - limits.wide_from ≡ 0 = omega arith in
       is ∙ rw none (omega arith)
 
+  -- how many words the rows have that are for pages, or are wide, and lie below a row
+  pub pages_on : (row : ℕ) → limits.narrow_rows ≤ row → row < limits.wide_from
+      → rows_width limits row ≡ rows_width limits limits.narrow_rows + limits.page_words * (row - limits.narrow_rows)
+  pages_on row low high = let is = page_is row low high in let at = at_pages in omega (arith, is, at)
+
+  pub wide_on : (row : ℕ) → limits.wide_from ≤ row → rows_width limits row ≡ rows_width limits limits.wide_from + row_size * (row - limits.wide_from)
+  wide_on row low = let is = wide_is row low in let at = at_wide in omega (arith, is, at)
+
   -- one row more
   pub next_row : (row : ℕ) → rows_width limits (row + 1) ≡ rows_width limits row + width_of limits row
   next_row row = go (ltb row limits.narrow_rows) refl (ltb row limits.wide_from) refl
@@ -224,7 +232,7 @@ module _ (limits : Limits) where
           let pages = times_none limits.page_words (limits.wide_from - limits.narrow_rows) (omega (arith, low)) in
           omega (arith, is, narrow, pages)
 
-  rows_few : (row : ℕ) → rows_width limits row ≤ row_size * row
+  pub rows_few : (row : ℕ) → rows_width limits row ≤ row_size * row
   rows_few zero = let none = first_at in omega (arith, none)
   rows_few (suc row) =
       let before = rows_few row in

@@ -1,5 +1,5 @@
 -- Where each part of a memory has its words, in a table of these limits.
-use Rattle.std.specs.Prelude.{◌≢◌, ◌<◌, ◌+◌, ◌-◌, ◌*◌, ◌/◌, ℕ, ltb, if◌then◌else◌}
+use Rattle.std.specs.Prelude.{◌≡◌, ◌≢◌, ◌<◌, ◌+◌, ◌-◌, ◌*◌, ◌/◌, ℕ, ltb, if◌then◌else◌}
 use Rattle.tree_limits.specs.declared.limits.Limits.{Limits}
 use Rattle.tree_limits.specs.Limits.{most_large_actors}
 use Rattle.record_slots.specs.Layout.{row_size}
@@ -46,3 +46,9 @@ width limits = rows_at + rows_width limits limits.rows + limits.pids + limits.pi
 -- a word that no part has
 abbrev pub IsPad : ℕ → Type 0
 IsPad i = (epoch_at < i) × (i < rows_at) × ((actor : ℕ) → actor < most_large_actors → i ≢ announced_at actor)
+
+-- the places that are worked out once: of the first row that is no narrow one, of the first wide row, and of the first slot
+pub record IsWorkedOut (limits : Limits) (pages_at wide_at slots_at : ℕ) : Type 0 where
+  pub pages : pages_at ≡ row_at limits limits.narrow_rows 0
+  pub wide : wide_at ≡ row_at limits limits.wide_from 0
+  pub slots : slots_at ≡ slot_at limits 0

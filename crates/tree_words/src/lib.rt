@@ -1,7 +1,7 @@
 //! A memory as one row of words, as a running tree keeps it: slots, words of free bits, the epoch, announced epochs, rows.
 //!
 //! Look first at specs/Changes and at `made_by`: which atomic operation on which word a step is. `opening_words` are the words of the tree of
-//! one empty leaf; `word_place`, `row_place`, `slot_place` return where each part has its words.
+//! one empty leaf; `word_place`, `row_place`, `slot_place` return where each part has its words. `Layout` has worked out where rows and slots begin.
 //!
 //! Called by `table_rule`, which makes the operations, and by `running_tree` at opening. It knows no seat and no thread: it defines what one
 //! operation does to one word.
@@ -20,4 +20,4 @@ pub use examples::{
 };
 pub use opening::{opening_is_spelled, opening_words};
 pub use operations::{Operation, made_by, told_by, word_place};
-pub use places::{row_place, slot_place, width};
+pub use places::{Layout, row_place, slot_place, width};

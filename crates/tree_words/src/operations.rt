@@ -4,8 +4,8 @@ ghost use Rattle.bw_model.specs.Answers.{answer_of};
 ghost use Rattle.bw_model.specs.Lent.{step_of_loan};
 ghost use Rattle.tree_words.specs.Changes.{HasWord, SetsBits, changed_word, operation_of, answer_by};
 
-use crate::places::{announced_place, epoch_place, pid_bits_place, row_bits_place, slot_place};
-use bw_model::{Limits, Step, Told};
+use crate::places::{Layout, announced_place, epoch_place, pid_bits_place, row_bits_place};
+use bw_model::{Step, Told};
 use deltas::Record;
 
 /// An atomic operation on a word.
@@ -25,18 +25,18 @@ pub enum Operation {
 
 /// The place of the word of an actor's step.
 #[inline(always)]
-pub fn word_place(limits: &Limits, actor: u8, step: &Step<&Record>) -> usize
+pub fn word_place(limits: &Layout, actor: u8, step: &Step<&Record>) -> usize
     requires { HasWord limits.now (step_of_loan step.now) }
     ensures { result ≡ changed_word limits.now actor (step_of_loan step.now) }
 {
     match step {
-        Step::Slot(pid) | Step::Exchange(pid, _, _) => slot_place(limits, *pid),
+        Step::Slot(pid) | Step::Exchange(pid, _, _) => limits.slot(*pid),
         Step::Epoch | Step::Retire(_) => epoch_place(),
         Step::Announce(other) => announced_place(*other),
-        Step::PidBits(word) | Step::ReusePids(word, _) => pid_bits_place(limits, *word),
-        Step::RowBits(word) | Step::ReuseRows(word, _) => row_bits_place(limits, *word),
-        Step::TakePid(pid) => pid_bits_place(limits, *pid / 64),
-        Step::TakeRow(row) => row_bits_place(limits, *row / 64),
+        Step::PidBits(word) | Step::ReusePids(word, _) => pid_bits_place(limits.limits(), *word),
+        Step::RowBits(word) | Step::ReuseRows(word, _) => row_bits_place(limits.limits(), *word),
+        Step::TakePid(pid) => pid_bits_place(limits.limits(), *pid / 64),
+        Step::TakeRow(row) => row_bits_place(limits.limits(), *row / 64),
         Step::Enter(_) | Step::Leave => announced_place(actor),
         Step::Row(_) | Step::Place(_, _) => unreachable!(),
     }
@@ -44,7 +44,7 @@ pub fn word_place(limits: &Limits, actor: u8, step: &Step<&Record>) -> usize
 
 /// The operation that a step is.
 #[inline(always)]
-pub fn made_by(limits: &Limits, step: &Step<&Record>) -> Operation
+pub fn made_by(limits: &Layout, step: &Step<&Record>) -> Operation
     requires { HasWord limits.now (step_of_loan step.now) }
     ensures made { result ≡ operation_of (step_of_loan step.now) }
     ensures bits { SetsBits (step_of_loan step.now) }
@@ -63,7 +63,7 @@ pub fn made_by(limits: &Limits, step: &Step<&Record>) -> Operation
 
 /// What a step is told by the number that it found in its word.
 #[inline(always)]
-pub fn told_by(limits: &Limits, step: &Step<&Record>, found: u64) -> Told
+pub fn told_by(limits: &Layout, step: &Step<&Record>, found: u64) -> Told
     requires { HasWord limits.now (step_of_loan step.now) }
     ensures { answer_of result ≡ answer_by (step_of_loan step.now) found }
 {

@@ -1,12 +1,99 @@
 //! Where the words of each part stand.
-ghost use Rattle.std.specs.Prelude.{◌≡◌, ◌<◌, ◌≤◌};
+ghost use Rattle.std.specs.Prelude.{◌≡◌, ◌<◌, ◌≤◌, ltb};
 ghost use Rattle.tree_words.specs.Layout.{announced_at, epoch_at, pid_bits_at, row_at, row_bits_at, rows_width, slot_at, width};
 
 use bw_model::Limits;
+use std::marker::Model;
 use tree_limits::{MAX_LARGE_ACTORS, WIDE_WORDS};
 
 /// The place of the first word of the first row: behind the words that so many actors announce.
 const ROWS: usize = 8 + 8 * MAX_LARGE_ACTORS as usize;
+
+/// The limits of a table of words, with the places that are worked out from them once: each step needs the place of its word.
+#[derive(Drop)]
+pub struct Layout {
+    limits: Limits,
+    /// The place of the first row that is no narrow one.
+    pages_at: usize,
+    /// The place of the first wide row.
+    wide_at: usize,
+    /// The place of the first slot.
+    slots_at: usize,
+}
+
+impl Model for Layout {
+    ghost use Rattle.tree_limits.specs.declared.limits.Limits.{Limits};
+    ghost use Rattle.tree_words.specs.Layout.{IsWorkedOut};
+
+    ghost Value = { Limits };
+
+    ghost view = { λ l. l.limits };
+
+    ghost invariant = { λ l. IsWorkedOut l.limits l.pages_at l.wide_at l.slots_at };
+}
+
+impl Layout {
+    /// The layout of a table of these limits.
+    pub fn of(limits: &Limits) -> Layout
+        ensures { result ≡ limits.now }
+    {
+        Layout {
+            limits: *limits,
+            pages_at: ROWS + rows_width(limits, limits.narrow_rows),
+            wide_at: ROWS + rows_width(limits, limits.wide_from),
+            slots_at: ROWS + rows_width(limits, limits.rows),
+        }
+    }
+
+    /// The limits.
+    #[inline(always)]
+    pub fn limits(&self) -> &Limits
+        ensures { result.now ≡ self.now }
+    {
+        &self.limits
+    }
+
+    /// Whether they are those of a large tree.
+    #[inline(always)]
+    pub fn is_large(&self) -> bool
+        ensures { result ≡ self.now.is_large }
+    {
+        self.limits.is_large
+    }
+
+    /// Whether a row is a narrow one.
+    #[inline(always)]
+    pub fn is_narrow(&self, row: u32) -> bool
+        ensures { result ≡ ltb row self.now.narrow_rows }
+    {
+        u64::from(row) < self.limits.narrow_rows
+    }
+
+    /// The place of the first word of a row.
+    #[inline(always)]
+    pub fn row(&self, row: u32) -> usize
+        requires { row < self.now.rows }
+        ensures { result ≡ row_at self.now row 0 }
+    {
+        let row = u64::from(row);
+        if row < self.limits.narrow_rows {
+            return ROWS + (self.limits.narrow_words * row) as usize;
+        }
+        if row < self.limits.wide_from {
+            let before = row - self.limits.narrow_rows;
+            return self.pages_at + (self.limits.page_words * before) as usize;
+        }
+        self.wide_at + (WIDE_WORDS * (row - self.limits.wide_from)) as usize
+    }
+
+    /// The place of the slot of a PID.
+    #[inline(always)]
+    pub(crate) fn slot(&self, pid: u32) -> usize
+        ensures { result ≡ slot_at self.now pid }
+    {
+        self.slots_at + pid as usize
+    }
+}
 
 /// The place of the slot of a PID.
 pub fn slot_place(limits: &Limits, pid: u32) -> usize

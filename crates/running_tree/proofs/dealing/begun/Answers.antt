@@ -12,24 +12,27 @@ cut-others-requires g c =
     let tree = is_tree c.args.limits c.in_ok-table.table.shared.key c.in_ok-table.table.shared.table_id c.as_slice.result.now c.in_ok-table.ensures.0
     c.in_ok-table.ensures.1 c.in_ok-table.ensures.5 (c.as_slice.ensures.value ∙ c.in_ok-words.ensures)
     (c.opening_keeps.ensures c.args.limits (c.empty_run_is_lawful.ensures c.args.limits)) in
-    record { table = record { same = c.in_ok-table.ensures.2; wide = tree.wide; own = tree.own } }
+    rw c.of-layout.ensures record { table = record { same = c.in_ok-table.ensures.2; wide = tree.wide; own = tree.own } }
 
 pub invariant_of-first : goal.invariant_of-first
 invariant_of-first g c =
-    fresh c.args.limits 0 c.cut-others.new.seat.me c.in-Ok.actor c.idle_actors_rest.ensures (c.empty_run_is_lawful.ensures c.args.limits) c.args.limits.allowed.some_actor
-    (deals_first c.args.limits c.in_ok-table.place.me c.cut-others.new.seat.me c.in_ok-table.ensures.4 c.cut-others.ensures.first) c.in-Ok.ensures.ok
+    rw c.of.ensures
+    (fresh c.args.limits 0 c.cut-others.new.seat.me c.in-Ok.actor c.idle_actors_rest.ensures (c.empty_run_is_lawful.ensures c.args.limits) c.args.limits.allowed.some_actor
+    (deals_first c.args.limits c.in_ok-table.place.me c.cut-others.new.seat.me c.in_ok-table.ensures.4 c.cut-others.ensures.first) c.in-Ok.ensures.ok)
 
 pub invariant_of-result : goal.invariant_of-result
 invariant_of-result g c =
-    is_tree c.args.limits c.in_ok-table.table.shared.key c.in_ok-table.table.shared.table_id c.as_slice.result.now c.in_ok-table.ensures.0
+    rw c.of-layout.ensures
+    (is_tree c.args.limits c.in_ok-table.table.shared.key c.in_ok-table.table.shared.table_id c.as_slice.result.now c.in_ok-table.ensures.0
     c.in_ok-table.ensures.1 c.in_ok-table.ensures.5 (c.as_slice.ensures.value ∙ c.in_ok-words.ensures)
-    (c.opening_keeps.ensures c.args.limits (c.empty_run_is_lawful.ensures c.args.limits))
+    (c.opening_keeps.ensures c.args.limits (c.empty_run_is_lawful.ensures c.args.limits)))
 
 pub returns-clause-first : goal.returns-clause-first
 returns-clause-first g c =
-    seat_is (record { limits = c.args.limits; table = c.in_ok-table.table.shared.table_id }) [] 0 c.args.limits c.cut-others.new.seat.table_id
+    rw (c.of.ensures, c.of-layout.ensures)
+    (seat_is (record { limits = c.args.limits; table = c.in_ok-table.table.shared.table_id }) [] 0 c.args.limits c.cut-others.new.seat.table_id
     c.cut-others.new.seat.me refl (c.cut-others.ensures.same ∙ c.in_ok-table.ensures.2)
-    (deals_first c.args.limits c.in_ok-table.place.me c.cut-others.new.seat.me c.in_ok-table.ensures.4 c.cut-others.ensures.first)
+    (deals_first c.args.limits c.in_ok-table.place.me c.cut-others.new.seat.me c.in_ok-table.ensures.4 c.cut-others.ensures.first))
 
 pub returns-clause-table : goal.returns-clause-table
 returns-clause-table g c = c.cut-others.ensures.table ∙ c.in_ok-table.ensures.2

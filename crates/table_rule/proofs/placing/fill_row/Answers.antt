@@ -17,7 +17,7 @@ store-requires g c =
     let test = c.loop-i-test.true in
     let written : List ℕ = take c.loop-i.i (tail_from placed.spelt.now) in
     let k : length written ≡ c.loop-i.i = length-take-le c.loop-i.i (tail_from placed.spelt.now) (omega (arith, few.1, over, test)) in
-    let base = c.row_place-base.ensures in
+    let base = c.row-base.ensures in
     let wide = c.requires.table.wide in
     let inside = row_within c.args.limits.now placed.row c.requires.range in
     let width = few_words c.args.limits.now placed.row in (
@@ -68,7 +68,7 @@ overflow_add-base g c =
     let place = row_few c.args.limits.now placed.row c.requires.range in
     let over = c.words_over-behind.ensures in
     let test = c.loop-i-test.true in
-    let base = c.row_place-base.ensures in
+    let base = c.row-base.ensures in
     omega (arith, place, base, few.0, over, test, width)
 
 pub overflow_add-base-in-loop-i : goal.overflow_add-base-in-loop-i
@@ -79,5 +79,5 @@ overflow_add-base-in-loop-i g c =
     let place = row_few c.args.limits.now placed.row c.requires.range in
     let over = c.words_over-behind.ensures in
     let test = c.loop-i-test.true in
-    let base = c.row_place-base.ensures in
+    let base = c.row-base.ensures in
     omega (arith, place, base, few.0, over, test, width)

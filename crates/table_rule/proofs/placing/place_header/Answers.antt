@@ -9,7 +9,7 @@ pub store-requires : goal.store-requires
 store-requires g c =
     let placed = c.args.placed.now in
     let wide = c.requires.table.wide in
-    let base = c.row_place.ensures in
+    let base = c.row.ensures in
     let inside = row_within c.args.limits.now placed.row c.requires.range in (
       c.requires.table.same,
       omega (arith, c.requires.range, wide, base, inside),

@@ -8,7 +8,7 @@ pub length_spread-requires-clause-has : goal.length_spread-requires-clause-has
 length_spread-requires-clause-has g c =
     let a = c.requires.lies.0 in
     let h = c.requires.lies.1 in
-    (a, (h.0, h.1.spelt, sym (ap (λ (t : Tree). t.limits.is_large) c.self.view_is) ∙ c.if-self.true), c.requires.lies.2)
+    (a, (h.0, h.1.spelt, sym h.0.large ∙ c.if-place.true), c.requires.lies.2)
 
 pub length_spread-requires-clause-first : goal.length_spread-requires-clause-first
 length_spread-requires-clause-first g c content h =

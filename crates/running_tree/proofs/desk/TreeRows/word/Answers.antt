@@ -8,7 +8,7 @@ pub word_spread-requires-clause-has : goal.word_spread-requires-clause-has
 word_spread-requires-clause-has g c =
     let a = c.requires.lies.0 in
     let h = c.requires.lies.1 in
-    (a, (h.0, h.1.spelt, sym (ap (λ (t : Tree). t.limits.is_large) c.self.view_is) ∙ c.if-self.true), c.requires.lies.2)
+    (a, (h.0, h.1.spelt, sym h.0.large ∙ c.if-place.true), c.requires.lies.2)
 
 pub word_spread-requires-clause-first : goal.word_spread-requires-clause-first
 word_spread-requires-clause-first g c content h =

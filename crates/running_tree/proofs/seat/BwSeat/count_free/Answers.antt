@@ -24,5 +24,5 @@ pub returns-clause-counted : goal.returns-clause-counted
 returns-clause-counted g c =
     let limits : c.self.inside.limits ≡ c.args.self.now.limits = ap (λ (s : Seat). s.limits) c.self.view_is in
     let all = all_counted c.args.self.now.limits c.args.kind c.loop-word.word c.count-word-end.result
-    (c.count-word-end.ensures ∙ ap (λ (l : Limits). count_of l c.args.kind) limits) c.loop-word.auto.word-end c.loop-word-test.false in
+    (c.count-word-end.ensures ∙ ap (λ (l : Limits). count_of l c.args.kind) c.limits.ensures ∙ ap (λ (l : Limits). count_of l c.args.kind) limits) c.loop-word.auto.word-end c.loop-word-test.false in
     subst (λ (n : ℕ). HasCounted c.args.self.now.limits c.args.self.now.actor c.args.kind n c.args.self.now.seen c.loop-word.self.seen c.loop-word.count) all c.loop-word.invariant.counted

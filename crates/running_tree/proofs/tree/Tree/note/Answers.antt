@@ -9,7 +9,7 @@ pub invariant_of-result : goal.invariant_of-result
 invariant_of-result g c =
     let me : Mine = c.seat.inside.desk.place.me in
     let is : c.note.result.me ≡ (alone c.seat.inside.limits c.seat.inside.desk.number (seen_of me) Noted, []) = c.note.ensures.noted
-    ∙ ap (λ (m : Mine). (part_note m.0, [])) c.seat.invariant.place in (
+    ∙ ap (λ (m : Mine). (part_note m.0, [])) c.seat.invariant.place in rw c.limits.ensures (
       c.seat.inside.desk.number,
       subst (λ (run : List Entry). c.note.result.me ≡ (alone c.seat.inside.limits c.seat.inside.desk.number run Noted, [])) (sym (ap seen_of is)) is,
     )
@@ -24,4 +24,4 @@ pub returns-clause-noted : goal.returns-clause-noted
 returns-clause-noted g c =
     let me : Mine = c.seat.inside.desk.place.me in
     let is : c.note.result.me ≡ (alone c.seat.inside.limits c.seat.inside.desk.number (seen_of me) Noted, []) = c.note.ensures.noted ∙ ap (λ (m : Mine). (part_note m.0, [])) c.seat.invariant.place in
-    rw (c.note.ensures.table, ap seen_of is) (ap note_of c.seat.view_is)
+    rw (c.note.ensures.table, ap seen_of is, c.limits.ensures) (ap note_of c.seat.view_is)
