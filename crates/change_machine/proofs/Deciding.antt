@@ -1,5 +1,5 @@
 -- By which step a change comes to its end, or to where its exchange was taken.
-use Rattle.change_machine.proofs.Words.{◌≡◌, inl, inr, Bool, true, false, None, Some, refl, sym, ◌∙◌, if◌then◌else◌, ◌&&◌, not, is_some, Limits, Answer, Record, clears, needs_pid}
+use Rattle.change_machine.proofs.Words.{◌≡◌, inl, inr, Bool, true, false, None, Some, refl, sym, ◌∙◌, if◌then◌else◌, ◌&&◌, not, is_some, Limits, Answer, Record, clears, head_of, needs_pid}
 use Rattle.change_machine.proofs.Words.{Plan, Install, Moved, after_ready, after_taking, decided_by, first_state, has_rows, moved_by, next_move, spares_left, wanted_from, whether_in}
 use Rattle.change_machine.proofs.Words.{with_number, Spares, begun_at, found_after, State, Found, Pid, Row}
 use Rattle.std.specs.Prelude.{◌/◌}
@@ -25,7 +25,7 @@ either_open false false one two rest opens = refl
 -- a change begins before that exchange
 pub first_open : (limits : Limits) (plan : Plan) (spares : Spares) → has_decided (first_state limits plan spares) ≡ false
 first_open limits plan spares = either_open (needs_pid plan && not (is_some spares.pid)) (has_rows limits plan spares.rows)
-    (begun_at limits Pid 0 spares.near) (begun_at limits Row (wanted_from limits plan spares.rows / 64) spares.near)
+    (begun_at limits Pid 0 (head_of plan)) (begun_at limits Row (wanted_from limits plan spares.rows / 64) (head_of plan))
     (after_taking plan) (after_open plan)
 
 -- what goes on before it hasn't decided

@@ -1,7 +1,7 @@
 -- A change that goes on names no number that has no place.
 use Rattle.change_machine.proofs.Words.{◌≡◌, ◌<◌, ◌≤◌, ◌+◌, ◌*◌, ◌∙◌, ℕ, zero, suc, [], ◌∷◌, ◌++◌, length, take, Bool, true, false, Option, Some, None, refl, sym, ap, subst, arith, ltb}
 use Rattle.change_machine.proofs.Words.{is_some, not, ◌&&◌, if◌then◌else◌, ltb-true, trailing_zeros, w64, Limits, Answer, Record, Fits, FitsWord, Knowledge, AreEnough, Change, IsNeededNext}
-use Rattle.change_machine.proofs.Words.{IsSameChange, IsSoundChange, IsTarget, needed_from, wanted_step, wanted_at, clears, needs_pid, rows_needed, Moved, after_ready, after_taking}
+use Rattle.change_machine.proofs.Words.{IsSameChange, IsSoundChange, IsTarget, needed_from, wanted_step, wanted_at, clears, head_of, needs_pid, rows_needed, Moved, after_ready, after_taking}
 use Rattle.change_machine.proofs.Words.{decided_by, first_state, has_rows, next_move, moved_by, spares_left, wanted_from, whether_in, with_number, HaveRoom, Spares, begun_at, count_of}
 use Rattle.change_machine.proofs.Words.{found_after, from_of, kind_of, wanted_number, words_end, End, State, Plan, Install, Root, Unlink, Found, Not, Full, Kind, Pid, Row, Bits, Take}
 use Rattle.std.proofs.Common.{◌/◌, ◌-◌, length-append, length-take-le}
@@ -52,17 +52,17 @@ end_there limits kind from true there = omega arith
 end_there limits kind from false there = (until_there limits kind from there).1
 
 -- a taking begins at a word that is there
-begun_there : (limits : Limits) (kind : Kind) (from near : ℕ) → 64 * from < count_of limits kind → IsSoundTaking limits (begun_at limits kind from near)
-begun_there limits kind from near there = go limits.is_large
+begun_there : (limits : Limits) (kind : Kind) (from head : ℕ) → 64 * from < count_of limits kind → IsSoundTaking limits (begun_at limits kind from head)
+begun_there limits kind from head there = go limits.is_large
   where
-    go : (large : Bool) → (from ≤ from + (if large then near / 64 % (words_until limits kind from - from) else 0))
-        × (64 * (from + (if large then near / 64 % (words_until limits kind from - from) else 0)) < count_of limits kind)
+    go : (large : Bool) → (from ≤ from + (if large then head * 2654435761 % (words_until limits kind from - from) else 0))
+        × (64 * (from + (if large then head * 2654435761 % (words_until limits kind from - from) else 0)) < count_of limits kind)
     go false = (omega arith, omega (arith, there))
     go true =
         let until = until_there limits kind from there in
         let some = until.0 in
         let few = until.1 in
-        let below = mod-lt (near / 64) {m = words_until limits kind from - from} (omega (arith, some)) in
+        let below = mod-lt (head * 2654435761) {m = words_until limits kind from - from} (omega (arith, some)) in
         (omega arith, omega (arith, below, some, few))
 
 -- the kind of what is found, or to be found
@@ -178,11 +178,11 @@ module _ (limits : Limits) (plan : Plan) where
       at_place (Unlink pid head unterm removal) is enough = (enough, rw (← is) (rw (← is) at target).0.page)
 
       at_first : (pid : Bool) → (needs_pid plan && not (is_some spares.pid)) ≡ pid → (row : Bool) → has_rows limits plan spares.rows ≡ row
-          → IsSoundState limits plan spares (if pid then state.Taking (begun_at limits Pid 0 spares.near) else if row then after_taking plan else state.Taking
-          (begun_at limits Row (wanted_from limits plan spares.rows / 64) spares.near))
-      at_first true pid row e = (begun_there limits Pid 0 spares.near (some_numbers limits Pid), missing_pid (needs_pid plan) spares.pid pid, refl)
+          → IsSoundState limits plan spares (if pid then state.Taking (begun_at limits Pid 0 (head_of plan)) else if row then after_taking plan else state.Taking
+          (begun_at limits Row (wanted_from limits plan spares.rows / 64) (head_of plan)))
+      at_first true pid row e = (begun_there limits Pid 0 (head_of plan) (some_numbers limits Pid), missing_pid (needs_pid plan) spares.pid pid, refl)
       at_first false pid false e = (
-        begun_there limits Row (wanted_from limits plan spares.rows / 64) spares.near (wanted_there limits plan spares.rows).1,
+        begun_there limits Row (wanted_from limits plan spares.rows / 64) (head_of plan) (wanted_there limits plan spares.rows).1,
         (e, some_pid (needs_pid plan) spares.pid pid),
         refl,
       )

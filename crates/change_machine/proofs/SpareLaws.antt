@@ -1,6 +1,6 @@
 -- The spares, as rows and pages go from hand to hand.
 use Rattle.change_machine.proofs.Words.{◌≡◌, ◌<◌, ◌∙◌, inl, inr, ℕ, List, [], ◌∷◌, ◌++◌, Bool, true, false, Option, Some, None, refl, sym, ap, subst, arith, cases_eq, replaced_at, Belongings}
-use Rattle.change_machine.proofs.Words.{OwnPage, OwnRow, Foreign, Other, Empty, AreTheSpares, IsUnlinked, Spares, with_number, Pid, Row, replaced_same, replaced_other}
+use Rattle.change_machine.proofs.Words.{OwnPage, OwnRow, Foreign, Other, Empty, AreTheSpares, IsUnlinked, Spares, replaced_same, replaced_other}
 use Rattle.std.proofs.Common.{◌==◌, cond}
 use Rattle.std.specs.Prelude.{IfSome}
 use Rattle.std.proofs.lemmas.Bool.{ne_eqb, eq-eqb}
@@ -65,7 +65,7 @@ kept (Some page) old new same h = (h.0, subst IsUnlinked (sym (same page refl)) 
 
 module _ (own : Belongings) (spares : Spares) (h : AreTheSpares own spares) where
   -- a row is taken
-  pub row_taken : (row : ℕ) → 0 < row → own.rows row ≡ Foreign → AreTheSpares (record own { rows = replaced_at row Taken own.rows }) (with_number Row row spares)
+  pub row_taken : (row : ℕ) → 0 < row → own.rows row ≡ Foreign → AreTheSpares (record own { rows = replaced_at row Taken own.rows }) (record spares { rows = spares.rows ++ row ∷ [] })
   row_taken row some e = record {
     rows =
         spare_kept (replaced_at row Taken own.rows) row spares.rows
@@ -91,7 +91,7 @@ module _ (own : Belongings) (spares : Spares) (h : AreTheSpares own spares) wher
   }
 
   -- a PID is taken where none is spare
-  pub pid_taken : (pid : ℕ) → 0 < pid → spares.pid ≡ None → AreTheSpares (record own { pages = replaced_at pid Empty own.pages }) (with_number Pid pid spares)
+  pub pid_taken : (pid : ℕ) → 0 < pid → spares.pid ≡ None → AreTheSpares (record own { pages = replaced_at pid Empty own.pages }) (record spares { pid = Some pid })
   pid_taken pid some none = record {
     rows = h.rows;
     all_rows = h.all_rows;

@@ -82,18 +82,18 @@ left_first limits after plan spares = at_first (needs_pid plan && not (is_some s
     at_place other = omega arith
 
     at_first : (pid : Bool) → (needs_pid plan && not (is_some spares.pid)) ≡ pid → (row : Bool) → has_rows limits plan spares.rows ≡ row
-        → steps_left_at limits after plan spares (if pid then state.Taking (begun_at limits Pid 0 spares.near) else if row then after_taking plan else state.Taking
-        (begun_at limits Row (wanted_from limits plan spares.rows / 64) spares.near))
+        → steps_left_at limits after plan spares (if pid then state.Taking (begun_at limits Pid 0 (head_of plan)) else if row then after_taking plan else state.Taking
+        (begun_at limits Row (wanted_from limits plan spares.rows / 64) (head_of plan)))
         ≤ most_reads limits * numbers_missing limits plan spares + 5
     at_first true pid row e =
         let one = some_missing (needs_pid plan) spares.pid pid in
-        let few = few_left limits (first_word limits Pid 0 spares.near) (first_word limits Pid 0 spares.near == 0) in
+        let few = few_left limits (first_word limits Pid 0 (head_of plan)) (first_word limits Pid 0 (head_of plan) == 0) in
         let more = reads_more limits (numbers_missing limits plan spares) (omega (arith, one)) in
         omega (arith, one, few, more)
     at_first false pid false e =
         let some = missing_some limits plan spares.rows e in
         let from = wanted_from limits plan spares.rows / 64 in
-        let few = few_left limits (first_word limits Row from spares.near) (first_word limits Row from spares.near == from) in
+        let few = few_left limits (first_word limits Row from (head_of plan)) (first_word limits Row from (head_of plan) == from) in
         let more = reads_more limits (numbers_missing limits plan spares) (omega (arith, some)) in
         omega (arith, some, few, more)
     at_first false pid true e = let few = at_place plan in omega (arith, few)
@@ -113,8 +113,8 @@ recalls_first limits r plan spares h = at_first (needs_pid plan && not (is_some 
     at_place other = h
 
     at_first : (pid row : Bool)
-        → RecallsAt r plan (if pid then state.Taking (begun_at limits Pid 0 spares.near) else if row then after_taking plan else state.Taking
-        (begun_at limits Row (wanted_from limits plan spares.rows / 64) spares.near))
+        → RecallsAt r plan (if pid then state.Taking (begun_at limits Pid 0 (head_of plan)) else if row then after_taking plan else state.Taking
+        (begun_at limits Row (wanted_from limits plan spares.rows / 64) (head_of plan)))
     at_first true row = h
     at_first false true = at_place plan
     at_first false false = h

@@ -1,7 +1,7 @@
 -- What the answers of a taking leave known.
 use Rattle.change_machine.proofs.Words.{◌≡◌, ◌<◌, ◌≤◌, ◌∙◌, ◌*◌, ◌+◌, inl, inr, ℕ, zero, suc, subst, Bool, true, false, None, Some, refl, sym, ap, arith, ltb, is_some, not, ◌&&◌, if◌then◌else◌}
 use Rattle.change_machine.proofs.Words.{cases_eq, ltb-false, trailing_zeros, w64, Limits, Answer, replaced_at, Record, Fits, FitsWord, Knowledge, Empty, learn, Change, Follows, IsLike}
-use Rattle.change_machine.proofs.Words.{IsNeededNext, KeepsSpare, MayChange, Shows, needs_pid, Moved, after_taking, first_state, has_rows, moved_by, wanted_from, with_number}
+use Rattle.change_machine.proofs.Words.{IsNeededNext, KeepsSpare, MayChange, Shows, head_of, needs_pid, Moved, after_taking, first_state, has_rows, moved_by, wanted_from, with_number}
 use Rattle.change_machine.proofs.Words.{AreTheSpares, AreUnset, Spares, begun_at, count_of, found_after, from_of, kind_of, wanted_number, words_end, State, Plan, Install, Root, Unlink, Not}
 use Rattle.change_machine.proofs.Words.{Full, Kind, Pid, Row, Bits, Take, replaced_same, replaced_other}
 use Rattle.std.proofs.Common.{◌/◌, ◌%◌}
@@ -46,8 +46,8 @@ none_below word from = by_test (word == from) refl
     by_test false is = refl
 
 -- a taking that begins has read no word
-none_read : (limits : Limits) (k : Knowledge) (kind : Kind) (from near : ℕ) → AreFull k.asked kind from (word_read (begun_at limits kind from near))
-none_read limits k kind from near = λ below least lt. absurd (let none = none_below (first_word limits kind from near) from in omega (arith, least, lt, none))
+none_read : (limits : Limits) (k : Knowledge) (kind : Kind) (from head : ℕ) → AreFull k.asked kind from (word_read (begun_at limits kind from head))
+none_read limits k kind from head = λ below least lt. absurd (let none = none_below (first_word limits kind from head) from in omega (arith, least, lt, none))
 
 -- where all that is known stands, a change begins with the first number that is missing, or with its first place
 pub shows_first : (actor : ℕ) (limits : Limits) (k : Knowledge) (plan : Plan) (spares : Spares) → MayChange actor k plan → KeepsSpare plan spares.pid
@@ -60,11 +60,11 @@ shows_first actor limits k plan spares may keeps are bare = record
     at_place plan = bare
 
     at_first : (pid row : Bool)
-        → ShowsState limits plan spares k (if pid then state.Taking (begun_at limits Pid 0 spares.near) else if row then after_taking plan else state.Taking
-        (begun_at limits Row (wanted_from limits plan spares.rows / 64) spares.near))
-    at_first true row = (bare, none_read limits k Pid 0 spares.near)
+        → ShowsState limits plan spares k (if pid then state.Taking (begun_at limits Pid 0 (head_of plan)) else if row then after_taking plan else state.Taking
+        (begun_at limits Row (wanted_from limits plan spares.rows / 64) (head_of plan)))
+    at_first true row = (bare, none_read limits k Pid 0 (head_of plan))
     at_first false true = at_place plan
-    at_first false false = (bare, none_read limits k Row (wanted_from limits plan spares.rows / 64) spares.near)
+    at_first false false = (bare, none_read limits k Row (wanted_from limits plan spares.rows / 64) (head_of plan))
 
 module _ (actor : ℕ) (limits : Limits) (k : Knowledge) (plan : Plan) (spares : Spares) (may : MayChange actor k plan) (keeps : KeepsSpare plan spares.pid)
     (are : AreTheSpares k.own spares) (bare : AreUnset k.own) where

@@ -1,10 +1,10 @@
 -- How many steps a change takes at most, but for those that a cause pays for.
-use Rattle.std.specs.Prelude.{◌≡◌, ◌<◌, ◌-◌, ◌+◌, ◌*◌, ◌%◌, ◌⊎◌, ℕ, suc, List, if◌then◌else◌, Option, Some, None, Bool, true, false, ⊤}
+use Rattle.std.specs.Prelude.{◌≡◌, ◌<◌, ◌-◌, ◌+◌, ◌*◌, ◌⊎◌, ℕ, suc, List, if◌then◌else◌, Option, Some, None, Bool, true, false, ⊤}
 use Rattle.tree_limits.specs.declared.limits.Limits.{Limits}
 use Rattle.bw_model.specs.declared.step.Answer.{Answer}
 use Rattle.bw_model.specs.declared.step.Answer.TheVariants.{Whether}
 use Rattle.bw_model.specs.declared.step.Step.{Step as StepOf}
-use Rattle.bw_model.specs.declared.step.Step.TheVariants.{TakePid, TakeRow}
+use Rattle.bw_model.specs.declared.step.Step.TheVariants.{TakePid}
 use Rattle.deltas.specs.declared.record.Record.{Record}
 use Rattle.traces.specs.discipline.Recalled.{IsPaid, IsSpentWith, Recalled, WasFree, WasHead, recall}
 use Rattle.change_machine.specs.declared.change.End.{End}
@@ -74,15 +74,6 @@ pub record Recalls (change : Change) (spares : Spares) (r : Recalled) : Type 0 w
 abbrev pub pid_taken : StepOf Record → Answer Record → Option ℕ
 pid_taken (TakePid pid) (Whether true) = Some pid
 pid_taken asked told = None
-
--- whether a step took a number, and the actor's count of the numbers that it has taken after that step
-abbrev pub takes_number : StepOf Record → Answer Record → Bool
-takes_number (TakePid pid) (Whether true) = true
-takes_number (TakeRow row) (Whether true) = true
-takes_number asked told = false
-
-abbrev pub near_after : StepOf Record → Answer Record → ℕ → ℕ
-near_after asked told near = if takes_number asked told then (near + 1) % 4294967296 else near
 
 -- A PID that is spare was so before, or was taken now.
 abbrev pub IsPidFrom : Option ℕ → Option ℕ → Option ℕ → Type 0

@@ -1,6 +1,5 @@
 -- Where an answer leads a change.
-use Rattle.std.specs.Prelude.{◌++◌, ◌+◌, ◌-◌, ◌/◌, ◌%◌, ℕ, suc, List, [], ◌∷◌, length, take, ltb, Bool, true, false, not, ◌&&◌, ◌||◌, is_some, if◌then◌else◌}
-use Rattle.std.specs.Prelude.{Option, Some, None}
+use Rattle.std.specs.Prelude.{◌++◌, ◌-◌, ◌/◌, ℕ, suc, List, [], ◌∷◌, length, take, ltb, Bool, true, false, not, ◌&&◌, ◌||◌, is_some, if◌then◌else◌, Option, Some, None}
 use Rattle.tree_limits.specs.declared.limits.Limits.{Limits}
 use Rattle.bw_model.specs.declared.step.Answer.{Answer}
 use Rattle.bw_model.specs.declared.step.Answer.TheVariants.{Whether}
@@ -17,7 +16,7 @@ use Rattle.change_machine.specs.declared.taking.Found.{Found}
 use Rattle.change_machine.specs.declared.taking.Found.TheVariants.{Not, Taken, Full}
 use Rattle.change_machine.specs.declared.taking.Kind.{Kind}
 use Rattle.change_machine.specs.declared.taking.Kind.TheVariants.{Pid, Row}
-use Rattle.structure_changes.specs.Plans.{clears, needs_pid, new_base, rows_needed}
+use Rattle.structure_changes.specs.Plans.{clears, head_of, needs_pid, new_base, rows_needed}
 use Rattle.structure_changes.specs.Splits.{split_to}
 use Rattle.change_machine.specs.Spares.{Spares, last_of, second_of}
 use Rattle.change_machine.specs.Taking.{begun_at, found_after}
@@ -65,17 +64,17 @@ wanted_from limits plan rows = if lacks_lower limits plan rows then lower_from l
 -- First a PID is taken, if one is missing, then rows.
 abbrev pub first_state : Limits → Plan → Spares → State
 first_state limits plan spares =
-    if needs_pid plan && not (is_some spares.pid) then Taking (begun_at limits Pid 0 spares.near) else if has_rows limits plan spares.rows then after_taking plan else
-    Taking (begun_at limits Row (wanted_from limits plan spares.rows / 64) spares.near)
+    if needs_pid plan && not (is_some spares.pid) then Taking (begun_at limits Pid 0 (head_of plan)) else if has_rows limits plan spares.rows then after_taking plan else
+    Taking (begun_at limits Row (wanted_from limits plan spares.rows / 64) (head_of plan))
 
--- A number that was taken is the last spare of its kind, and is counted.
+-- A number that was taken is the last spare of its kind.
 abbrev pub with_number : Kind → ℕ → Spares → Spares
-with_number Pid pid spares = record spares { pid = Some pid; near = (spares.near + 1) % 4294967296 }
-with_number Row row spares = record spares { rows = spares.rows ++ row ∷ []; near = (spares.near + 1) % 4294967296 }
+with_number Pid pid spares = record spares { pid = Some pid }
+with_number Row row spares = record spares { rows = spares.rows ++ row ∷ [] }
 
 -- What is linked is spare no more: the PID of a new page, and the last rows.
 abbrev pub spares_left : Plan → Spares → Spares
-spares_left plan spares = record spares { pid = if needs_pid plan then None else spares.pid; rows = take (length spares.rows - rows_needed plan) spares.rows }
+spares_left plan spares = record { pid = if needs_pid plan then None else spares.pid; rows = take (length spares.rows - rows_needed plan) spares.rows }
 
 -- after a taking
 abbrev pub moved_by : Limits → Plan → Spares → State → Found → Moved

@@ -1,20 +1,15 @@
 -- What an actor has taken and not linked.
-use Rattle.std.specs.Prelude.{◌≡◌, ◌==◌, ◌<◌, ◌≤◌, ◌-◌, ◌*◌, ◌%◌, ℕ, zero, suc, List, [], ◌∷◌, Option, Some, false, length, get_or, unwrap_or, All, IfSome, ⊤}
+use Rattle.std.specs.Prelude.{◌≡◌, ◌==◌, ◌<◌, ◌≤◌, ◌-◌, ℕ, zero, suc, List, [], ◌∷◌, Option, Some, false, length, get_or, unwrap_or, All, IfSome, ⊤}
 use Rattle.std.specs.List.{Contains}
 use Rattle.tree_limits.specs.declared.limits.Limits.{Limits}
 use Rattle.deltas.specs.Spellable.{IsPid}
 use Rattle.traces.specs.discipline.Discipline.{IsOwn}
 use Rattle.traces.specs.discipline.Knowledge.{Belongings, OwnPage, OwnRow, Other, Empty, Ready, Gone}
 
--- a PID, if there is one, and rows, the last one taken last; and how many numbers the actor has taken, from a start of its own, modulo 2^32
+-- a PID, if there is one, and rows, the last one taken last
 pub record Spares : Type 0 where
   pub pid : Option ℕ
   pub rows : List ℕ
-  pub near : ℕ
-
--- the start of an actor's count: those of actors are far from one another (Knuth's multiplicative hashing)
-abbrev pub start_of : ℕ → ℕ
-start_of number = number * 2654435761 % 4294967296
 
 -- the spare PID, the last row and the one before it; 0 where there is none
 abbrev pub pid_of : Spares → ℕ

@@ -41,13 +41,13 @@ words_until limits Pid from = limits.pids / 64
 words_until limits Row from =
     if ltb from (limits.narrow_rows / 64) then limits.narrow_rows / 64 else if ltb from (limits.wide_from / 64) then limits.wide_from / 64 else limits.rows / 64
 
--- Where a taking begins: at word `from`, and in a large tree at a word by `near`, the actor's count of the numbers that it has taken: 64 takings
--- begin at one word, the next ones at the next word. One that began at another word than `from` continues at word `from` after the last one.
+-- Where a taking begins: at word `from`, and in a large tree at a word scattered by `head`, the number that the change's exchange expects: the newest
+-- row of the page or, for a new root, the PID in slot 0. One that began at another word continues at word `from` after the last one.
 abbrev pub first_word : Limits → Kind → ℕ → ℕ → ℕ
-first_word limits kind from near = from + (if limits.is_large then near / 64 % (words_until limits kind from - from) else 0)
+first_word limits kind from head = from + (if limits.is_large then head * 2654435761 % (words_until limits kind from - from) else 0)
 
 abbrev pub begun_at : Limits → Kind → ℕ → ℕ → Taking
-begun_at limits kind from near = Bits kind from (first_word limits kind from near) (first_word limits kind from near == from)
+begun_at limits kind from head = Bits kind from (first_word limits kind from head) (first_word limits kind from head == from)
 
 -- the step that a taking has asked for: it reads a word of free bits, or takes a number
 abbrev pub wanted_number : Taking → StepOf Record

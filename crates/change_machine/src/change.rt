@@ -9,7 +9,7 @@ ghost use Rattle.traces.specs.discipline.Fitting.{Fits};
 ghost use Rattle.traces.specs.discipline.Knowledge.{Knowledge, learn};
 ghost use Rattle.traces.specs.discipline.Recalled.{Recalled, WasHead};
 ghost use Rattle.change_machine.specs.Begun.{HasBegun};
-ghost use Rattle.change_machine.specs.Bounded.{IsApart, IsPidFrom, Recalls, Spends, few_steps, near_after, pid_taken, steps_left};
+ghost use Rattle.change_machine.specs.Bounded.{IsApart, IsPidFrom, Recalls, Spends, few_steps, pid_taken, steps_left};
 ghost use Rattle.change_machine.specs.Changes.{Follows, IsMade, IsMadeAt, IsOfChange, IsSameChange, IsSoundChange, IsSpellablePlan, IsTarget, FitsChange};
 ghost use Rattle.change_machine.specs.Changes.{EndsByDeciding, KeepsSpare, MayChange, Shows, has_decided, at, base_row, linked_number, placed_in, record_row, split_base_row, split_row, wanted_step};
 ghost use Rattle.structure_changes.specs.declared.plan.Plan.TheVariants.{Install};
@@ -203,7 +203,6 @@ impl<A: Allocator> Change<A> {
         ensures room { HaveRoom self.old.limits spares.new }
         ensures same { IsSameChange self.old self.new }
         ensures pid { IsPidFrom spares.old.pid (pid_taken (wanted_step self.old spares.old) (answer_of told)) spares.new.pid }
-        ensures counts { spares.new.near ≡ near_after (wanted_step self.old spares.old) (answer_of told) spares.old.near }
         ensures spends { Spends self.old spares.old (answer_of told) self.new spares.new result }
         ensures decides { EndsByDeciding self.old.state self.new.state result }
         ensures lowest { (kind : Kind) (from word bits : ℕ) (whole : Bool) → self.old.state ≡ State.Taking (Taking.Bits kind from word whole) → told ≡ Told.Number bits
@@ -410,11 +409,11 @@ fn first_state(limits: &Limits, plan: &Plan, spares: &Spares) -> State
     ensures { result ≡ first_state limits.now plan.now spares.now }
 {
     if plan.needs_pid() && spares.pid().is_none() {
-        return State::Taking(Taking::begin(limits, Kind::Pid, 0, spares.near()));
+        return State::Taking(Taking::begin(limits, Kind::Pid, 0, plan.head()));
     }
     if !has_rows(limits, plan, spares) {
         let from = wanted_from(limits, plan, spares) / 64;
-        return State::Taking(Taking::begin(limits, Kind::Row, from as u32, spares.near()));
+        return State::Taking(Taking::begin(limits, Kind::Row, from as u32, plan.head()));
     }
     match plan {
         Plan::Install { .. } | Plan::Unlink { .. } => State::Place,

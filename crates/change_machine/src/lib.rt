@@ -16,5 +16,5 @@ mod taking;
 
 pub use change::{Change, End};
 pub use change_laws::plans_may_be_linked;
-pub use spares::{MAX_SPARES, Spares, start_of};
+pub use spares::{MAX_SPARES, Spares};
 pub use taking::Kind;

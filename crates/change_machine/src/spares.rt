@@ -2,7 +2,7 @@
 ghost use Rattle.std.specs.Prelude.{◌≡◌, ◌<◌, [], None, length, get_or};
 ghost use Rattle.change_machine.specs.declared.spares.TheConstants.{MAX_SPARES};
 ghost use Rattle.change_machine.specs.Moves.{spares_left, with_number};
-ghost use Rattle.change_machine.specs.Spares.{last_row, pid_of, second_row, start_of};
+ghost use Rattle.change_machine.specs.Spares.{last_row, pid_of, second_row};
 
 use crate::taking::Kind;
 use arrayvec::ArrayVec;
@@ -12,16 +12,11 @@ use structure_changes::Plan;
 /// How many spare rows an actor has at most: where all rows have one width as many as a split needs, 2.
 pub const MAX_SPARES: usize = 4;
 
-/// An odd number, whose products with the numbers of actors lie far apart.
-const SCATTER: u64 = 2654435761;
-
-/// A PID at most and the rows that an actor took and has not linked: its change uses the last rows. `near` counts the numbers that the actor
-/// has taken, from a start of its own: in a large tree the next taking begins by it, near the last one.
+/// A PID at most and the rows that an actor took and has not linked: its change uses the last rows.
 #[derive(Drop)]
 pub struct Spares {
     pid: Option<u32>,
     rows: ArrayVec<u32, MAX_SPARES>,
-    near: u32,
 }
 
 impl Model for Spares {
@@ -29,18 +24,17 @@ impl Model for Spares {
 
     ghost Value = { Spares };
 
-    ghost view = { λ s. record { pid = s.pid; rows = s.rows.items; near = s.near } };
+    ghost view = { λ s. record { pid = s.pid; rows = s.rows.items } };
 }
 
 impl Spares {
-    /// Nothing, of an actor whose count begins at `near`.
-    pub fn new(near: u32) -> Spares
-        ensures { result ≡ record { pid = None; rows = []; near = near } }
+    /// Nothing.
+    pub fn new() -> Spares
+        ensures { result ≡ record { pid = None; rows = [] } }
     {
         Spares {
             pid: None,
             rows: ArrayVec::new(),
-            near,
         }
     }
 
@@ -56,13 +50,6 @@ impl Spares {
         ensures { result.now ≡ self.now.rows }
     {
         self.rows.as_slice()
-    }
-
-    /// How many numbers the actor has taken, from its start, modulo 2^32.
-    pub(crate) fn near(&self) -> u32
-        ensures { result ≡ self.now.near }
-    {
-        self.near
     }
 
     /// The spare PID, or 0.
@@ -92,7 +79,7 @@ impl Spares {
         self.rows.as_slice().get(place).copied().unwrap_or(0)
     }
 
-    /// Keeps a number that was taken, and counts it.
+    /// Keeps a number that was taken.
     pub(crate) fn keep(&mut self, kind: Kind, number: u32)
         requires { kind ≡ Kind.Row → length self.old.rows < MAX_SPARES }
         ensures { self.new ≡ with_number kind number self.old }
@@ -101,7 +88,6 @@ impl Spares {
             Kind::Pid => self.pid = Some(number),
             Kind::Row => self.rows.push(number),
         }
-        self.near = self.near.wrapping_add(1);
     }
 
     /// What is in the tree is spare no more: the PID, or not, and so many of the last rows.
@@ -114,11 +100,4 @@ impl Spares {
         let used = plan.rows_needed();
         self.rows.truncate(self.rows.len().saturating_sub(used));
     }
-}
-
-/// Where the count of an actor's taken numbers begins: far from where those of other actors do.
-pub fn start_of(number: u8) -> u32
-    ensures { result ≡ start_of number }
-{
-    (u64::from(number) * SCATTER % (1 << 32)) as u32
 }

@@ -10,8 +10,8 @@ ghost use Rattle.change_machine.specs.Taking.{FitsTaking, IsSoundFound, IsSoundT
 use bw_model::{Limits, Step, Told};
 use deltas::Record;
 
-/// How many takings begin at one word of a large tree: as many as it has numbers.
-const NEAR: u32 = 64;
+/// An odd number, whose products are spread over all words.
+const SCATTER: u64 = 2654435761;
 
 /// A kind of number that a change takes.
 #[derive(Clone, Copy, Debug, PartialEq, Eq)]
@@ -64,12 +64,12 @@ impl Kind {
 }
 
 impl Taking {
-    /// Where the taking of a number from word `from` on begins, for an actor that has counted `near` taken numbers.
-    pub(crate) fn begin(limits: &Limits, kind: Kind, from: u32, near: u32) -> Taking
+    /// Where the taking of a number from word `from` on begins, for a change whose exchange expects `head` in its slot.
+    pub(crate) fn begin(limits: &Limits, kind: Kind, from: u32, head: u32) -> Taking
         requires there { 64 * from < count_of limits.now kind }
-        ensures { result ≡ begun_at limits.now kind from near }
+        ensures { result ≡ begun_at limits.now kind from head }
     {
-        let word = first_word(limits, kind, from, near);
+        let word = first_word(limits, kind, from, head);
         Taking::Bits {
             kind,
             from,
@@ -129,15 +129,15 @@ impl Taking {
 }
 
 /// The word at which the taking of a number from word `from` on begins.
-fn first_word(limits: &Limits, kind: Kind, from: u32, near: u32) -> u32
+fn first_word(limits: &Limits, kind: Kind, from: u32, head: u32) -> u32
     requires there { 64 * from < count_of limits.now kind }
-    ensures { result ≡ first_word limits.now kind from near }
+    ensures { result ≡ first_word limits.now kind from head }
 {
     if !limits.is_large {
         return from;
     }
     let words = words_until(limits, kind, from) - u64::from(from);
-    from + (u64::from(near / NEAR) % words) as u32
+    from + (u64::from(head) * SCATTER % words) as u32
 }
 
 /// Where the words end among which the taking of a number from word `from` on begins.

@@ -256,7 +256,7 @@ pub(crate) fn goes(
 /// Whether an actor's changes go as they say, one after another.
 fn all_go(alloc: Global, cases: &[Case]) -> bool {
     let limits = smallest();
-    let mut spares = Spares::new(0);
+    let mut spares = Spares::new();
     for case in cases {
         if !goes(alloc, &limits, &mut spares, 7, Free::First, case) {
             return false;

@@ -5,29 +5,31 @@ use bw_model::{Limits, Widths};
 use change_machine::{End, Kind, Spares};
 use std::alloc::Global;
 
-/// Whether a change of a large tree goes as the case says, over row 7, where these numbers may be free, for an actor with this count.
+/// Whether a change of a large tree goes as the case says, over this row, where these numbers may be free.
 fn goes_in_large(
     alloc: Global,
     (pids, rows): (u64, u64),
-    near: u32,
+    head: u32,
     free: Free,
     case: &Case,
 ) -> bool {
     let Ok(limits) = Limits::large(1, pids, rows, 1) else {
         return false;
     };
-    if limits.rows <= 7 {
+    if head == 0 || u64::from(head) >= limits.rows {
         return false;
     }
-    goes(alloc, &limits, &mut Spares::new(near), 7, free, case)
+    goes(alloc, &limits, &mut Spares::new(), head, free, case)
 }
 
-/// PIDs and rows of a large tree, the actor's count of taken numbers, which numbers may be free, and the change.
-const IN_LARGE: [((u64, u64), u32, Free, Case); 5] = [
+/// PIDs and rows of a large tree, the newest row of page 1, which numbers may be free, and the change.
+///
+/// Of row 7 the product with 2,654,435,761 is 3 beyond a multiple of 4, and so is that of row 315,567 the last one before a multiple of 2^20.
+const IN_LARGE: [((u64, u64), u32, Free, Case); 4] = [
     // Takes a row of word 0, once the words from the third on have none.
     (
         (64, 256),
-        255,
+        7,
         Free::First,
         (
             Planned::Install,
@@ -36,10 +38,10 @@ const IN_LARGE: [((u64, u64), u32, Free, Case); 5] = [
             (End::Won, None, &[]),
         ),
     ),
-    // Is full once each word from word 0 on has none. Once each word had its 64 takings, they begin at word 0 again: 511 / 64 is 3 beyond a multiple of 4.
+    // Is full once each word from word 0 on has none.
     (
         (64, 256),
-        511,
+        7,
         Free::First,
         (
             Planned::Install,
@@ -51,7 +53,7 @@ const IN_LARGE: [((u64, u64), u32, Free, Case); 5] = [
     // Takes a row of the word at which it begins.
     (
         (64, 256),
-        192,
+        7,
         Free::Last,
         (
             Planned::Install,
@@ -60,38 +62,26 @@ const IN_LARGE: [((u64, u64), u32, Free, Case); 5] = [
             (End::Won, None, &[]),
         ),
     ),
-    // The PID is the last of 64 numbers whose takings begin at word 0, so those of rows begin at word 1.
-    (
-        (64, 256),
-        63,
-        Free::First,
-        (
-            Planned::Split,
-            (2, 2, true),
-            "pids 0 pid 3 rows 1 rows 2 rows 3 rows 0 row 3 rows 1 rows 2 rows 3 rows 0 row 5 5=0 3:0>5 3=7 1:7>3",
-            (End::Won, None, &[]),
-        ),
-    ),
-    // Takes the last PID and the last row of the greatest limits, with the greatest counts.
+    // Takes the last PID and the last row of the greatest limits.
     (
         (4_194_304, 67_108_864),
-        4_294_967_293,
+        315_567,
         Free::Last,
         (
             Planned::Split,
             (1, 2, true),
-            "pids 65535 pid 4194303 rows 1048575 row 67108862 rows 1048575 row 67108863 67108863=0 4194303:0>67108863 67108862=7 1:7>67108862",
+            "pids 65535 pid 4194303 rows 1048575 row 67108862 rows 1048575 row 67108863 67108863=0 4194303:0>67108863 67108862=315567 1:315567>67108862",
             (End::Won, None, &[]),
         ),
     ),
 ];
 
 #[test]
-fn takes_numbers_near_one_another_in_a_large_tree(rt: HostRuntime) {
-    for (size, near, free, case) in &IN_LARGE {
+fn takes_scattered_numbers_in_a_large_tree(rt: HostRuntime) {
+    for (size, head, free, case) in &IN_LARGE {
         assert!(rt;
-            goes_in_large(rt.alloc(), *size, *near, *free, case),
-            "{near}"
+            goes_in_large(rt.alloc(), *size, *head, *free, case),
+            "{head}"
         );
     }
 }
@@ -110,10 +100,10 @@ fn goes_by_width(alloc: Global, free: Free, case: &Case) -> bool {
     if limits.rows <= 7 {
         return false;
     }
-    goes(alloc, &limits, &mut Spares::new(64), 7, free, case)
+    goes(alloc, &limits, &mut Spares::new(), 7, free, case)
 }
 
-/// Which numbers may be free, and the change. The actor has counted 64 numbers, so the second word of PIDs is read first.
+/// Which numbers may be free, and the change. The products of 1 and of 7 with 2,654,435,761 are odd, so the second word of PIDs is read first.
 const BY_WIDTH: [(Free, Case); 5] = [
     // A record with one key is placed in a narrow row.
     (

@@ -50,17 +50,17 @@ impl<R: Rows, A: Allocator> Model for Actor<R, A> {
 
 /// An actor that holds nothing and has no operation keeps what shows that nothing is known.
 pub fn idle_actors_rest()
-    ensures { (limits : LimitsSeen) (number : ℕ) (r : Recalled) → IsActor limits number nothing r (idle_actor limits number) }
+    ensures { (limits : LimitsSeen) (number : ℕ) (r : Recalled) → IsActor limits number nothing r (idle_actor limits) }
 {}
 
 impl<R: Rows, A: Allocator + Copy> Actor<R, A> {
-    /// Actor `number`, which holds nothing and has no operation. Takes the memory for its limbo and for the pages of its operations'
-    /// rounds, and is refused for want of it alone. No later call takes memory.
-    pub fn idle(alloc: A, limits: &Limits, number: u8) -> Result<Actor<R, A>, OpenError>
-        ensures ok { IfOk result (λ actor. actor ≡ idle_actor limits.now number) }
+    /// An actor that holds nothing and has no operation. Takes the memory for its limbo and for the pages of its operations' rounds,
+    /// and is refused for want of it alone. No later call takes memory.
+    pub fn idle(alloc: A, limits: &Limits) -> Result<Actor<R, A>, OpenError>
+        ensures ok { IfOk result (λ actor. actor ≡ idle_actor limits.now) }
         ensures err { IfErr result (λ error. error ≡ OpenError.Memory) }
     {
-        let hand = Hand::<A>::new(alloc, limits, number)?;
+        let hand = Hand::<A>::new(alloc, limits)?;
         match Operation::<R, A>::new(alloc, limits) {
             Ok(operation) => Ok(Actor {
                 hand,

@@ -8,7 +8,7 @@ use Rattle.traces.specs.chain.Chains.{IsChainFrom, chain_rows}
 use Rattle.traces.specs.discipline.Fitting.{AreOutOfLimbo}
 use Rattle.traces.specs.discipline.Knowledge.{Absent, Unstamped, Knowledge, Limbos, taken_out}
 use Rattle.epochs.specs.Limbo.{Limbo}
-use Rattle.change_machine.specs.Spares.{Spares, start_of}
+use Rattle.change_machine.specs.Spares.{Spares}
 use Rattle.change_machine.specs.declared.change.End.{End}
 use Rattle.change_machine.specs.declared.change.End.TheVariants.{Won}
 use Rattle.structure_changes.specs.declared.plan.Plan.{Plan}
@@ -24,9 +24,9 @@ pub record Hand : Type 0 where
   pub spares : Spares
   pub limbo : Limbo
 
-abbrev pub empty_hand : Limits → ℕ → Hand
-empty_hand limits number = record {
-  spares = record { pid = None; rows = []; near = start_of number };
+abbrev pub empty_hand : Limits → Hand
+empty_hand limits = record {
+  spares = record { pid = None; rows = [] };
   limbo = empty_limbo limits;
 }
 

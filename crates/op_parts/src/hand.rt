@@ -7,7 +7,7 @@ ghost use Rattle.sweep.specs.Kept.{AreKept};
 
 use crate::then::Then;
 use bw_model::{Limits, OpenError};
-use change_machine::{End, Spares, start_of};
+use change_machine::{End, Spares};
 use epochs::Limbo;
 use std::alloc::{Allocator, Global};
 use std::marker::Model;
@@ -39,14 +39,14 @@ impl<A: Allocator> Model for Hand<A> {
 }
 
 impl<A: Allocator + Copy> Hand<A> {
-    /// The hand of actor `number` that holds nothing, with room for all rows and PIDs in its limbo, so that no later call takes memory.
-    /// Refused only where memory was.
-    pub fn new(alloc: A, limits: &Limits, number: u8) -> Result<Hand<A>, OpenError>
-        ensures ok { IfOk result (λ hand. hand ≡ empty_hand limits.now number) }
+    /// A hand that holds nothing, with room for all rows and PIDs in its limbo, so that no later call takes memory. Refused only
+    /// where memory was.
+    pub fn new(alloc: A, limits: &Limits) -> Result<Hand<A>, OpenError>
+        ensures ok { IfOk result (λ hand. hand ≡ empty_hand limits.now) }
         ensures err { IfErr result (λ error. error ≡ OpenError.Memory) }
     {
         Ok(Hand {
-            spares: Spares::new(start_of(number)),
+            spares: Spares::new(),
             limbo: Limbo::<A>::new(alloc, limits)?,
         })
     }

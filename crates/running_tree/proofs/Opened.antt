@@ -13,14 +13,14 @@ use Rattle.running_tree.proofs.Gathering.{AllExtend}
 use Rattle.running_tree.proofs.Meeting.{seat_extends}
 
 abbrev IdleRest : Type 0
-IdleRest = (limits : Limits) (number : ℕ) (r : Recalled) → IsActor limits number nothing r (idle_actor limits number)
+IdleRest = (limits : Limits) (number : ℕ) (r : Recalled) → IsActor limits number nothing r (idle_actor limits)
 
 -- an idle actor that has seen the empty run
 fresh_idle : (limits : Limits) (number : ℕ) (me : Mine) → IdleRest → IsLawfulRun limits [] → number < limits.actors → me ≡ (alone limits number [] Idle, [])
-    → IsSeat limits number me (idle_actor limits number)
+    → IsSeat limits number me (idle_actor limits)
 fresh_idle limits number me rest legal there is =
     let saw : seen_of me ≡ [] = ap seen_of is in
-    subst (λ (m : Mine). IsSeat limits number m (idle_actor limits number)) (sym is)
+    subst (λ (m : Mine). IsSeat limits number m (idle_actor limits)) (sym is)
     record {
       there = there;
       place = refl;
@@ -29,13 +29,13 @@ fresh_idle limits number me rest legal there is =
     }
 
 pub fresh : (limits : Limits) (number : ℕ) (me : Mine) (actor : Actor) → IdleRest → IsLawfulRun limits [] → number < limits.actors
-    → me ≡ (alone limits number [] Idle, []) → actor ≡ idle_actor limits number → IsSeat limits number me actor
+    → me ≡ (alone limits number [] Idle, []) → actor ≡ idle_actor limits → IsSeat limits number me actor
 fresh limits number me actor rest legal there is idle = subst (IsSeat limits number me) (sym idle) (fresh_idle limits number me rest legal there is)
 
 -- the same once it has seen steps of others
 pub fresh_then : SeatsLast → (limits : Limits) (number : ℕ) (run : List Entry) (me : Mine) (actor : Actor) → IdleRest → IsLawfulRun limits []
     → IsSeenRun limits run → Extends number [] run → number < limits.actors
-    → me ≡ (alone limits number run Idle, []) → actor ≡ idle_actor limits number → IsSeat limits number me actor
+    → me ≡ (alone limits number run Idle, []) → actor ≡ idle_actor limits → IsSeat limits number me actor
 fresh_then own limits number run me actor rest empty run_is extends there is idle =
     let saw : seen_of me ≡ run = ap seen_of is in
     let place : me ≡ (alone limits number (seen_of me) Idle, []) = subst (λ seen. me ≡ (alone limits number seen Idle, [])) (sym saw) is in

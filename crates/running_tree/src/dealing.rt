@@ -35,7 +35,7 @@ pub(crate) fn begun<A: Allocator + Copy>(
     opening_keeps::<TreeLaw>();
     idle_actors_rest();
     let words = opening_words(alloc, &limits)?;
-    let Ok(actor) = Actor::<Tree<A>, A>::idle(alloc, &limits, 0) else {
+    let Ok(actor) = Actor::<Tree<A>, A>::idle(alloc, &limits) else {
         return Err(AllocError);
     };
     let (table, mut place) = Table::of_words(alloc, words.as_slice(), &limits)?;
@@ -107,7 +107,7 @@ pub(crate) fn dealt_out<A: Allocator + Copy>(
     for number in 1..limits.actors as u8 {
         let others = cut(&tree.table.shared, &mut rest, layout);
         let place = replace(&mut rest, others);
-        let Ok(actor) = Actor::<Tree<A>, A>::idle(alloc, limits, number) else {
+        let Ok(actor) = Actor::<Tree<A>, A>::idle(alloc, limits) else {
             return Err(AllocError);
         };
         seats.push(BwSeat {

@@ -137,8 +137,8 @@ stands_push limits before (entry ∷ entries) last h may =
 
 module _ (limits : Limits) where
   pub core_opens : (table : CoreTable) (actors : List Actor) (entries : List Entry) → table.limits ≡ limits → memory_in table ≡ opening limits → length actors ≡ limits.actors
-      → ((a : ℕ) (at : Actor) → slice_get actors a ≡ Some at → at ≡ idle_actor limits a)
-      → ((limits : Limits) (number : ℕ) (r : Recalled) → IsActor limits number nothing r (idle_actor limits number)) → IsState limits [] → IsDirectState limits []
+      → ((a : ℕ) (at : Actor) → slice_get actors a ≡ Some at → at ≡ idle_actor limits)
+      → ((limits : Limits) (number : ℕ) (r : Recalled) → IsActor limits number nothing r (idle_actor limits)) → IsState limits [] → IsDirectState limits []
       → IsPaidState limits [] → IsReadersState limits [] → IsWritersState limits [] → entries ≡ [] → IsCore limits table actors entries
   core_opens table actors entries same has count each rest state direct paid readers writers none = rw none (record {
     state = state;

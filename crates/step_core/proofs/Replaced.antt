@@ -31,9 +31,9 @@ set_length [] i x = refl
 set_length (z ∷ xs) zero x = refl
 set_length (z ∷ xs) (suc i) x = ap suc (set_length xs i x)
 
--- what stands in the longer list stood in the shorter one, or is the new value, behind it
-pub push_cases : {X : Type 0} (xs : List X) (x : X) (a : ℕ) (y : X) → slice_get (xs ++ x ∷ []) a ≡ Some y → (slice_get xs a ≡ Some y) ⊎ ((a ≡ length xs) × (y ≡ x))
-push_cases [] x zero y e = inr (refl, cc)
+-- what stands in the longer list stood in the shorter one, or is the new value
+pub push_cases : {X : Type 0} (xs : List X) (x : X) (a : ℕ) (y : X) → slice_get (xs ++ x ∷ []) a ≡ Some y → (slice_get xs a ≡ Some y) ⊎ (y ≡ x)
+push_cases [] x zero y e = inr (cc)
 push_cases [] x (suc a) y e = cc
 push_cases (z ∷ xs) x zero y e = inl e
-push_cases (z ∷ xs) x (suc a) y e = elim (push_cases xs x a y e) [ inl before ↦ inl before | inr last ↦ inr (ap suc last.0, last.1) ]
+push_cases (z ∷ xs) x (suc a) y e = push_cases xs x a y e

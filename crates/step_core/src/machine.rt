@@ -79,8 +79,8 @@ impl<A: Allocator + Copy> Core<A> {
         idle_actors_rest();
         let memory = CoreTable::<A>::open(alloc, &limits)?;
         let mut actors = Vec::with_capacity(alloc, limits.actors as usize)?;
-        for number in 0..limits.actors as u8 {
-            let Ok(actor) = Actor::<CoreRows<A>, A>::idle(alloc, &limits, number) else {
+        for _ in 0..limits.actors {
+            let Ok(actor) = Actor::<CoreRows<A>, A>::idle(alloc, &limits) else {
                 return Err(AllocError);
             };
             actors.push(actor)?;

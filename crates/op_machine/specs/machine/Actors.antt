@@ -26,8 +26,8 @@ pub record Actor : Type 0 where
   pub running : Option UnderWay
   pub lacks : Option Kind
 
-abbrev pub idle_actor : Limits → ℕ → Actor
-idle_actor limits number = record { hand = empty_hand limits number; running = None; lacks = None }
+abbrev pub idle_actor : Limits → Actor
+idle_actor limits = record { hand = empty_hand limits; running = None; lacks = None }
 
 -- it is at an operation
 abbrev pub at_work : Hand → UnderWay → Option Kind → Actor

@@ -1,6 +1,5 @@
 use Rattle.bw_model.specs.Answers.{answer_of}
 use Rattle.change_machine.proofs.Answered.{follows}
-use Rattle.change_machine.proofs.Counting.{near_counts}
 use Rattle.change_machine.proofs.Deciding.{turns}
 use Rattle.change_machine.proofs.Outs.{outs}
 use Rattle.change_machine.proofs.Sound.{room_stays, sound_stays}
@@ -41,10 +40,6 @@ returns-clause-sound g c =
 pub returns-clause-pid : goal.returns-clause-pid
 returns-clause-pid g c =
     pid_from c.args.self.now c.args.spares.now (answer_of c.args.told) (record { state = c.move_on.new.self.state; spares = c.move_on.new.spares; end = c.move_on.result }) c.move_on.ensures.moved
-
-pub returns-clause-counts : goal.returns-clause-counts
-returns-clause-counts g c =
-    near_counts c.args.self.now c.args.spares.now (answer_of c.args.told) (record { state = c.move_on.new.self.state; spares = c.move_on.new.spares; end = c.move_on.result }) c.move_on.ensures.moved
 
 pub returns-clause-decides : goal.returns-clause-decides
 returns-clause-decides g c =
