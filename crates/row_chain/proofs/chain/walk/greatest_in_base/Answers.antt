@@ -21,5 +21,5 @@ returns-clause-child g c =
     let passes = is_left c.args.below c.args.bound.now in
     let some = c.if-count-eq0.false in
     let greatest = wins row [] c.keeps_spelling.ensures.spellable passes c.passing-count.ensures.items c.passing-count.result.0 c.passing-count.ensures.passed None (λ key pass. refl) c.passing-count.result.0 (λ i d from to. absurd (omega (arith, from, to)))
-        none (omega (arith, some)) (omega arith) refl refl in
+    none (omega (arith, some)) (omega arith) refl refl in
     child_found (row ∷ []) c.requires.alone.fitted passes _ _ c.child_at.result greatest (c.child_at.ensures.child none)
