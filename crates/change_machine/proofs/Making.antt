@@ -6,7 +6,7 @@ use Rattle.change_machine.specs.Bounded.{SpendsTo}
 
 -- a change that has made nothing
 abbrev pub bare_at : Limits → Plan → State → Change
-bare_at limits plan state = record { limits = limits; plan = plan; state = state; made = kind.Remove (record { level = 0; next = 0 }) }
+bare_at limits plan state = record { limits = limits; plan = plan; state = state; near = 0; made = kind.Remove (record { level = 0; next = 0 }) }
 
 abbrev pub bare : Change → Change
 bare change = bare_at change.limits change.plan change.state

@@ -1,7 +1,7 @@
 -- A change that goes on names no number that has no place.
-use Rattle.change_machine.proofs.Words.{◌≡◌, ◌<◌, ◌≤◌, ◌+◌, ◌*◌, ◌∙◌, ℕ, zero, suc, [], ◌∷◌, ◌++◌, length, take, Bool, true, false, Option, Some, None, refl, sym, ap, subst, arith, ltb}
+use Rattle.change_machine.proofs.Words.{◌≡◌, ◌<◌, ◌≤◌, ◌+◌, ◌*◌, ◌∙◌, ℕ, zero, suc, [], ◌∷◌, ◌++◌, length, take, Bool, true, false, Option, Some, None, refl, sym, ap, subst, arith, ltb, near_after}
 use Rattle.change_machine.proofs.Words.{is_some, not, ◌&&◌, if◌then◌else◌, ltb-true, trailing_zeros, w64, Limits, Answer, Record, Fits, FitsWord, Knowledge, AreEnough, Change, IsNeededNext}
-use Rattle.change_machine.proofs.Words.{IsSameChange, IsSoundChange, IsTarget, needed_from, wanted_step, wanted_at, clears, head_of, needs_pid, rows_needed, Moved, after_ready, after_taking}
+use Rattle.change_machine.proofs.Words.{IsSameChange, IsSoundChange, IsTarget, needed_from, wanted_step, wanted_at, clears, needs_pid, rows_needed, Moved, after_ready, after_taking}
 use Rattle.change_machine.proofs.Words.{decided_by, first_state, has_rows, next_move, moved_by, spares_left, wanted_from, whether_in, with_number, HaveRoom, Spares, begun_at, count_of}
 use Rattle.change_machine.proofs.Words.{found_after, from_of, kind_of, wanted_number, words_end, End, State, Plan, Install, Root, Unlink, Found, Not, Full, Kind, Pid, Row, Bits, Take}
 use Rattle.std.proofs.Common.{◌/◌, ◌-◌, length-append, length-take-le}
@@ -52,17 +52,17 @@ end_there limits kind from true there = omega arith
 end_there limits kind from false there = (until_there limits kind from there).1
 
 -- a taking begins at a word that is there
-begun_there : (limits : Limits) (kind : Kind) (from head : ℕ) → 64 * from < count_of limits kind → IsSoundTaking limits (begun_at limits kind from head)
-begun_there limits kind from head there = go limits.is_large
+begun_there : (limits : Limits) (kind : Kind) (from near : ℕ) → 64 * from < count_of limits kind → IsSoundTaking limits (begun_at limits kind from near)
+begun_there limits kind from near there = go limits.is_large
   where
-    go : (large : Bool) → (from ≤ from + (if large then head * 2654435761 % (words_until limits kind from - from) else 0))
-        × (64 * (from + (if large then head * 2654435761 % (words_until limits kind from - from) else 0)) < count_of limits kind)
+    go : (large : Bool) → (from ≤ from + (if large then near % (words_until limits kind from - from) else 0))
+        × (64 * (from + (if large then near % (words_until limits kind from - from) else 0)) < count_of limits kind)
     go false = (omega arith, omega (arith, there))
     go true =
         let until = until_there limits kind from there in
         let some = until.0 in
         let few = until.1 in
-        let below = mod-lt (head * 2654435761) {m = words_until limits kind from - from} (omega (arith, some)) in
+        let below = mod-lt near {m = words_until limits kind from - from} (omega (arith, some)) in
         (omega arith, omega (arith, below, some, few))
 
 -- the kind of what is found, or to be found
@@ -158,8 +158,8 @@ module _ (limits : Limits) (plan : Plan) where
       pid_kept false = room.pid
 
   -- the first state is one of the plan's
-  pub first_sound : (spares : Spares) → IsTarget limits plan → IsSoundState limits plan spares (first_state limits plan spares)
-  first_sound spares target = at_first (needs_pid plan && not (is_some spares.pid)) refl (has_rows limits plan spares.rows) refl
+  pub first_sound : (spares : Spares) (near : ℕ) → IsTarget limits plan → IsSoundState limits plan spares (first_state limits plan spares near)
+  first_sound spares near target = at_first (needs_pid plan && not (is_some spares.pid)) refl (has_rows limits plan spares.rows) refl
     where
       missing_pid : (needs : Bool) (pid : Option ℕ) → (needs && not (is_some pid)) ≡ true → (needs ≡ true) × (pid ≡ None)
       missing_pid false pid e = cc
@@ -178,11 +178,11 @@ module _ (limits : Limits) (plan : Plan) where
       at_place (Unlink pid head unterm removal) is enough = (enough, rw (← is) (rw (← is) at target).0.page)
 
       at_first : (pid : Bool) → (needs_pid plan && not (is_some spares.pid)) ≡ pid → (row : Bool) → has_rows limits plan spares.rows ≡ row
-          → IsSoundState limits plan spares (if pid then state.Taking (begun_at limits Pid 0 (head_of plan)) else if row then after_taking plan else state.Taking
-          (begun_at limits Row (wanted_from limits plan spares.rows / 64) (head_of plan)))
-      at_first true pid row e = (begun_there limits Pid 0 (head_of plan) (some_numbers limits Pid), missing_pid (needs_pid plan) spares.pid pid, refl)
+          → IsSoundState limits plan spares (if pid then state.Taking (begun_at limits Pid 0 near) else if row then after_taking plan else state.Taking
+          (begun_at limits Row (wanted_from limits plan spares.rows / 64) near))
+      at_first true pid row e = (begun_there limits Pid 0 near (some_numbers limits Pid), missing_pid (needs_pid plan) spares.pid pid, refl)
       at_first false pid false e = (
-        begun_there limits Row (wanted_from limits plan spares.rows / 64) (head_of plan) (wanted_there limits plan spares.rows).1,
+        begun_there limits Row (wanted_from limits plan spares.rows / 64) near (wanted_there limits plan spares.rows).1,
         (e, some_pid (needs_pid plan) spares.pid pid),
         refl,
       )
@@ -194,13 +194,13 @@ module _ (limits : Limits) (plan : Plan) where
   abbrev pub StaysSound : Moved → Type 0
   StaysSound now = HaveRoom limits now.spares × IfNone now.end (IsSoundState limits plan now.spares now.state)
 
-  found_stays : (spares : Spares) (state : State) (found : Found) → HaveRoom limits spares → (kind : Kind) → IsNeededNext limits plan spares kind
-      → IsTarget limits plan → IsSoundFound limits (needed_from limits plan spares kind) found → IsFoundOf kind found → StaysSound (moved_by limits plan spares state found)
-  found_stays spares state (Not taking) room kind missing target sound of = (room, (sound.0, rw of missing, sound.1 ∙ ap (needed_from limits plan spares) (sym of)))
-  found_stays spares state (Taken other number) room kind missing target sound of =
+  found_stays : (spares : Spares) (near : ℕ) (state : State) (found : Found) → HaveRoom limits spares → (kind : Kind) → IsNeededNext limits plan spares kind
+      → IsTarget limits plan → IsSoundFound limits (needed_from limits plan spares kind) found → IsFoundOf kind found → StaysSound (moved_by limits plan spares near state found)
+  found_stays spares near state (Not taking) room kind missing target sound of = (room, (sound.0, rw of missing, sound.1 ∙ ap (needed_from limits plan spares) (sym of)))
+  found_stays spares near state (Taken other number) room kind missing target sound of =
       let there = room_taken spares other number room (rw of missing) (sound.0, sound.1, rw of sound.2) in
-      (there, first_sound (with_number other number spares) target)
-  found_stays spares state (Full other) room kind missing target sound of = (room, tt)
+      (there, first_sound (with_number other number spares) near target)
+  found_stays spares near state (Full other) room kind missing target sound of = (room, tt)
 
   after_ready_sound : (spares : Spares) (other : Plan) → other ≡ plan → IsTarget limits other → AreEnough limits plan spares → needs_pid other ≡ true
       → IsSoundState limits plan spares (after_ready other)
@@ -209,15 +209,15 @@ module _ (limits : Limits) (plan : Plan) where
   after_ready_sound spares (Root left root) is target enough needs = enough
   after_ready_sound spares (Unlink pid head unterm removal) is target enough needs = cc
 
-  stays_at : (spares : Spares) (state : State) (told : Answer Record) (k : Knowledge) → Fits limits k (wanted_at limits plan spares state) told
-      → HaveRoom limits spares → IsSoundState limits plan spares state → IsTarget limits plan → StaysSound (next_move limits plan spares state told)
-  stays_at spares (state.Taking taking) told k fits room sound target =
-      found_stays spares (state.Taking taking) (found_after limits taking told) room (kind_of taking) sound.1 target
+  stays_at : (spares : Spares) (near : ℕ) (state : State) (told : Answer Record) (k : Knowledge) → Fits limits k (wanted_at limits plan spares state) told
+      → HaveRoom limits spares → IsSoundState limits plan spares state → IsTarget limits plan → StaysSound (next_move limits plan spares near state told)
+  stays_at spares near (state.Taking taking) told k fits room sound target =
+      found_stays spares (near_after near taking told) (state.Taking taking) (found_after limits taking told) room (kind_of taking) sound.1 target
       (rw (← sound.2) (found_sound limits k taking told fits sound.0)) (found_of limits taking told)
-  stays_at spares state.Base told k fits room sound target = (room, sound)
-  stays_at spares state.Ready told k fits room sound target = (room, after_ready_sound spares plan refl target sound.0 sound.1)
-  stays_at spares state.Place told k fits room sound target = (room, sound.0)
-  stays_at spares state.Link told k fits room sound target = by_answer (whether_in told)
+  stays_at spares near state.Base told k fits room sound target = (room, sound)
+  stays_at spares near state.Ready told k fits room sound target = (room, after_ready_sound spares plan refl target sound.0 sound.1)
+  stays_at spares near state.Place told k fits room sound target = (room, sound.0)
+  stays_at spares near state.Link told k fits room sound target = by_answer (whether_in told)
     where
       by_need : (needs : Bool) → needs_pid plan ≡ needs → StaysSound (decided_by plan spares false)
       by_need true is = rw is (room, (sound, is))
@@ -230,8 +230,8 @@ module _ (limits : Limits) (plan : Plan) where
       by_answer : (won : Bool) → StaysSound (decided_by plan spares won)
       by_answer true = by_clearing (clears plan) refl
       by_answer false = by_need (needs_pid plan) refl
-  stays_at spares state.Undo told k fits room sound target = (room, tt)
-  stays_at spares state.Clear told k fits room sound target = (room, tt)
+  stays_at spares near state.Undo told k fits room sound target = (room, tt)
+  stays_at spares near state.Clear told k fits room sound target = (room, tt)
 
 -- there is a place for a row that a taking has found
 pub keeps_place : (change : Change) (spares : Spares) (taking : Taking) (told : Answer Record) (kind : Kind) (number : ℕ) → change.state ≡ state.Taking taking → IsSoundChange change spares
@@ -245,10 +245,10 @@ keeps_place change spares taking told kind number at sound found there row =
     row_place change.limits change.plan spares number sound.room missing (rw from at there.2)
 
 module _ (old new : Change) (had has : Spares) (told : Answer Record) (end : Option End)
-    (is : next_move old.limits old.plan had old.state told ≡ record { state = new.state; spares = has; end = end }) (same : IsSameChange old new) (k : Knowledge)
+    (is : next_move old.limits old.plan had old.near old.state told ≡ record { state = new.state; spares = has; end = end }) (same : IsSameChange old new) (k : Knowledge)
     (fits : Fits old.limits k (wanted_step old had) told) (sound : IsSoundChange old had) (target : IsTarget old.limits old.plan) where
   stays : HaveRoom old.limits has × IfNone end (IsSoundState old.limits old.plan has new.state)
-  stays = rw is at (stays_at old.limits old.plan had old.state told k fits sound.room sound.state target)
+  stays = rw is at (stays_at old.limits old.plan had old.near old.state told k fits sound.room sound.state target)
 
   pub room_stays : HaveRoom old.limits has
   room_stays = stays.0

@@ -1,5 +1,5 @@
 -- What a change's steps leave it.
-use Rattle.change_machine.proofs.Words.{◌≡◌, ◌<◌, ◌≤◌, ◌∙◌, ◌*◌, ◌+◌, inl, inr, ℕ, zero, suc, Bool, true, false, Option, Some, None, refl, sym, ap, arith, ltb, is_some, not, ◌&&◌}
+use Rattle.change_machine.proofs.Words.{◌≡◌, ◌<◌, ◌≤◌, ◌∙◌, ◌*◌, ◌+◌, inl, inr, ℕ, zero, suc, Bool, true, false, Option, Some, None, refl, sym, ap, arith, ltb, is_some, not, ◌&&◌, near_after}
 use Rattle.change_machine.proofs.Words.{if◌then◌else◌, trailing_zeros, w64, Limits, Answer, Record, Fits, FitsWord, Knowledge, AreEnough, Change, IsNeededNext, IsSameChange, IsSoundChange}
 use Rattle.change_machine.proofs.Words.{linked_number, needed_from, wanted_step, wanted_at, clears, head_of, needs_pid, slot_of, Moved, after_ready, after_taking, decided_by, first_state}
 use Rattle.change_machine.proofs.Words.{has_rows, next_move, moved_by, spares_left, wanted_from, whether_in, with_number, HaveRoom, Spares, pid_of, begun_at, count_of, found_after, from_of}
@@ -68,9 +68,9 @@ few_missing limits plan spares = let one = one_pid (needs_pid plan) spares.pid i
     one_pid true (Some pid) = omega arith
 
 -- how many steps a change takes at most from its first state on
-pub left_first : (limits : Limits) (after : ℕ) (plan : Plan) (spares : Spares)
-    → steps_left_at limits after plan spares (first_state limits plan spares) ≤ most_reads limits * numbers_missing limits plan spares + 5
-left_first limits after plan spares = at_first (needs_pid plan && not (is_some spares.pid)) refl (has_rows limits plan spares.rows) refl
+pub left_first : (limits : Limits) (after : ℕ) (plan : Plan) (spares : Spares) (near : ℕ)
+    → steps_left_at limits after plan spares (first_state limits plan spares near) ≤ most_reads limits * numbers_missing limits plan spares + 5
+left_first limits after plan spares near = at_first (needs_pid plan && not (is_some spares.pid)) refl (has_rows limits plan spares.rows) refl
   where
     some_missing : (needs : Bool) (pid : Option ℕ) → (needs && not (is_some pid)) ≡ true → pids_missing needs pid ≡ 1
     some_missing false pid e = cc
@@ -82,39 +82,39 @@ left_first limits after plan spares = at_first (needs_pid plan && not (is_some s
     at_place other = omega arith
 
     at_first : (pid : Bool) → (needs_pid plan && not (is_some spares.pid)) ≡ pid → (row : Bool) → has_rows limits plan spares.rows ≡ row
-        → steps_left_at limits after plan spares (if pid then state.Taking (begun_at limits Pid 0 (head_of plan)) else if row then after_taking plan else state.Taking
-        (begun_at limits Row (wanted_from limits plan spares.rows / 64) (head_of plan)))
+        → steps_left_at limits after plan spares (if pid then state.Taking (begun_at limits Pid 0 near) else if row then after_taking plan else state.Taking
+        (begun_at limits Row (wanted_from limits plan spares.rows / 64) near))
         ≤ most_reads limits * numbers_missing limits plan spares + 5
     at_first true pid row e =
         let one = some_missing (needs_pid plan) spares.pid pid in
-        let few = few_left limits (first_word limits Pid 0 (head_of plan)) (first_word limits Pid 0 (head_of plan) == 0) in
+        let few = few_left limits (first_word limits Pid 0 near) (first_word limits Pid 0 near == 0) in
         let more = reads_more limits (numbers_missing limits plan spares) (omega (arith, one)) in
         omega (arith, one, few, more)
     at_first false pid false e =
         let some = missing_some limits plan spares.rows e in
         let from = wanted_from limits plan spares.rows / 64 in
-        let few = few_left limits (first_word limits Row from (head_of plan)) (first_word limits Row from (head_of plan) == from) in
+        let few = few_left limits (first_word limits Row from near) (first_word limits Row from near == from) in
         let more = reads_more limits (numbers_missing limits plan spares) (omega (arith, some)) in
         omega (arith, some, few, more)
     at_first false pid true e = let few = at_place plan in omega (arith, few)
 
-pub few_first : (limits : Limits) (after : ℕ) (plan : Plan) (spares : Spares) → steps_left_at limits after plan spares (first_state limits plan spares) ≤ few_steps limits
-few_first limits after plan spares =
-    let first = left_first limits after plan spares in
+pub few_first : (limits : Limits) (after : ℕ) (plan : Plan) (spares : Spares) (near : ℕ) → steps_left_at limits after plan spares (first_state limits plan spares near) ≤ few_steps limits
+few_first limits after plan spares near =
+    let first = left_first limits after plan spares near in
     let three = mul-le-mul_left (most_reads limits) (few_missing limits plan spares) in
     omega (arith, first, three)
 
 -- at its first state it recalls the slot that decides
-pub recalls_first : (limits : Limits) (r : Recalled) (plan : Plan) (spares : Spares) → WasHead r (slot_of plan) (head_of plan) → RecallsAt r plan (first_state limits plan spares)
-recalls_first limits r plan spares h = at_first (needs_pid plan && not (is_some spares.pid)) (has_rows limits plan spares.rows)
+pub recalls_first : (limits : Limits) (r : Recalled) (plan : Plan) (spares : Spares) (near : ℕ) → WasHead r (slot_of plan) (head_of plan) → RecallsAt r plan (first_state limits plan spares near)
+recalls_first limits r plan spares near h = at_first (needs_pid plan && not (is_some spares.pid)) (has_rows limits plan spares.rows)
   where
     at_place : (other : Plan) → RecallsAt r plan (after_taking other)
     at_place (Install pid head content) = h
     at_place other = h
 
     at_first : (pid row : Bool)
-        → RecallsAt r plan (if pid then state.Taking (begun_at limits Pid 0 (head_of plan)) else if row then after_taking plan else state.Taking
-        (begun_at limits Row (wanted_from limits plan spares.rows / 64) (head_of plan)))
+        → RecallsAt r plan (if pid then state.Taking (begun_at limits Pid 0 near) else if row then after_taking plan else state.Taking
+        (begun_at limits Row (wanted_from limits plan spares.rows / 64) near))
     at_first true row = h
     at_first false true = at_place plan
     at_first false false = h
@@ -132,14 +132,14 @@ module _ (limits : Limits) (plan : Plan) (spares : Spares) (after : ℕ) (r : Re
   word_head Pid from word whole bits h = h
   word_head Row from word whole bits h = h
 
-  empty_word : (kind : Kind) (from word : ℕ) (whole : Bool) → IsSoundTaking limits (Bits kind from word whole) → WasHead r (slot_of plan) (head_of plan)
+  empty_word : (near : ℕ) (kind : Kind) (from word : ℕ) (whole : Bool) → IsSoundTaking limits (Bits kind from word whole) → WasHead r (slot_of plan) (head_of plan)
       → SpendsSo (state.Taking (Bits kind from word whole)) (answer.Number 0)
-      (moved_by limits plan spares (state.Taking (Bits kind from word whole)) (found_after limits (Bits kind from word whole) (answer.Number 0)))
-  empty_word kind from word whole sound h = go (ltb (suc word) (words_end limits kind from whole)) whole
+      (moved_by limits plan spares near (state.Taking (Bits kind from word whole)) (found_after limits (Bits kind from word whole) (answer.Number 0)))
+  empty_word near kind from word whole sound h = go (ltb (suc word) (words_end limits kind from whole)) whole
     where
       after_word : Bool → Bool → Moved
       after_word more all =
-          moved_by limits plan spares (state.Taking (Bits kind from word all)) (if more then Not (Bits kind from (suc word) all) else if all then Full kind else Not (Bits kind from from true))
+          moved_by limits plan spares near (state.Taking (Bits kind from word all)) (if more then Not (Bits kind from (suc word) all) else if all then Full kind else Not (Bits kind from from true))
 
       few : word < most_words limits
       few = few_words limits kind word sound.1
@@ -155,11 +155,11 @@ module _ (limits : Limits) (plan : Plan) (spares : Spares) (after : ℕ) (r : Re
   free_then Pid from word whole bits number place free = (bits, rw place (replaced_same word (Some bits) r.pids), free)
   free_then Row from word whole bits number place free = (bits, rw place (replaced_same word (Some bits) r.rows), free)
 
-  some_word : (kind : Kind) (from word : ℕ) (whole : Bool) (bits : ℕ) → 64 * word < count_of limits kind → FitsWord (count_of limits kind) word (suc bits)
+  some_word : (near : ℕ) (kind : Kind) (from word : ℕ) (whole : Bool) (bits : ℕ) → 64 * word < count_of limits kind → FitsWord (count_of limits kind) word (suc bits)
       → WasHead r (slot_of plan) (head_of plan)
       → SpendsSo (state.Taking (Bits kind from word whole)) (answer.Number (suc bits))
-      (moved_by limits plan spares (state.Taking (Bits kind from word whole)) (found_after limits (Bits kind from word whole) (answer.Number (suc bits))))
-  some_word kind from word whole bits below fits h =
+      (moved_by limits plan spares near (state.Taking (Bits kind from word whole)) (found_after limits (Bits kind from word whole) (answer.Number (suc bits))))
+  some_word near kind from word whole bits below fits h =
       let few = few_words limits kind word below in
       let lowest = in_word (count_of limits kind) word bits fits in (
         record {
@@ -175,45 +175,45 @@ module _ (limits : Limits) (plan : Plan) (spares : Spares) (after : ℕ) (r : Re
       more_left true few = omega (arith, few)
       more_left false few = let are = reads_are limits in omega (arith, few, are)
 
-  missed : (kind : Kind) (from number : ℕ) (whole : Bool) → WasHead r (slot_of plan) (head_of plan) → WasFree (recalled_words r kind) number
+  missed : (near : ℕ) (kind : Kind) (from number : ℕ) (whole : Bool) → WasHead r (slot_of plan) (head_of plan) → WasFree (recalled_words r kind) number
       → SpendsSo (state.Taking (Take kind from number whole)) (answer.Whether false)
-      (moved_by limits plan spares (state.Taking (Take kind from number whole)) (found_after limits (Take kind from number whole) (answer.Whether false)))
-  missed Pid from number true h free = (record { at = h; apart = apart }, inr (free, (let few = few_left limits (number / 64) true in omega (arith, few))))
-  missed Pid from number false h free = (record { at = h; apart = apart }, inr (free, (let few = few_left limits (number / 64) false in omega (arith, few))))
-  missed Row from number true h free = (record { at = h; apart = apart }, inr (free, (let few = few_left limits (number / 64) true in omega (arith, few))))
-  missed Row from number false h free = (record { at = h; apart = apart }, inr (free, (let few = few_left limits (number / 64) false in omega (arith, few))))
+      (moved_by limits plan spares near (state.Taking (Take kind from number whole)) (found_after limits (Take kind from number whole) (answer.Whether false)))
+  missed near Pid from number true h free = (record { at = h; apart = apart }, inr (free, (let few = few_left limits (number / 64) true in omega (arith, few))))
+  missed near Pid from number false h free = (record { at = h; apart = apart }, inr (free, (let few = few_left limits (number / 64) false in omega (arith, few))))
+  missed near Row from number true h free = (record { at = h; apart = apart }, inr (free, (let few = few_left limits (number / 64) true in omega (arith, few))))
+  missed near Row from number false h free = (record { at = h; apart = apart }, inr (free, (let few = few_left limits (number / 64) false in omega (arith, few))))
 
-  took : (kind : Kind) (from number : ℕ) (whole : Bool) → IsNeededNext limits plan spares kind → 64 * needed_from limits plan spares kind ≤ number
+  took : (near : ℕ) (kind : Kind) (from number : ℕ) (whole : Bool) → IsNeededNext limits plan spares kind → 64 * needed_from limits plan spares kind ≤ number
       → WasHead r (slot_of plan) (head_of plan) → IsApart plan (pid_taken (wanted_number (Take kind from number whole)) (answer.Whether true))
       → SpendsSo (state.Taking (Take kind from number whole)) (answer.Whether true)
-      (moved_by limits plan spares (state.Taking (Take kind from number whole)) (found_after limits (Take kind from number whole) (answer.Whether true)))
-  took Pid from number whole missing least h far =
+      (moved_by limits plan spares near (state.Taking (Take kind from number whole)) (found_after limits (Take kind from number whole) (answer.Whether true)))
+  took near Pid from number whole missing least h far =
       let less = fewer_missing limits plan spares Pid number missing least in
-      let first = left_first limits after plan (with_number Pid number spares) in (
+      let first = left_first limits after plan (with_number Pid number spares) near in (
         record
-            { at = recalls_first limits (recall r (wanted_number (Take Pid from number whole)) (answer.Whether true)) plan (with_number Pid number spares) h; apart = far },
+            { at = recalls_first limits (recall r (wanted_number (Take Pid from number whole)) (answer.Whether true)) plan (with_number Pid number spares) near h; apart = far },
         inl (let same = reads_same limits _ _ less in omega (arith, less, first, same)),
       )
-  took Row from number whole missing least h far =
+  took near Row from number whole missing least h far =
       let less = fewer_missing limits plan spares Row number missing least in
-      let first = left_first limits after plan (with_number Row number spares) in (
+      let first = left_first limits after plan (with_number Row number spares) near in (
         record
-            { at = recalls_first limits (recall r (wanted_number (Take Row from number whole)) (answer.Whether true)) plan (with_number Row number spares) h; apart = apart },
+            { at = recalls_first limits (recall r (wanted_number (Take Row from number whole)) (answer.Whether true)) plan (with_number Row number spares) near h; apart = apart },
         inl (let same = reads_same limits _ _ less in omega (arith, less, first, same)),
       )
 
-  takes : (taking : Taking) (told : Answer Record) → (k : Knowledge) → Fits limits k (wanted_number taking) told → IsSoundTaking limits taking
+  takes : (near : ℕ) (taking : Taking) (told : Answer Record) → (k : Knowledge) → Fits limits k (wanted_number taking) told → IsSoundTaking limits taking
       → IsNeededNext limits plan spares (kind_of taking) → from_of taking ≡ needed_from limits plan spares (kind_of taking)
       → RecallsAt r plan (state.Taking taking) → IsApart plan (pid_taken (wanted_number taking) told)
-      → SpendsSo (state.Taking taking) told (moved_by limits plan spares (state.Taking taking) (found_after limits taking told))
-  takes (Bits kind from word whole) (answer.Number zero) k fits sound missing needed h far = empty_word kind from word whole sound h
-  takes (Bits Pid from word whole) (answer.Number (suc bits)) k fits sound missing needed h far = some_word Pid from word whole bits sound.1 fits h
-  takes (Bits Row from word whole) (answer.Number (suc bits)) k fits sound missing needed h far = some_word Row from word whole bits sound.1 fits h
-  takes (Take kind from number whole) (answer.Whether true) k fits sound missing needed h far = took kind from number whole missing (rw needed at sound.0) h.0 far
-  takes (Take kind from number whole) (answer.Whether false) k fits sound missing needed h far = missed kind from number whole h.0 h.1
-  takes (Bits Pid from word whole) told k fits sound missing needed h far = absurd fits
-  takes (Take Pid from number whole) told k fits sound missing needed h far = absurd fits
-  takes taking told k fits sound missing needed h far = absurd fits
+      → SpendsSo (state.Taking taking) told (moved_by limits plan spares near (state.Taking taking) (found_after limits taking told))
+  takes near (Bits kind from word whole) (answer.Number zero) k fits sound missing needed h far = empty_word near kind from word whole sound h
+  takes near (Bits Pid from word whole) (answer.Number (suc bits)) k fits sound missing needed h far = some_word near Pid from word whole bits sound.1 fits h
+  takes near (Bits Row from word whole) (answer.Number (suc bits)) k fits sound missing needed h far = some_word near Row from word whole bits sound.1 fits h
+  takes near (Take kind from number whole) (answer.Whether true) k fits sound missing needed h far = took near kind from number whole missing (rw needed at sound.0) h.0 far
+  takes near (Take kind from number whole) (answer.Whether false) k fits sound missing needed h far = missed near kind from number whole h.0 h.1
+  takes near (Bits Pid from word whole) told k fits sound missing needed h far = absurd fits
+  takes near (Take Pid from number whole) told k fits sound missing needed h far = absurd fits
+  takes near taking told k fits sound missing needed h far = absurd fits
 
   -- the new page isn't the slot that decides
   slot_apart : (plan : Plan) → needs_pid plan ≡ true → IsApart plan (Some (pid_of spares)) → 0 < pid_of spares → slot_of plan ≢ pid_of spares
@@ -252,20 +252,20 @@ module _ (limits : Limits) (plan : Plan) (spares : Spares) (after : ℕ) (r : Re
       lost true is = rw is (record { at = tt; apart = apart }, inr (h, omega arith))
       lost false is = rw is (inl h)
 
-  spends_at : (state : State) (told : Answer Record) (k : Knowledge) → Fits limits k (wanted_at limits plan spares state) told → IsSoundChange (change state) spares
-      → RecallsAt r plan state → IsApart plan (pid_taken (wanted_at limits plan spares state) told) → SpendsSo state told (next_move limits plan spares state told)
-  spends_at (state.Taking taking) told k fits sound h far = takes taking told k fits sound.state.0 sound.state.1 sound.state.2 h far
-  spends_at state.Base told k fits sound h far = (record { at = h; apart = apart }, inl (omega arith))
-  spends_at state.Ready told k fits sound h far = set sound.state.0 sound.state.1 sound.room told h
-  spends_at state.Place told k fits sound h far = (record { at = h; apart = apart }, inl (omega arith))
-  spends_at state.Link told k fits sound h far = let is = went k limits (slot_of plan) (head_of plan) (linked_number limits plan spares) told fits in rw is (decided (whether_in told) h)
-  spends_at state.Undo told k fits sound h far = inr (omega arith)
-  spends_at state.Clear told k fits sound h far = inr (sound.state, omega arith)
+  spends_at : (near : ℕ) (state : State) (told : Answer Record) (k : Knowledge) → Fits limits k (wanted_at limits plan spares state) told → IsSoundChange (change state) spares
+      → RecallsAt r plan state → IsApart plan (pid_taken (wanted_at limits plan spares state) told) → SpendsSo state told (next_move limits plan spares near state told)
+  spends_at near (state.Taking taking) told k fits sound h far = takes (near_after near taking told) taking told k fits sound.state.0 sound.state.1 sound.state.2 h far
+  spends_at near state.Base told k fits sound h far = (record { at = h; apart = apart }, inl (omega arith))
+  spends_at near state.Ready told k fits sound h far = set sound.state.0 sound.state.1 sound.room told h
+  spends_at near state.Place told k fits sound h far = (record { at = h; apart = apart }, inl (omega arith))
+  spends_at near state.Link told k fits sound h far = let is = went k limits (slot_of plan) (head_of plan) (linked_number limits plan spares) told fits in rw is (decided (whether_in told) h)
+  spends_at near state.Undo told k fits sound h far = inr (omega arith)
+  spends_at near state.Clear told k fits sound h far = inr (sound.state, omega arith)
 
 module _ (old new : Change) (had has : Spares) (told : Answer Record) (end : Option End)
-    (is : next_move old.limits old.plan had old.state told ≡ record { state = new.state; spares = has; end = end }) (same : IsSameChange old new) where
+    (is : next_move old.limits old.plan had old.near old.state told ≡ record { state = new.state; spares = has; end = end }) (same : IsSameChange old new) where
   pub spends : (k : Knowledge) → Fits old.limits k (wanted_step old had) told → IsSoundChange old had → Spends old had told new has end
   spends k fits sound = λ after r h far.
-      let at_state = spends_at old.limits old.plan had after r h.apart old.state told k fits (sound_bare old had sound) h.at far in
+      let at_state = spends_at old.limits old.plan had after r h.apart old.near old.state told k fits (sound_bare old had sound) h.at far in
       spends_bare after r old had told new has end
       (rw (only_state old new had has told end is same) (rw is at at_state))

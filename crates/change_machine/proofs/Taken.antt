@@ -1,7 +1,7 @@
 -- What the answers of a taking leave known.
 use Rattle.change_machine.proofs.Words.{◌≡◌, ◌<◌, ◌≤◌, ◌∙◌, ◌*◌, ◌+◌, inl, inr, ℕ, zero, suc, subst, Bool, true, false, None, Some, refl, sym, ap, arith, ltb, is_some, not, ◌&&◌, if◌then◌else◌}
 use Rattle.change_machine.proofs.Words.{cases_eq, ltb-false, trailing_zeros, w64, Limits, Answer, replaced_at, Record, Fits, FitsWord, Knowledge, Empty, learn, Change, Follows, IsLike}
-use Rattle.change_machine.proofs.Words.{IsNeededNext, KeepsSpare, MayChange, Shows, head_of, needs_pid, Moved, after_taking, first_state, has_rows, moved_by, wanted_from, with_number}
+use Rattle.change_machine.proofs.Words.{IsNeededNext, KeepsSpare, MayChange, Shows, needs_pid, Moved, after_taking, first_state, has_rows, moved_by, wanted_from, with_number}
 use Rattle.change_machine.proofs.Words.{AreTheSpares, AreUnset, Spares, begun_at, count_of, found_after, from_of, kind_of, wanted_number, words_end, State, Plan, Install, Root, Unlink, Not}
 use Rattle.change_machine.proofs.Words.{Full, Kind, Pid, Row, Bits, Take, replaced_same, replaced_other}
 use Rattle.std.proofs.Common.{◌/◌, ◌%◌}
@@ -46,13 +46,13 @@ none_below word from = by_test (word == from) refl
     by_test false is = refl
 
 -- a taking that begins has read no word
-none_read : (limits : Limits) (k : Knowledge) (kind : Kind) (from head : ℕ) → AreFull k.asked kind from (word_read (begun_at limits kind from head))
-none_read limits k kind from head = λ below least lt. absurd (let none = none_below (first_word limits kind from head) from in omega (arith, least, lt, none))
+none_read : (limits : Limits) (k : Knowledge) (kind : Kind) (from near : ℕ) → AreFull k.asked kind from (word_read (begun_at limits kind from near))
+none_read limits k kind from near = λ below least lt. absurd (let none = none_below (first_word limits kind from near) from in omega (arith, least, lt, none))
 
 -- where all that is known stands, a change begins with the first number that is missing, or with its first place
-pub shows_first : (actor : ℕ) (limits : Limits) (k : Knowledge) (plan : Plan) (spares : Spares) → MayChange actor k plan → KeepsSpare plan spares.pid
-    → AreTheSpares k.own spares → AreUnset k.own → Shows actor (bare_at limits plan (first_state limits plan spares)) spares k
-shows_first actor limits k plan spares may keeps are bare = record
+pub shows_first : (actor : ℕ) (limits : Limits) (k : Knowledge) (plan : Plan) (spares : Spares) (near : ℕ) → MayChange actor k plan → KeepsSpare plan spares.pid
+    → AreTheSpares k.own spares → AreUnset k.own → Shows actor (bare_at limits plan (first_state limits plan spares near)) spares k
+shows_first actor limits k plan spares near may keeps are bare = record
     { may = may; keeps = keeps; are = are; stands = at_first (needs_pid plan && not (is_some spares.pid)) (has_rows limits plan spares.rows) }
   where
     at_place : (plan : Plan) → ShowsState limits plan spares k (after_taking plan)
@@ -60,13 +60,13 @@ shows_first actor limits k plan spares may keeps are bare = record
     at_place plan = bare
 
     at_first : (pid row : Bool)
-        → ShowsState limits plan spares k (if pid then state.Taking (begun_at limits Pid 0 (head_of plan)) else if row then after_taking plan else state.Taking
-        (begun_at limits Row (wanted_from limits plan spares.rows / 64) (head_of plan)))
-    at_first true row = (bare, none_read limits k Pid 0 (head_of plan))
+        → ShowsState limits plan spares k (if pid then state.Taking (begun_at limits Pid 0 near) else if row then after_taking plan else state.Taking
+        (begun_at limits Row (wanted_from limits plan spares.rows / 64) near))
+    at_first true row = (bare, none_read limits k Pid 0 near)
     at_first false true = at_place plan
-    at_first false false = (bare, none_read limits k Row (wanted_from limits plan spares.rows / 64) (head_of plan))
+    at_first false false = (bare, none_read limits k Row (wanted_from limits plan spares.rows / 64) near)
 
-module _ (actor : ℕ) (limits : Limits) (k : Knowledge) (plan : Plan) (spares : Spares) (may : MayChange actor k plan) (keeps : KeepsSpare plan spares.pid)
+module _ (actor : ℕ) (limits : Limits) (k : Knowledge) (plan : Plan) (spares : Spares) (near : ℕ) (may : MayChange actor k plan) (keeps : KeepsSpare plan spares.pid)
     (are : AreTheSpares k.own spares) (bare : AreUnset k.own) where
   abbrev pub change : State → Change
   change state = bare_at limits plan state
@@ -74,7 +74,7 @@ module _ (actor : ℕ) (limits : Limits) (k : Knowledge) (plan : Plan) (spares :
   -- what follows an answer of a taking
   abbrev pub Finds : Taking → Answer Record → Type 0
   Finds taking told =
-      let now = moved_by limits plan spares (state.Taking taking) (found_after limits taking told) in
+      let now = moved_by limits plan spares near (state.Taking taking) (found_after limits taking told) in
       Follows actor k (learn k (wanted_number taking) told) (change (state.Taking taking)) told (change now.state) now.spares now.end
 
   like_word : (kind : Kind) (from word : ℕ) (whole : Bool) (bits : ℕ) → IsLike k.asked.linked k (learn k (wanted_number (Bits kind from word whole)) (answer.Number bits))
@@ -106,7 +106,7 @@ module _ (actor : ℕ) (limits : Limits) (k : Knowledge) (plan : Plan) (spares :
 
       after : Bool → Bool → Moved
       after more all =
-          moved_by limits plan spares (state.Taking (Bits kind from word whole)) (if more then Not (Bits kind from (suc word) whole) else if all then Full kind else Not (Bits kind from from true))
+          moved_by limits plan spares near (state.Taking (Bits kind from word whole)) (if more then Not (Bits kind from (suc word) whole) else if all then Full kind else Not (Bits kind from from true))
 
       goes_on : (next : ℕ) (all : Bool) → AreFull now.asked kind from (if all then next else from)
           → Follows actor k now (change (state.Taking (Bits kind from word whole))) (answer.Number 0) (change (state.Taking (Bits kind from next all))) spares None
@@ -159,7 +159,7 @@ module _ (actor : ℕ) (limits : Limits) (k : Knowledge) (plan : Plan) (spares :
   -- a free number was taken
   pub taken_pid : (from pid : ℕ) (whole : Bool) → IsNeededNext limits plan spares Pid → FitsTakenPid limits k pid → Finds (Take Pid from pid whole) (answer.Whether true)
   taken_pid from pid whole missing fits = record {
-    shows = shows_first actor limits now plan (with_number Pid pid spares) (still_may actor k now plan like may) (keeps_none plan missing.0) (pid_taken k.own spares are pid fits.some missing.1) unset;
+    shows = shows_first actor limits now plan (with_number Pid pid spares) near (still_may actor k now plan like may) (keeps_none plan missing.0) (pid_taken k.own spares are pid fits.some missing.1) unset;
     like = like;
   }
     where
@@ -183,7 +183,7 @@ module _ (actor : ℕ) (limits : Limits) (k : Knowledge) (plan : Plan) (spares :
 
   pub taken_row : (from row : ℕ) (whole : Bool) → FitsTaken limits k row → Finds (Take Row from row whole) (answer.Whether true)
   taken_row from row whole fits = record {
-    shows = shows_first actor limits now plan (with_number Row row spares) (still_may actor k now plan like may) keeps (row_taken k.own spares are row fits.some fits.foreign) bare;
+    shows = shows_first actor limits now plan (with_number Row row spares) near (still_may actor k now plan like may) keeps (row_taken k.own spares are row fits.some fits.foreign) bare;
     like = like;
   }
     where

@@ -4,7 +4,7 @@ pub use Rattle.change_machine.specs.Changes.{AreEnough, Change, ChangeIsOver, Fo
 pub use Rattle.change_machine.specs.Changes.{StandsReady, linked_number, needed_from, split_row, wanted_at, wanted_step}
 pub use Rattle.change_machine.specs.Moves.{Moved, after_ready, after_taking, decided_by, first_state, has_rows, moved_by, next_move, spares_left, wanted_from, whether_in, with_number}
 pub use Rattle.change_machine.specs.Spares.{AreTheSpares, AreUnset, HaveRoom, IsUnlinked, Spares, last_row, pid_of}
-pub use Rattle.change_machine.specs.Taking.{begun_at, count_of, found_after, from_of, kind_of, wanted_number, words_end}
+pub use Rattle.change_machine.specs.Taking.{begun_at, count_of, found_after, from_of, kind_of, near_after, wanted_number, words_end}
 pub use Rattle.change_machine.specs.declared.change.End.{End}
 pub use Rattle.change_machine.specs.declared.change.State.{State}
 pub use Rattle.change_machine.specs.declared.taking.Found.{Found}

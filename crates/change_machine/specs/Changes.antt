@@ -28,11 +28,12 @@ use Rattle.change_machine.specs.Moves.{has_rows, lower_from, upper_from, wanted_
 use Rattle.change_machine.specs.Spares.{AreTheSpares, AreUnset, HaveRoom, Rest, Spares, last_row, pid_of, second_row}
 use Rattle.change_machine.specs.Taking.{AllFull, AreFull, IsSoundTaking, from_of, kind_of, wanted_number, word_read}
 
--- what is to be linked, how far it has come, and a record that was made to be placed
+-- what is to be linked, how far it has come, the count by which the actor's takings begin, and a record that was made to be placed
 pub record Change : Type 0 where
   pub limits : Limits
   pub plan : Plan
   pub state : State
+  pub near : ℕ
   pub made : Record
 
 -- the plan that a change links: an update's, or the other one

@@ -16,10 +16,10 @@ use Rattle.change_machine.specs.declared.taking.Found.{Found}
 use Rattle.change_machine.specs.declared.taking.Found.TheVariants.{Not, Taken, Full}
 use Rattle.change_machine.specs.declared.taking.Kind.{Kind}
 use Rattle.change_machine.specs.declared.taking.Kind.TheVariants.{Pid, Row}
-use Rattle.structure_changes.specs.Plans.{clears, head_of, needs_pid, new_base, rows_needed}
+use Rattle.structure_changes.specs.Plans.{clears, needs_pid, new_base, rows_needed}
 use Rattle.structure_changes.specs.Splits.{split_to}
 use Rattle.change_machine.specs.Spares.{Spares, last_of, second_of}
-use Rattle.change_machine.specs.Taking.{begun_at, found_after}
+use Rattle.change_machine.specs.Taking.{begun_at, found_after, near_after}
 
 -- where a change stands, with these spares, and how it ended, if it has
 pub record Moved : Type 0 where
@@ -62,10 +62,10 @@ abbrev pub wanted_from : Limits → Plan → List ℕ → ℕ
 wanted_from limits plan rows = if lacks_lower limits plan rows then lower_from limits plan else upper_from limits plan
 
 -- First a PID is taken, if one is missing, then rows.
-abbrev pub first_state : Limits → Plan → Spares → State
-first_state limits plan spares =
-    if needs_pid plan && not (is_some spares.pid) then Taking (begun_at limits Pid 0 (head_of plan)) else if has_rows limits plan spares.rows then after_taking plan else
-    Taking (begun_at limits Row (wanted_from limits plan spares.rows / 64) (head_of plan))
+abbrev pub first_state : Limits → Plan → Spares → ℕ → State
+first_state limits plan spares near =
+    if needs_pid plan && not (is_some spares.pid) then Taking (begun_at limits Pid 0 near) else if has_rows limits plan spares.rows then after_taking plan else
+    Taking (begun_at limits Row (wanted_from limits plan spares.rows / 64) near)
 
 -- A number that was taken is the last spare of its kind.
 abbrev pub with_number : Kind → ℕ → Spares → Spares
@@ -77,10 +77,11 @@ abbrev pub spares_left : Plan → Spares → Spares
 spares_left plan spares = record { pid = if needs_pid plan then None else spares.pid; rows = take (length spares.rows - rows_needed plan) spares.rows }
 
 -- after a taking
-abbrev pub moved_by : Limits → Plan → Spares → State → Found → Moved
-moved_by limits plan spares state (Not taking) = record { state = Taking taking; spares = spares; end = None }
-moved_by limits plan spares state (Taken kind number) = record { state = first_state limits plan (with_number kind number spares); spares = with_number kind number spares; end = None }
-moved_by limits plan spares state (Full kind) = record { state = state; spares = spares; end = Some (end.Full kind) }
+abbrev pub moved_by : Limits → Plan → Spares → ℕ → State → Found → Moved
+moved_by limits plan spares near state (Not taking) = record { state = Taking taking; spares = spares; end = None }
+moved_by limits plan spares near state (Taken kind number) =
+    record { state = first_state limits plan (with_number kind number spares) near; spares = with_number kind number spares; end = None }
+moved_by limits plan spares near state (Full kind) = record { state = state; spares = spares; end = Some (end.Full kind) }
 
 -- after the exchange that decides: a page whose term is out is cleared; a new page that is not linked is emptied again
 abbrev pub decided_by : Plan → Spares → Bool → Moved
@@ -92,11 +93,11 @@ abbrev pub whether_in : Answer Record → Bool
 whether_in (Whether whether) = whether
 whether_in told = false
 
-abbrev pub next_move : Limits → Plan → Spares → State → Answer Record → Moved
-next_move limits plan spares (Taking taking) told = moved_by limits plan spares (Taking taking) (found_after limits taking told)
-next_move limits plan spares Base told = record { state = Ready; spares = spares; end = None }
-next_move limits plan spares Ready told = record { state = after_ready plan; spares = spares; end = None }
-next_move limits plan spares Place told = record { state = Link; spares = spares; end = None }
-next_move limits plan spares Link told = decided_by plan spares (whether_in told)
-next_move limits plan spares Undo told = record { state = Undo; spares = spares; end = Some end.Lost }
-next_move limits plan spares Clear told = record { state = Clear; spares = spares; end = Some end.Won }
+abbrev pub next_move : Limits → Plan → Spares → ℕ → State → Answer Record → Moved
+next_move limits plan spares near (Taking taking) told = moved_by limits plan spares (near_after near taking told) (Taking taking) (found_after limits taking told)
+next_move limits plan spares near Base told = record { state = Ready; spares = spares; end = None }
+next_move limits plan spares near Ready told = record { state = after_ready plan; spares = spares; end = None }
+next_move limits plan spares near Place told = record { state = Link; spares = spares; end = None }
+next_move limits plan spares near Link told = decided_by plan spares (whether_in told)
+next_move limits plan spares near Undo told = record { state = Undo; spares = spares; end = Some end.Lost }
+next_move limits plan spares near Clear told = record { state = Clear; spares = spares; end = Some end.Won }

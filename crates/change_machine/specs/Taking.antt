@@ -41,13 +41,13 @@ words_until limits Pid from = limits.pids / 64
 words_until limits Row from =
     if ltb from (limits.narrow_rows / 64) then limits.narrow_rows / 64 else if ltb from (limits.wide_from / 64) then limits.wide_from / 64 else limits.rows / 64
 
--- Where a taking begins: at word `from`, and in a large tree at a word scattered by `head`, the number that the change's exchange expects: the newest
--- row of the page or, for a new root, the PID in slot 0. One that began at another word continues at word `from` after the last one.
+-- Where a taking begins: at word `from`, and in a large tree as many words behind it as `near` says, the count of the actor, which begins at word
+-- `from` again behind the last one. One that began at another word continues at word `from` after the last one.
 abbrev pub first_word : Limits → Kind → ℕ → ℕ → ℕ
-first_word limits kind from head = from + (if limits.is_large then head * 2654435761 % (words_until limits kind from - from) else 0)
+first_word limits kind from near = from + (if limits.is_large then near % (words_until limits kind from - from) else 0)
 
 abbrev pub begun_at : Limits → Kind → ℕ → ℕ → Taking
-begun_at limits kind from head = Bits kind from (first_word limits kind from head) (first_word limits kind from head == from)
+begun_at limits kind from near = Bits kind from (first_word limits kind from near) (first_word limits kind from near == from)
 
 -- the step that a taking has asked for: it reads a word of free bits, or takes a number
 abbrev pub wanted_number : Taking → StepOf Record
@@ -113,6 +113,13 @@ found_after limits (Bits kind from word whole) (Number (suc bits)) = Not (Take k
 found_after limits (Take kind from number whole) (Whether true) = Taken kind number
 found_after limits (Take kind from number whole) (Whether false) = Not (Bits kind from (number / 64) whole)
 found_after limits taking told = Full (kind_of taking)
+
+-- How the actor's count goes on, by which its next takings begin where it took last: by 1 with a word that was read as 0, and far away with a take
+-- that missed, since another actor takes there.
+abbrev pub near_after : ℕ → Taking → Answer Record → ℕ
+near_after near (Bits kind from word whole) (Number zero) = (near + 1) % 4294967296
+near_after near (Take kind from number whole) (Whether false) = (near + 2654435761) % 4294967296
+near_after near taking told = near
 
 -- The number, or the word, is there, and is none below word `from`.
 abbrev pub IsSoundFound : Limits → ℕ → Found → Type 0

@@ -17,12 +17,12 @@ ghost use Rattle.structure_changes.specs.Plans.{head_of, slot_of};
 ghost use Rattle.change_machine.specs.Moves.{after_ready, decided_by, first_state, next_move, moved_by};
 ghost use Rattle.change_machine.specs.Outs.{TakesFresh, limbo_after};
 ghost use Rattle.change_machine.specs.Spares.{HaveRoom, Rest};
-ghost use Rattle.change_machine.specs.Taking.{found_after};
+ghost use Rattle.change_machine.specs.Taking.{found_after, near_after};
 ghost use Rattle.traces.specs.trace.Within.{IsWithin};
 
 use crate::Spares;
 use crate::needs::{has_rows, wanted_from};
-use crate::taking::{Found, Kind, Taking, went};
+use crate::taking::{Found, Kind, Taking, near_after, went};
 use bw_model::{Limits, Step, Told};
 use deltas::{Record, Remove};
 use std::alloc::{AllocError, Allocator, Global};
@@ -61,7 +61,8 @@ pub(crate) enum State {
 }
 
 /// A change that is under way. What it takes and places is among the spares of its actor until it is linked. `made` is the record to be
-/// placed, if the plan doesn't contain it as it is: it is made once, when the new page's PID is known.
+/// placed, if the plan doesn't contain it as it is: it is made once, when the new page's PID is known. `near` is the count by which takings begin where
+/// the actor took last: it stays from one change to the next.
 #[derive(Drop)]
 pub struct Change<A: Allocator = Global> {
     limits: Limits,
@@ -69,6 +70,7 @@ pub struct Change<A: Allocator = Global> {
     update: Plan,
     due: Box<Plan, A>,
     state: State,
+    near: u32,
     made: Record,
 }
 
@@ -77,7 +79,7 @@ impl<A: Allocator> Model for Change<A> {
 
     ghost Value = { Change };
 
-    ghost view = { λ c. record { limits = c.limits; plan = plan_of c.is_update c.update c.due.value; state = c.state; made = c.made } };
+    ghost view = { λ c. record { limits = c.limits; plan = plan_of c.is_update c.update c.due.value; state = c.state; near = c.near; made = c.made } };
 
     ghost invariant = { λ c. IsTarget c.limits (plan_of c.is_update c.update c.due.value) × IsSpellablePlan (plan_of c.is_update c.update c.due.value) };
 }
@@ -96,6 +98,7 @@ impl<A: Allocator> Change<A> {
             },
             due: Box::new(alloc, Plan::default())?,
             state: State::Link,
+            near: 0,
             made: Record::Remove(Remove { level: 0, next: 0 }),
         })
     }
@@ -109,7 +112,7 @@ impl<A: Allocator> Change<A> {
         ensures { HasBegun limits.now plan.old.value spares.now self.new }
     {
         self.limits = *limits;
-        self.state = first_state(limits, plan, spares);
+        self.state = first_state(limits, plan, spares, self.near);
         self.is_update = false;
         mem::swap(&mut self.due, plan);
         self.make(spares);
@@ -132,7 +135,7 @@ impl<A: Allocator> Change<A> {
         self.limits = *limits;
         self.is_update = true;
         self.update.update(pid, head, update);
-        self.state = first_state(limits, &self.update, spares);
+        self.state = first_state(limits, &self.update, spares, self.near);
         self.make(spares);
     }
 
@@ -218,7 +221,8 @@ impl<A: Allocator> Change<A> {
     fn move_on(&mut self, spares: &mut Spares, told: Told) -> Option<End>
         requires sound { IsSoundChange self.old spares.old }
         requires told { FitsChange self.old spares.old (answer_of told) }
-        ensures moved { next_move self.old.limits self.old.plan spares.old self.old.state (answer_of told) ≡ record { state = self.new.state; spares = spares.new; end = result } }
+        ensures moved { next_move self.old.limits self.old.plan spares.old self.old.near self.old.state (answer_of told) ≡
+            record { state = self.new.state; spares = spares.new; end = result } }
         ensures same { IsSameChange self.old self.new }
         ensures made { IsMade self.new spares.new }
     {
@@ -255,7 +259,8 @@ impl<A: Allocator> Change<A> {
     fn follow(&mut self, spares: &mut Spares, told: Told) -> Option<End>
         requires sound { IsSoundChange self.old spares.old }
         requires told { FitsChange self.old spares.old (answer_of told) }
-        ensures moved { next_move self.old.limits self.old.plan spares.old self.old.state (answer_of told) ≡ record { state = self.new.state; spares = spares.new; end = result } }
+        ensures moved { next_move self.old.limits self.old.plan spares.old self.old.near self.old.state (answer_of told) ≡
+            record { state = self.new.state; spares = spares.new; end = result } }
         ensures same { IsSameChange self.old self.new }
     {
         match self.state {
@@ -277,15 +282,17 @@ impl<A: Allocator> Change<A> {
         requires state { self.old.state ≡ State.Taking taking }
         requires sound { IsSoundChange self.old spares.old }
         requires told { FitsChange self.old spares.old (answer_of told) }
-        ensures moved { moved_by self.old.limits self.old.plan spares.old self.old.state (found_after self.old.limits taking (answer_of told)) ≡
+        ensures near { self.new.near ≡ near_after self.old.near taking (answer_of told) }
+        ensures moved { moved_by self.old.limits self.old.plan spares.old self.new.near self.old.state (found_after self.old.limits taking (answer_of told)) ≡
             record { state = self.new.state; spares = spares.new; end = result } }
         ensures same { IsSameChange self.old self.new }
     {
+        self.near = near_after(self.near, taking, told);
         match taking.next(&self.limits, told) {
             Found::Not(taking) => self.go(State::Taking(taking)),
             Found::Taken { kind, number } => {
                 spares.keep(kind, number);
-                let state = first_state(&self.limits, self.plan(), spares);
+                let state = first_state(&self.limits, self.plan(), spares, self.near);
                 self.go(state)
             }
             Found::Full(kind) => Some(End::Full(kind)),
@@ -404,16 +411,16 @@ fn after_ready(plan: &Plan) -> State
     }
 }
 
-/// Where a change goes on with these spares.
-fn first_state(limits: &Limits, plan: &Plan, spares: &Spares) -> State
-    ensures { result ≡ first_state limits.now plan.now spares.now }
+/// Where a change goes on with these spares, and takings by this count.
+fn first_state(limits: &Limits, plan: &Plan, spares: &Spares, near: u32) -> State
+    ensures { result ≡ first_state limits.now plan.now spares.now near }
 {
     if plan.needs_pid() && spares.pid().is_none() {
-        return State::Taking(Taking::begin(limits, Kind::Pid, 0, plan.head()));
+        return State::Taking(Taking::begin(limits, Kind::Pid, 0, near));
     }
     if !has_rows(limits, plan, spares) {
         let from = wanted_from(limits, plan, spares) / 64;
-        return State::Taking(Taking::begin(limits, Kind::Row, from as u32, plan.head()));
+        return State::Taking(Taking::begin(limits, Kind::Row, from as u32, near));
     }
     match plan {
         Plan::Install { .. } | Plan::Unlink { .. } => State::Place,

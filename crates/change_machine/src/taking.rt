@@ -5,13 +5,13 @@ ghost use Rattle.bw_model.specs.Answers.{answer_of};
 ghost use Rattle.bw_model.specs.Lent.{step_of_loan};
 ghost use Rattle.bw_model.specs.declared.step.Answer.TheVariants.{Number};
 ghost use Rattle.traces.specs.discipline.Fitting.{FitsWord};
-ghost use Rattle.change_machine.specs.Taking.{FitsTaking, IsSoundFound, IsSoundTaking, TellsWhether, begun_at, count_of, first_word, found_after, from_of, wanted_number, words_end, words_until};
+ghost use Rattle.change_machine.specs.Taking.{FitsTaking, IsSoundFound, IsSoundTaking, TellsWhether, begun_at, count_of, first_word, found_after, from_of, near_after, wanted_number, words_end, words_until};
 
 use bw_model::{Limits, Step, Told};
 use deltas::Record;
 
-/// An odd number, whose products are spread over all words.
-const SCATTER: u64 = 2654435761;
+/// How far a count goes on with a take that missed: an odd number, so that takings that met go on far from one another.
+const FAR: u32 = 2654435761;
 
 /// A kind of number that a change takes.
 #[derive(Clone, Copy, Debug, PartialEq, Eq)]
@@ -64,12 +64,12 @@ impl Kind {
 }
 
 impl Taking {
-    /// Where the taking of a number from word `from` on begins, for a change whose exchange expects `head` in its slot.
-    pub(crate) fn begin(limits: &Limits, kind: Kind, from: u32, head: u32) -> Taking
+    /// Where the taking of a number from word `from` on begins, by the actor's count.
+    pub(crate) fn begin(limits: &Limits, kind: Kind, from: u32, near: u32) -> Taking
         requires there { 64 * from < count_of limits.now kind }
-        ensures { result ≡ begun_at limits.now kind from head }
+        ensures { result ≡ begun_at limits.now kind from near }
     {
-        let word = first_word(limits, kind, from, head);
+        let word = first_word(limits, kind, from, near);
         Taking::Bits {
             kind,
             from,
@@ -129,15 +129,15 @@ impl Taking {
 }
 
 /// The word at which the taking of a number from word `from` on begins.
-fn first_word(limits: &Limits, kind: Kind, from: u32, head: u32) -> u32
+fn first_word(limits: &Limits, kind: Kind, from: u32, near: u32) -> u32
     requires there { 64 * from < count_of limits.now kind }
-    ensures { result ≡ first_word limits.now kind from head }
+    ensures { result ≡ first_word limits.now kind from near }
 {
     if !limits.is_large {
         return from;
     }
     let words = words_until(limits, kind, from) - u64::from(from);
-    from + (u64::from(head) * SCATTER % words) as u32
+    from + (u64::from(near) % words) as u32
 }
 
 /// Where the words end among which the taking of a number from word `from` on begins.
@@ -205,6 +205,22 @@ fn choose(limits: &Limits, kind: Kind, from: u32, word: u32, whole: bool, bits: 
         word: from,
         whole: true,
     })
+}
+
+/// How an actor's count goes on with what a taking was told: a word that was read as 0 is behind it, and where a take missed another actor takes.
+pub(crate) fn near_after(near: u32, taking: Taking, told: Told) -> u32
+    ensures { result ≡ near_after near taking (answer_of told) }
+{
+    match taking {
+        Taking::Bits { .. } => match told {
+            Told::Number(0) => near.wrapping_add(1),
+            _ => near,
+        },
+        Taking::Take { .. } => match told {
+            Told::Whether(false) => near.wrapping_add(FAR),
+            _ => near,
+        },
+    }
 }
 
 /// Whether a step went.

@@ -37,22 +37,24 @@ pub(crate) type Case = (
 
 /// The steps of a change: `rows 0` reads a word of free rows, `row 3` takes a row, `3=7` places a record in row 3 over row 7, and
 /// `1:7>3` exchanges row 7 in slot 1 for row 3.
-type Log = ArrayString<256>;
+pub(crate) type Log = ArrayString<256>;
 
-/// Which two numbers may be free: 3 and 5, or the last two.
-#[derive(Clone, Copy)]
+/// Which two numbers may be free: 3 and 5, or the last two, or the fourth and the sixth of each word, again once a word was read as 0.
+#[derive(Clone, Copy, PartialEq, Eq)]
 pub(crate) enum Free {
     First,
     Last,
+    Each,
 }
 
-/// How many PIDs and rows are free, and which ones; and whether the exchange that decides wins.
+/// How many PIDs and rows are free, and which ones; how many takes of rows miss; and whether the exchange that decides wins.
 #[derive(Clone, Copy)]
-struct World {
-    free: Free,
-    pids: u8,
-    rows: u8,
-    won: bool,
+pub(crate) struct World {
+    pub(crate) free: Free,
+    pub(crate) pids: u8,
+    pub(crate) rows: u8,
+    pub(crate) misses: u8,
+    pub(crate) won: bool,
 }
 
 /// A word of free bits: of the numbers 3 and 5 none is free, or 5 alone, or both.
@@ -78,17 +80,57 @@ fn last_word(limit: u64, at: u32, free: u8) -> u64
     if free == 1 { 1 << 63 } else { 3 << 62 }
 }
 
+/// A word of free bits: of its fourth number and its sixth none is free, or the sixth, or both.
+fn each_word(limit: u64, at: u32, free: u8) -> u64
+    requires whole { limit % 64 ≡ 0 }
+    requires there { 64 * at < limit }
+    ensures { FitsWord limit at result }
+{
+    let _ = (limit, at);
+    match free {
+        0 => 0,
+        1 => 32,
+        _ => 40,
+    }
+}
+
 impl Free {
     /// A word of free bits, of so many numbers.
     fn word(self, limit: u64, at: u32, free: u8) -> u64
         requires some { 64 ≤ limit }
         requires whole { limit % 64 ≡ 0 }
+        requires there { 64 * at < limit }
         ensures { FitsWord limit at result }
     {
         match self {
             Free::First => first_word(limit, at, free),
             Free::Last => last_word(limit, at, free),
+            Free::Each => each_word(limit, at, free),
         }
+    }
+}
+
+impl World {
+    /// A word of free rows. Where each word has some, the next one is full of them.
+    fn row_bits(&mut self, limits: &Limits, at: u32) -> u64
+        requires there { 64 * at < limits.now.rows }
+        ensures { FitsWord limits.now.rows at result }
+    {
+        let rows = self.rows;
+        if self.free == Free::Each && rows == 0 {
+            self.rows = 2;
+        }
+        self.free.word(limits.rows, at, rows)
+    }
+
+    /// Takes a row, if no take misses still.
+    fn take_row(&mut self, row: u32) -> bool {
+        if self.misses > 0 {
+            self.misses -= 1;
+            return false;
+        }
+        self.rows = self.rows.saturating_sub(1);
+        row != 0
     }
 }
 
@@ -100,15 +142,12 @@ fn told(world: &mut World, limits: &Limits, step: &Step<&Record>) -> Told
 {
     match step {
         Step::PidBits(at) => Told::Number(world.free.word(limits.pids, *at, world.pids)),
-        Step::RowBits(at) => Told::Number(world.free.word(limits.rows, *at, world.rows)),
+        Step::RowBits(at) => Told::Number(world.row_bits(limits, *at)),
         Step::TakePid(pid) => {
             world.pids = world.pids.saturating_sub(1);
             Told::Whether(*pid != 0)
         }
-        Step::TakeRow(row) => {
-            world.rows = world.rows.saturating_sub(1);
-            Told::Whether(*row != 0)
-        }
+        Step::TakeRow(row) => Told::Whether(world.take_row(*row)),
         Step::Place(_, _) => Told::Done,
         Step::Exchange(_, old, new) => Told::Whether(*old == 0 || *new == 0 || world.won),
         _ => unreachable!(),
@@ -140,29 +179,28 @@ fn show(log: &mut Log, step: &Step<&Record>) {
     }
 }
 
-/// The steps of a change, and how it ended; none where there is no memory.
-fn drive(
+/// The steps of a change that takes the place of the last one, and how it ended; none where there is no memory.
+pub(crate) fn drive(
     alloc: Global,
     limits: &Limits,
+    change: &mut Change,
     spares: &mut Spares,
     plan: Plan,
-    world: World,
+    world: &mut World,
 ) -> Option<(Log, Option<End>)>
     requires target { IsTarget limits.now plan }
     requires spells { IsSpellablePlan plan }
     requires room { HaveRoom limits.now spares.old }
     ensures room { HaveRoom limits.now spares.new }
 {
-    let mut world = world;
     let mut log = ArrayString::new();
-    let mut change = Change::new(alloc, limits).ok()?;
     let mut plan = Box::new(alloc, plan).ok()?;
     change.begin(limits, spares, &mut plan);
     let mut end = None;
     for _ in 0..16 {
         let step = change.wanted(spares);
         show(&mut log, &step);
-        let answer = told(&mut world, limits, &step);
+        let answer = told(world, limits, &step);
         end = change.next(spares, answer);
         if end.is_some() {
             break;
@@ -184,7 +222,7 @@ fn key_k() -> Key
 }
 
 /// What is planned at slot 1, over a row.
-fn plan_of(limits: &Limits, plan: Planned, head: u32) -> Plan
+pub(crate) fn plan_of(limits: &Limits, plan: Planned, head: u32) -> Plan
     requires some { 0 < head }
     requires there { head < limits.now.rows }
     ensures target { IsTarget limits.now result }
@@ -240,13 +278,18 @@ pub(crate) fn goes(
     ensures room { HaveRoom limits.now spares.new }
 {
     let (plan, (pids, rows, won), steps, (said, pid, left)) = *case;
-    let world = World {
+    let mut world = World {
         free,
         pids,
         rows,
+        misses: 0,
         won,
     };
-    let Some((log, end)) = drive(alloc, limits, spares, plan_of(limits, plan, head), world) else {
+    let Ok(mut change) = Change::new(alloc, limits) else {
+        return false;
+    };
+    let plan = plan_of(limits, plan, head);
+    let Some((log, end)) = drive(alloc, limits, &mut change, spares, plan, &mut world) else {
         return false;
     };
     let goes = (log.as_str().trim_start() == steps) & (end == Some(said));

@@ -1,4 +1,4 @@
-//! Changes of large trees step by step: where a taking begins, and which rows are wide enough.
+//! Changes of large trees step by step: which words a taking reads, and which rows are wide enough.
 
 use crate::changes::{Case, Free, Planned, goes};
 use bw_model::{Limits, Widths};
@@ -22,11 +22,9 @@ fn goes_in_large(
     goes(alloc, &limits, &mut Spares::new(), head, free, case)
 }
 
-/// PIDs and rows of a large tree, the newest row of page 1, which numbers may be free, and the change.
-///
-/// Of row 7 the product with 2,654,435,761 is 3 beyond a multiple of 4, and so is that of row 315,567 the last one before a multiple of 2^20.
+/// PIDs and rows of a large tree, the newest row of page 1, which numbers may be free, and an actor's first change.
 const IN_LARGE: [((u64, u64), u32, Free, Case); 4] = [
-    // Takes a row of word 0, once the words from the third on have none.
+    // Takes a row of word 0.
     (
         (64, 256),
         7,
@@ -34,11 +32,11 @@ const IN_LARGE: [((u64, u64), u32, Free, Case); 4] = [
         (
             Planned::Install,
             (0, 2, true),
-            "rows 3 rows 0 row 3 3=7 1:7>3",
+            "rows 0 row 3 3=7 1:7>3",
             (End::Won, None, &[]),
         ),
     ),
-    // Is full once each word from word 0 on has none.
+    // Is full once each word has none.
     (
         (64, 256),
         7,
@@ -46,11 +44,11 @@ const IN_LARGE: [((u64, u64), u32, Free, Case); 4] = [
         (
             Planned::Install,
             (0, 0, true),
-            "rows 3 rows 0 rows 1 rows 2 rows 3",
+            "rows 0 rows 1 rows 2 rows 3",
             (End::Full(Kind::Row), None, &[]),
         ),
     ),
-    // Takes a row of the word at which it begins.
+    // Takes a row of the last word.
     (
         (64, 256),
         7,
@@ -58,26 +56,26 @@ const IN_LARGE: [((u64, u64), u32, Free, Case); 4] = [
         (
             Planned::Install,
             (0, 2, true),
-            "rows 3 row 254 254=7 1:7>254",
+            "rows 0 rows 1 rows 2 rows 3 row 254 254=7 1:7>254",
             (End::Won, None, &[]),
         ),
     ),
-    // Takes the last PID and the last row of the greatest limits.
+    // Takes a PID and rows of the greatest limits, over a row with a large number.
     (
         (4_194_304, 67_108_864),
-        315_567,
-        Free::Last,
+        67_108_863,
+        Free::First,
         (
             Planned::Split,
-            (1, 2, true),
-            "pids 65535 pid 4194303 rows 1048575 row 67108862 rows 1048575 row 67108863 67108863=0 4194303:0>67108863 67108862=315567 1:315567>67108862",
+            (2, 2, true),
+            "pids 0 pid 3 rows 0 row 3 rows 0 row 5 5=0 3:0>5 3=67108863 1:67108863>3",
             (End::Won, None, &[]),
         ),
     ),
 ];
 
 #[test]
-fn takes_scattered_numbers_in_a_large_tree(rt: HostRuntime) {
+fn takes_numbers_in_a_large_tree(rt: HostRuntime) {
     for (size, head, free, case) in &IN_LARGE {
         assert!(rt;
             goes_in_large(rt.alloc(), *size, *head, *free, case),
@@ -103,7 +101,7 @@ fn goes_by_width(alloc: Global, free: Free, case: &Case) -> bool {
     goes(alloc, &limits, &mut Spares::new(), 7, free, case)
 }
 
-/// Which numbers may be free, and the change. The products of 1 and of 7 with 2,654,435,761 are odd, so the second word of PIDs is read first.
+/// Which numbers may be free, and an actor's first change.
 const BY_WIDTH: [(Free, Case); 5] = [
     // A record with one key is placed in a narrow row.
     (
@@ -131,7 +129,7 @@ const BY_WIDTH: [(Free, Case); 5] = [
         (
             Planned::Root,
             (1, 2, true),
-            "pids 1 pids 0 pid 5 rows 1 rows 2",
+            "pids 0 pid 5 rows 1 rows 2",
             (End::Full(Kind::Row), Some(5), &[]),
         ),
     ),
@@ -141,7 +139,7 @@ const BY_WIDTH: [(Free, Case); 5] = [
         (
             Planned::Root,
             (1, 1, true),
-            "pids 1 pid 127 rows 1 rows 2 row 191 191=0 127:0>191 0:1>127",
+            "pids 0 pids 1 pid 127 rows 1 rows 2 row 191 191=0 127:0>191 0:1>127",
             (End::Won, None, &[]),
         ),
     ),
@@ -151,7 +149,7 @@ const BY_WIDTH: [(Free, Case); 5] = [
         (
             Planned::Split,
             (1, 2, true),
-            "pids 1 pid 127 rows 0 rows 1 rows 2 row 190 rows 1 rows 2 row 191 191=0 127:0>191 190=7 1:7>190",
+            "pids 0 pids 1 pid 127 rows 0 rows 1 rows 2 row 190 rows 1 rows 2 row 191 191=0 127:0>191 190=7 1:7>190",
             (End::Won, None, &[]),
         ),
     ),

@@ -25,6 +25,8 @@ mod limbo_memory;
 #[cfg(test)]
 mod long_limbo;
 #[cfg(test)]
+mod near_takings;
+#[cfg(test)]
 mod plans;
 #[cfg(test)]
 mod random_rows;

@@ -43,4 +43,4 @@ returns-clause-pid g c =
 
 pub returns-clause-decides : goal.returns-clause-decides
 returns-clause-decides g c =
-    rw c.move_on.ensures.moved at (turns c.args.self.now.limits c.args.self.now.plan c.args.spares.now c.args.self.now.state (answer_of c.args.told))
+    rw c.move_on.ensures.moved at (turns c.args.self.now.limits c.args.self.now.plan c.args.spares.now c.args.self.now.near c.args.self.now.state (answer_of c.args.told))
