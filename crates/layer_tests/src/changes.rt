@@ -1,5 +1,5 @@
 //! Changes step by step, over a memory in which a few numbers are free.
-ghost use Rattle.std.specs.Prelude.{◌≡◌, ◌<◌, ◌≤◌, ◌%◌, ◌∷◌, []};
+ghost use Rattle.std.specs.Prelude.{◌≡◌, ◌<◌, ◌≤◌, ◌*◌, ◌%◌, ◌∷◌, []};
 ghost use Rattle.bw_model.specs.Answers.{answer_of};
 ghost use Rattle.bw_model.specs.Lent.{step_of_loan};
 ghost use Rattle.traces.specs.discipline.Fitting.{Fits, FitsWord};
@@ -123,14 +123,14 @@ impl World {
         self.free.word(limits.rows, at, rows)
     }
 
-    /// Takes a row, if no take misses still.
-    fn take_row(&mut self, row: u32) -> bool {
+    /// Whether a row is taken: no take misses still.
+    fn take_row(&mut self) -> bool {
         if self.misses > 0 {
             self.misses -= 1;
             return false;
         }
         self.rows = self.rows.saturating_sub(1);
-        row != 0
+        true
     }
 }
 
@@ -147,7 +147,8 @@ fn told(world: &mut World, limits: &Limits, step: &Step<&Record>) -> Told
             world.pids = world.pids.saturating_sub(1);
             Told::Whether(*pid != 0)
         }
-        Step::TakeRow(row) => Told::Whether(world.take_row(*row)),
+        Step::TakeRow(row) if *row != 0 && world.take_row() => Told::Whether(true),
+        Step::TakeRow(_) => Told::Whether(false),
         Step::Place(_, _) => Told::Done,
         Step::Exchange(_, old, new) => Told::Whether(*old == 0 || *new == 0 || world.won),
         _ => unreachable!(),
