@@ -1,8 +1,8 @@
 #!/bin/sh
 # The tree by its C library beside other maps in memory, each that is installed: bench/peers.sh [KEYS [MILLISECONDS [ROUNDS]]]. All do the same work in
 # turn: lookups of drawn keys of 16 bytes (20,000), half lookups and half upserts of 8 bytes, and scans of 100 pairs, by 1, 2 and 4 threads, for so many
-# milliseconds (500) in each of so many rounds (3). The tree is there as a large one and, with up to 20,000 keys, as a small one, too. Figures are medians of the rounds;
-# a ratio is to the large tree in the same round. Where PEERS_CSV names a file, the medians are written there, too, and bench/plot.py draws them.
+# milliseconds (500) in each of so many rounds (5). The tree is there as a large one for such pairs and, with up to 20,000 keys, as a small one, too. TBB is
+# there with keys of 16 bytes in place and with strings. Figures are medians of the rounds; a ratio is to the large tree in the same round. Where PEERS_CSV names a file, the medians are written there, too, and bench/plot.py draws them.
 # The others: std::map under a shared_mutex, TBB (libtbb-dev), LMDB (liblmdb-dev), RocksDB (librocksdb-dev), JDK's ConcurrentSkipListMap (javac, java).
 set -eu
 top=$(CDPATH='' cd -- "$(dirname -- "$0")/.." && pwd)
@@ -31,8 +31,8 @@ with ROCKSDB rocksdb/db.h rocksdb librocksdb-dev
 "$compiler" -std=c++17 -O2 -Wall -Wextra $flags "-I$top/c/out" -o "$folder/peers" "$top/bench/peers/peers.cpp" "$top/c/out/libbwtree.a" $libraries -lpthread
 if command -v javac >/dev/null && command -v java >/dev/null; then
     javac -d "$folder/classes" "$top/bench/peers/SkipList.java"
-    "$folder/peers" "${1:-20000}" "${2:-500}" "${3:-3}" "$folder/classes"
+    "$folder/peers" "${1:-20000}" "${2:-500}" "${3:-5}" "$folder/classes"
 else
     echo "JDK's ConcurrentSkipListMap is left out: there is no javac"
-    "$folder/peers" "${1:-20000}" "${2:-500}" "${3:-3}"
+    "$folder/peers" "${1:-20000}" "${2:-500}" "${3:-5}"
 fi

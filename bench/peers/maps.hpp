@@ -4,7 +4,7 @@
 
 #include "bwtree.h"
 #include "peer.hpp"
-#include <cstring>
+#include <functional>
 #include <map>
 #include <memory>
 #include <mutex>
@@ -27,7 +27,7 @@ struct Tree : Peer {
     bool is_large;
     Tree(uint64_t keys, bool is_large) : is_large(is_large) {
         bwtree_limits limits = {4, 4096, 16384, 1, 0, 0, 0, 0, 0};
-        if (is_large) must(bwtree_limits_for_many_keys(4, keys, &limits) == BWTREE_OK, "no limits for so many keys");
+        if (is_large) must(bwtree_limits_for_pairs(4, keys, Key::size(), 8, &limits) == BWTREE_OK, "no limits for so many keys");
         must(bwtree_open(&limits, &tree) == BWTREE_OK, "the tree isn't opened");
     }
     ~Tree() override { bwtree_close(&tree); }
@@ -73,23 +73,32 @@ struct StdMap : Peer {
         std::shared_lock held(lock);
         int met = 0;
         uint64_t sum = 0;
-        for (auto it = map.lower_bound(from); it != map.end() && met < most; ++it, met++) sum += uint64_t(it->second[0] + it->first[0]);
+        for (auto it = map.lower_bound(from); it != map.end() && met < most; ++it, met++) sum += uint64_t(it->second[0] + it->first.bytes[0]);
         use(sum);
         return met;
     }
 };
 
 #ifdef HAS_TBB
-// Its values are atomics in place, since it has no upsert.
-struct Tbb : Peer {
-    tbb::concurrent_map<Key, std::atomic<uint64_t>> map;
-    const char *name() const override { return "TBB concurrent_map"; }
-    void put(int, const Key &key, uint64_t value) override { map[key].store(value); }
-    bool get(int, const Key &key) override { return map.find(key) != map.end(); }
+// Its values are atomics in place, since it has no upsert. Its keys are of 16 bytes in place, or strings, which are looked up without a copy.
+template <class Name> struct Tbb : Peer {
+    static constexpr bool is_fixed = std::is_same_v<Name, Key>;
+    tbb::concurrent_map<Name, std::atomic<uint64_t>, std::less<>> map;
+    const char *name() const override { return is_fixed ? "TBB concurrent_map, keys of 16 bytes in place" : "TBB concurrent_map, std::string"; }
+    static auto sought(const Key &key) {
+        if constexpr (is_fixed) return key;
+        else return key.view();
+    }
+    void put(int, const Key &key, uint64_t value) override {
+        auto found = map.find(sought(key));
+        if (found == map.end()) map[Name(sought(key))].store(value);
+        else found->second.store(value);
+    }
+    bool get(int, const Key &key) override { return map.find(sought(key)) != map.end(); }
     int scan(int, const Key &from, int most) override {
         int met = 0;
         uint64_t sum = 0;
-        for (auto it = map.lower_bound(from); it != map.end() && met < most; ++it, met++) sum += it->second.load() + uint64_t(it->first[0]);
+        for (auto it = map.lower_bound(sought(from)); it != map.end() && met < most; ++it, met++) sum += it->second.load() + uint64_t(it->first.data()[0]);
         use(sum);
         return met;
     }
@@ -162,17 +171,17 @@ struct Rocks : Peer {
     ~Rocks() override { delete map; }
     const char *name() const override { return "RocksDB, no log"; }
     void put(int, const Key &key, uint64_t value) override {
-        must(map->Put(writing, key, rocksdb::Slice(reinterpret_cast<char *>(&value), 8)).ok(), "RocksDB puts nothing");
+        must(map->Put(writing, rocksdb::Slice(key.data(), key.size()), rocksdb::Slice(reinterpret_cast<char *>(&value), 8)).ok(), "RocksDB puts nothing");
     }
     bool get(int, const Key &key) override {
         static thread_local std::string value;
-        return map->Get(reading, key, &value).ok();
+        return map->Get(reading, rocksdb::Slice(key.data(), key.size()), &value).ok();
     }
     int scan(int, const Key &from, int most) override {
         std::unique_ptr<rocksdb::Iterator> it(map->NewIterator(reading));
         int met = 0;
         uint64_t sum = 0;
-        for (it->Seek(from); it->Valid() && met < most; it->Next(), met++) sum += uint64_t(it->value()[0]);
+        for (it->Seek(rocksdb::Slice(from.data(), from.size())); it->Valid() && met < most; it->Next(), met++) sum += uint64_t(it->value()[0]);
         use(sum);
         return met;
     }

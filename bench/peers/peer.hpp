@@ -7,12 +7,21 @@
 #include <cstdint>
 #include <cstdio>
 #include <cstdlib>
+#include <cstring>
 #include <filesystem>
 #include <string>
+#include <string_view>
 #include <thread>
 #include <vector>
 
-using Key = std::string;
+// A key of 16 bytes in place, so that the keys of a run lie one behind the other, and a map that has keys of a fixed size needs no pointer to them.
+struct Key {
+    char bytes[16] = {};
+    const char *data() const { return bytes; }
+    static constexpr size_t size() { return sizeof bytes; }
+    std::string_view view() const { return {bytes, sizeof bytes}; }
+    bool operator<(const Key &other) const { return memcmp(bytes, other.bytes, sizeof bytes) < 0; }
+};
 
 inline void must(bool holds, const char *what) {
     if (holds) return;
@@ -22,11 +31,11 @@ inline void must(bool holds, const char *what) {
 
 // The key of a number: 16 bytes, whose first eight scatter it.
 inline Key key_of(uint64_t number) {
-    Key key(16, 0);
+    Key key;
     uint64_t scattered = number * 0x9E3779B97F4A7C15ull;
     for (int i = 0; i < 8; i++) {
-        key[i] = char(scattered >> (56 - 8 * i));
-        key[8 + i] = char(number >> (56 - 8 * i));
+        key.bytes[i] = char(scattered >> (56 - 8 * i));
+        key.bytes[8 + i] = char(number >> (56 - 8 * i));
     }
     return key;
 }

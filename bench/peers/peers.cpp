@@ -59,7 +59,8 @@ int main(int count, char **words) {
     if (small) peers.emplace_back(small);
     peers.emplace_back(new StdMap);
 #ifdef HAS_TBB
-    peers.emplace_back(new Tbb);
+    peers.emplace_back(new Tbb<Key>);
+    peers.emplace_back(new Tbb<std::string>);
 #endif
 #ifdef HAS_LMDB
     peers.emplace_back(new Lmdb);
