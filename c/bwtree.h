@@ -35,8 +35,9 @@
  *
  * Full: a write may be FULL for a moment, while another call holds back what was taken out: make it again (bwtree_waits.h). A small tree that is filled
  * beyond its limits may be read-only for good: then deletions, and upserts of keys that have a value, are FULL, too, since each would have to split its page
- * first. In a large tree insertions alone are FULL then: delete keys, and insert others. Reads and walks go on, and so does bwtree_close_pairs: open a larger
- * tree with these pairs. A program that takes keys from outside keeps count of them.
+ * first. In a large tree insertions alone are FULL then: delete keys, and insert others. But a page with longer pairs than those that the limits were proposed
+ * for needs a wide row, and while none is free each write of its keys may be FULL, a deletion, too, for good. Reads and walks go on, and so does
+ * bwtree_close_pairs: open a larger tree with these pairs. A program that takes keys from outside keeps count of them, and of long ones.
  *
  * Order: the tree is linearizable (Herlihy and Wing), proved over all states of the tree. All calls of all threads form one sequential history of an
  * ordered map. Each call takes effect at one of its own atomic steps, so a call that has returned precedes a call that begins afterwards, whatever
