@@ -330,7 +330,7 @@ fn spelled_by_one_bit(words: &[u64]) -> Option<u32> {
 ///
 /// A next row may have any of its 26 bits turned, and a PID any of its 22, unless it is 0 then. A length may change within its words alone, and
 /// only to a greater one, as the bytes behind the text are 0. Each bit of a key's and a value's bytes counts, where the order of keys allows it.
-const TURNED: [(Compact, u32); 10] = [
+const TURNED: [(Compact, u32); 13] = [
     (OPENING, 0),
     // three levels; the two children; the length 3 of the second key, which may be 7; its mark and its bytes
     (INDEX, 3 + 21 + 21 + 1 + 1 + 24),
@@ -348,6 +348,14 @@ const TURNED: [(Compact, u32); 10] = [
     // more; the length of the item's key, and its bytes, which have to stay between them
     (MERGE, 26 + 22 + 1 + 11 + 2 + 4 + 2 + 58),
     (UNTERM, 3 + 25 + 21 + 1 + 24),
+    // the next row; the key's length, which may be 1, 2, 4 or 8
+    (EMPTY_PUT, 25 + 4),
+    // the next row; the key's length, which may be 15, and its bytes; the value's length, which may be 11 or 13, and its bytes
+    (LONG_PUT, 26 + 1 + 88 + 2 + 72),
+    // the right page; the low key's bytes, which may only become less; the high key's length and its bytes, which may only become more; the first
+    // item's two lengths, the bytes of its key, which has to stay between the low key and the second one, and of its value; the second key's length
+    // and its bytes
+    (LEAF, 22 + 3 + 2 + 5 + 2 + 2 + 1 + 8 + 2 + 65),
 ];
 
 #[test]

@@ -147,6 +147,34 @@ fn delete(words: &mut Pcg32) -> Row {
     row
 }
 
+/// A removal.
+fn removal(words: &mut Pcg32) -> Row {
+    over(words, 0x0200_0107)
+}
+
+/// A bounded page of a row's items: its low key is below all of them, its high one above, and there is a page to its right.
+fn bounded(words: &mut Pcg32, row: Row) -> Row {
+    let mut row = row;
+    let (low, high) = (some_length(words), some_length(words));
+    row[2] = 1 + below(words, 4_194_303);
+    draw_text(words, &mut row, 3, low);
+    draw_text(words, &mut row, 12, high);
+    row[4] &= u64::MAX >> 8;
+    row[13] |= 0xff << 56;
+    row
+}
+
+/// A merge: a bounded leaf of up to four items over the row of its left page.
+fn merge(words: &mut Pcg32, count: usize) -> Row
+    requires { count ≤ 4 }
+{
+    let leaf = leaf(words, count);
+    let mut row = bounded(words, leaf);
+    row[0] = 0x0200_0008 + 0x1_0000 * count as u64;
+    row[1] = 1 + below(words, 67_108_863);
+    row
+}
+
 /// A split, a term, a hold or an unterm, by its kind.
 fn link(words: &mut Pcg32, kind: u64) -> Row
     requires { kind < 16 }
@@ -170,7 +198,13 @@ fn drawn(words: &mut Pcg32, kind: u32, count: usize) -> Row
         4 => link(words, 4),
         5 => link(words, 5),
         6 => link(words, 6),
-        _ => link(words, 9),
+        7 => link(words, 9),
+        8 => removal(words),
+        9 => merge(words, 1 + count % 4),
+        _ => {
+            let leaf = leaf(words, count);
+            bounded(words, leaf)
+        }
     }
 }
 
@@ -187,7 +221,7 @@ fn come_back(words: &mut Pcg32, kind: u32) -> u32 {
 #[test]
 fn drawn_records_come_back(rt: HostRuntime) {
     let mut words = Pcg32::seed_from_u64(3);
-    for kind in 0..8u32 {
+    for kind in 0..11u32 {
         let count = come_back(&mut words, kind);
         assert!(rt; count == 1_000, "kind {kind}: {count}");
     }
