@@ -20,10 +20,19 @@ use std::process::Abort;
 use structure_changes::Name;
 
 /// A page by hand. Its newest record stands in its head, and each other one in the row before.
-#[derive(Drop)]
 pub(crate) struct Held {
     name: Name,
     records: Vec<Record>,
+}
+
+// A derived one would be proved anew at each exit of each function that has a page.
+impl Drop for Held {
+    fn drop(self) {
+        let Held {
+            name: _,
+            records: _,
+        } = self;
+    }
 }
 
 impl Model for Held {

@@ -17,7 +17,7 @@ pub(crate) fn low<R: Abort + AllocGlobal>(rt: &R, page: &Held) -> Key
 {
     let mut shelf = Shelf::of_one(page);
     let read = shelf.read(rt, page);
-    read.chain().low(&HeldRows::new(), &mut shelf)
+    read.page.chain().low(&HeldRows::new(), &mut shelf)
 }
 
 /// Whether the page is a leaf that may have the key, with fewer than twelve deltas.
@@ -27,7 +27,7 @@ pub(crate) fn takes_delete<R: Abort + AllocGlobal>(rt: &R, page: &Held, key: &Ke
     let mut shelf = Shelf::of_one(page);
     let read = shelf.read(rt, page);
     let rows = HeldRows::new();
-    let chain = read.chain();
+    let chain = read.page.chain();
     chain.was_read(&rows, &shelf);
     if chain.level() != 0 || chain.deltas() >= 12 {
         return false;
@@ -44,7 +44,8 @@ pub(crate) fn consolidated<R: Abort + AllocGlobal>(rt: &R, page: &Held) -> Page
     let mut shelf = Shelf::of_one(page);
     let read = shelf.read(rt, page);
     let mut base = Page::empty_leaf();
-    read.chain()
+    read.page
+        .chain()
         .consolidated(&HeldRows::new(), &mut shelf, &mut base);
     base
 }

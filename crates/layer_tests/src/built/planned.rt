@@ -21,7 +21,7 @@ pub(crate) fn split<R: Abort + AllocGlobal>(rt: &R, page: &Held) -> Option<Split
 {
     let mut shelf = Shelf::of_one(page);
     let read = shelf.read(rt, page);
-    plan_split(&read, &HeldRows::new(), &mut shelf)
+    plan_split(&read.page, &HeldRows::new(), &mut shelf)
 }
 
 /// The term of the page in its parent.
@@ -30,7 +30,7 @@ pub(crate) fn term<R: Abort + AllocGlobal>(rt: &R, parent: &Held, page: &Held) -
 {
     let mut shelf = Shelf::of_two(parent, page).expect(rt, "rows of their own");
     let (one, other) = (shelf.read(rt, parent), shelf.read(rt, page));
-    plan_term(&one, &other, &HeldRows::new(), &mut shelf)
+    plan_term(&one.page, &other.page, &HeldRows::new(), &mut shelf)
 }
 
 /// The root over the page and its right.
@@ -39,7 +39,7 @@ pub(crate) fn root<R: Abort + AllocGlobal>(rt: &R, left: &Held, right: &Held) ->
 {
     let mut shelf = Shelf::of_two(left, right).expect(rt, "rows of their own");
     let (one, other) = (shelf.read(rt, left), shelf.read(rt, right));
-    plan_root(&one, &other, &HeldRows::new(), &mut shelf)
+    plan_root(&one.page, &other.page, &HeldRows::new(), &mut shelf)
 }
 
 /// The hold of the page's term.
@@ -48,7 +48,7 @@ pub(crate) fn hold<R: Abort + AllocGlobal>(rt: &R, parent: &Held, page: &Held) -
 {
     let mut shelf = Shelf::of_two(parent, page).expect(rt, "rows of their own");
     let (one, other) = (shelf.read(rt, parent), shelf.read(rt, page));
-    plan_hold(&one, &other, &HeldRows::new(), &mut shelf)
+    plan_hold(&one.page, &other.page, &HeldRows::new(), &mut shelf)
 }
 
 /// The removal of the page.
@@ -57,7 +57,7 @@ pub(crate) fn remove<R: Abort + AllocGlobal>(rt: &R, parent: &Held, page: &Held)
 {
     let mut shelf = Shelf::of_two(parent, page).expect(rt, "rows of their own");
     let (one, other) = (shelf.read(rt, parent), shelf.read(rt, page));
-    plan_remove(&one, &other, &HeldRows::new(), &mut shelf)
+    plan_remove(&one.page, &other.page, &HeldRows::new(), &mut shelf)
 }
 
 /// The merge of the removed page into the left one.
@@ -66,14 +66,14 @@ pub(crate) fn merge<R: Abort + AllocGlobal>(rt: &R, left: &Held, removed: &Held)
 {
     let mut shelf = Shelf::of_two(left, removed).expect(rt, "rows of their own");
     let (one, other) = (shelf.read(rt, left), shelf.read(rt, removed));
-    plan_merge(&one, &other, &HeldRows::new(), &mut shelf)
+    plan_merge(&one.page, &other.page, &HeldRows::new(), &mut shelf)
 }
 
 /// The merge of the page into itself.
 pub(crate) fn merge_into_itself<R: Abort + AllocGlobal>(rt: &R, page: &Held) -> Option<Merge> {
     let mut shelf = Shelf::of_one(page);
     let read = shelf.read(rt, page);
-    plan_merge(&read, &read, &HeldRows::new(), &mut shelf)
+    plan_merge(&read.page, &read.page, &HeldRows::new(), &mut shelf)
 }
 
 /// The end of the removed page's term.
@@ -86,7 +86,13 @@ pub(crate) fn unterm<R: Abort + AllocGlobal>(
     let mut shelf = Shelf::of_three(parent, left, removed).expect(rt, "rows of their own");
     let above = shelf.read(rt, parent);
     let (one, other) = (shelf.read(rt, left), shelf.read(rt, removed));
-    plan_unterm(&above, &one, &other, &HeldRows::new(), &mut shelf)
+    plan_unterm(
+        &above.page,
+        &one.page,
+        &other.page,
+        &HeldRows::new(),
+        &mut shelf,
+    )
 }
 
 /// The end of the page's term beside the page itself.
@@ -97,5 +103,11 @@ pub(crate) fn unterm_beside_itself<R: Abort + AllocGlobal>(
 ) -> Option<Unterm> {
     let mut shelf = Shelf::of_two(parent, page).expect(rt, "rows of their own");
     let (above, read) = (shelf.read(rt, parent), shelf.read(rt, page));
-    plan_unterm(&above, &read, &read, &HeldRows::new(), &mut shelf)
+    plan_unterm(
+        &above.page,
+        &read.page,
+        &read.page,
+        &HeldRows::new(),
+        &mut shelf,
+    )
 }

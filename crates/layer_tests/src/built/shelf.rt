@@ -72,6 +72,18 @@ impl<'a> Rows for HeldRows<'a> {
     }
 }
 
+/// A page of a shelf, as it was read.
+pub(crate) struct Read<'a> {
+    pub(crate) page: PageInHand<HeldRows<'a>>,
+}
+
+// A derived one would be proved anew at each exit of each function that reads a page.
+impl<'a> Drop for Read<'a> {
+    fn drop(self) {
+        let Read { page: _ } = self;
+    }
+}
+
 impl<'a> Shelf<'a> {
     /// One page alone.
     pub(crate) fn of_one(page: &'a Held) -> Shelf<'a>
@@ -122,16 +134,13 @@ impl<'a> Shelf<'a> {
     }
 
     /// The page of this shelf, as it was read.
-    pub(crate) fn read<R: Abort + AllocGlobal>(
-        &self,
-        rt: &R,
-        page: &Held,
-    ) -> PageInHand<HeldRows<'a>>
+    pub(crate) fn read<R: Abort + AllocGlobal>(&self, rt: &R, page: &Held) -> Read<'a>
         requires { HasRowsOf self.now page.now }
-        ensures chain { chain_of result ≡ chain_of page.now }
-        ensures read { IsReadPage (λ row content. found_in self.now row ≡ Some content) result }
+        ensures chain { chain_of result.page ≡ chain_of page.now }
+        ensures read { IsReadPage (λ row content. found_in self.now row ≡ Some content) result.page }
     {
-        self.tried(rt, page).expect(rt, "rows in order")
+        let page = self.tried(rt, page).expect(rt, "rows in order");
+        Read { page }
     }
 
     /// The page of this shelf, as it was read; none where its records don't name the rows in which they stand.

@@ -16,4 +16,4 @@ fits None page chain same is = tt
 fits (Some plan) page chain same is = λ right pid. subst (λ (records : List Record). FitsOn records (kind.Split (split_to plan right))) same (is.fits right pid)
 
 pub returns : goal.returns
-returns g c = fits c.plan_split.result c.read-read.result c.args.page.now.chain (ap (λ (p : PlacedChain). p.records) c.read-read.ensures.chain) c.plan_split.ensures.plan
+returns g c = fits c.plan_split.result c.read-read.result.page c.args.page.now.chain (ap (λ (p : PlacedChain). p.records) c.read-read.ensures.chain) c.plan_split.ensures.plan
