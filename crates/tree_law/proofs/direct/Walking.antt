@@ -44,8 +44,7 @@ walk_kept : (r : Recalled) (s : StepOf Record) (x : Answer Record) → IsStill s
 walk_kept r (Slot page) x h = absurd h
 walk_kept r (Row row) x h = absurd h
 walk_kept r Leave x h = absurd h
-walk_kept r (PidBits w) (Number n) h = refl
-walk_kept r (RowBits w) (Number n) h = refl
+walk_kept r s (Number n) h = refl
 walk_kept r s x h = refl
 
 -- the level of the last cause is at or below that of the record, and of those before it

@@ -337,16 +337,13 @@ chosen_points false x y h k = k
 
 -- a reply by a value has a point, and so has a cursor page of either direction
 value_points : (c : Command) (v : Option (List ℕ)) → IfSome (reply_of c v) (λ r. has_point r ≡ true)
-value_points (Get k) None = refl
-value_points (Insert k w) None = refl
-value_points (Upsert k w) None = refl
-value_points (Delete k) None = refl
 value_points (DeleteIf k x) (Some o) = chosen_points (bytes_eq o x) (reply.Deleted o) (reply.Differs o) refl refl
 value_points (Swap k x w) (Some o) = chosen_points (bytes_eq o x) reply.Swapped (reply.Differs o) refl refl
 value_points (Add k n) (Some o) = chosen_points (is_number o) (reply.Replaced o) (reply.Differs o) refl refl
 value_points (Page k) v = tt
 value_points (Back k) v = tt
 value_points (Tidy k) v = tt
+value_points c None = refl
 value_points c v = refl
 
 points_at : (memory : Memory) (log : List Update) (c : Command) (r : Reply) → RepliesAt memory log c r → has_point r ≡ true
