@@ -21,12 +21,6 @@ reads_none (ReuseRows word bits) is = cc
 reads_none other is = tt
 
 reads_number : (limits : Limits) (step : Step Record) (found : ℕ) → HasWord limits step → operation_of step ≡ Load → answer_by step found ≡ Number found
-reads_number limits (Slot pid) found has is = refl
-reads_number limits (Row row) found has is = refl
-reads_number limits Epoch found has is = refl
-reads_number limits (Announce actor) found has is = refl
-reads_number limits (PidBits word) found has is = refl
-reads_number limits (RowBits word) found has is = refl
 reads_number limits (Place row content) found has is = absurd has
 reads_number limits other found has is = cc
 
