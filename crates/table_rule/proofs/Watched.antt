@@ -1,12 +1,12 @@
 -- A word is watched, which keeps the rule: the words stay, and the seat has seen the longest run.
-use Rattle.table_rule.proofs.Words.{Allows, Entry, Idle, IsAnswer, IsOf, IsSettled, Limits, List, Memory, Mine, Part, PartFits, Place, Record, Row, alone, ap}
-use Rattle.table_rule.proofs.Words.{arith, get_or, keeps, map, memory_of, none, part, refl, seen_of, set-get_or, subst, with_run, ℕ, [], ◌<◌, ◌≡◌}
+use Rattle.table_rule.proofs.Words.{Allows, Entry, Idle, IsAnswer, IsOf, IsSettled, Limits, List, Memory, Mine, Part, PartFits, Place, Record, alone, ap}
+use Rattle.table_rule.proofs.Words.{arith, get_or, keeps, map, memory_of, none, part, seen_of, set-get_or, subst, with_run, ℕ, [], ◌<◌, ◌≡◌}
 use Rattle.atomic_table.specs.Table.{step as made}
 use Rattle.atomic_table.specs.Seated.{TableId}
 use Rattle.tree_limits.specs.Limits.{most_large_actors}
 use Rattle.bw_model.specs.declared.step.Answer.TheVariants.{Number}
 use Rattle.bw_model.specs.declared.step.Step.{Step}
-use Rattle.bw_model.specs.declared.step.Step.TheVariants.{Slot, Epoch, Announce, PidBits, RowBits, ReusePids, ReuseRows}
+use Rattle.bw_model.specs.declared.step.Step.TheVariants.{ReusePids, ReuseRows}
 use Rattle.tree_words.specs.Changes.{HasWord, SetsBits, StepsChangeOneWord, WordsStandApart, SpellsParts, changed_word, operation_of, answer_by}
 use Rattle.tree_words.specs.declared.operations.Operation.TheVariants.{Load}
 use Rattle.table_rule.specs.Steps.{Watches}

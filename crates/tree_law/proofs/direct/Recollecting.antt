@@ -1,6 +1,7 @@
 -- What an actor recalls of its last operation, that operation has read.
 use Rattle.tree_law.proofs.Words.{◌⊎◌, [], ap, cond, Option, suc, None, List, inl, ◌≢◌, length, ◌++◌, inr, ◌∷◌, sym, ℕ, ◌≡◌, ◌∙◌, arith, Some, eqb_tells, Reply, Limits, Answer, Content, Number}
-use Rattle.tree_law.proofs.Words.{StepOf, TakePid, Row, TakeRow, Slot, PidBits, Exchange, RowBits, replaced_at, Record, recall, Recalled, blank, Entry, Step, IsExchangeOf, IsTake, Operation, IsLast}
+use Rattle.tree_law.proofs.Words.{StepOf, TakePid, TakeRow, Slot, PidBits, Exchange, RowBits, replaced_at, Record, recall, Recalled, blank, Entry, Step}
+use Rattle.tree_law.proofs.Words.{IsExchangeOf, IsTake, Operation, IsLast}
 use Rattle.tree_law.proofs.Words.{Recollects}
 use Rattle.tree_law.specs.Direct.{HasReadSince}
 use Rattle.tree_law.proofs.trace.Owned.{pushed_length}

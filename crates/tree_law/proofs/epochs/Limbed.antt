@@ -1,6 +1,6 @@
 -- What a step makes of its actor's limbos.
 use Rattle.tree_law.proofs.Words.{false, ◌⊎◌, ap, refl, cond, Option, suc, None, List, true, inl, inr, ◌∷◌, sym, ℕ, ◌≡◌, Bool, zero, ◌∙◌, arith, Some, same_Some, Contains, MatchOption, unwrap_or}
-use Rattle.tree_law.proofs.Words.{is_among, Answer, Whether, Content, Number, StepOf, ReuseRows, ReusePids, TakePid, Row, TakeRow, Slot, Epoch, PidBits, Exchange, RowBits, Announce, next_row, Record}
+use Rattle.tree_law.proofs.Words.{is_among, Answer, Whether, Content, Number, StepOf, ReuseRows, ReusePids, Slot, Epoch, Exchange, Announce, next_row, Record}
 use Rattle.tree_law.proofs.Words.{chain_rows, IsChainFrom, Knowledge, learn, Other, Gone, after_exchange, Unstamped, is_on_walk, LimboMark, Absent, passed_by}
 use Rattle.tree_law.proofs.Words.{with_stamp, taken_out, next_seen, Limbos, []}
 use Rattle.tree_law.proofs.shape.Puts.{by_equal, decided}
