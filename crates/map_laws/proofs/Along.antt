@@ -1,14 +1,10 @@
 -- What holds along a run of one actor's calls: between two of them, and within one.
-use Rattle.map_laws.proofs.Words.{◌≡◌, ◌<◌, ◌≤◌, ◌⊎◌, ℕ, suc, List, [], ◌∷◌, ◌++◌, length, take, Bool, true, false, Option, Some, None, inl, inr, refl, sym}
-use Rattle.map_laws.proofs.Words.{ap, subst, ◌∙◌, arith, append_assoc, eq-eqb, if◌then◌else◌, slice_get, Limits, Command, Reply, Answer, StepOf, either}
-use Rattle.map_laws.proofs.Words.{Record, Entry, Begin, Step, is_entry_of, own_entries, IsRun, command_of, commands_after, slice_get_below, slice_get_kept}
-use Rattle.map_laws.proofs.Words.{slice_get-push, IsOperation, answered_last, call_after, calls_along, calls_of, answered_snoc, operation_at}
-use Rattle.std.proofs.Common.{IsSome, append-nil}
-use Rattle.std.proofs.lemmas.Bool.{eqb-true}
+use Rattle.map_laws.proofs.Words.{Answer, Begin, Bool, Command, Entry, IsOperation, IsOwnEntry, IsRun, IsSome, Limits, List, None, Option, Record, Reply, Some}
+use Rattle.map_laws.proofs.Words.{Step, StepOf, answered_last, answered_snoc, ap, append-nil, append_assoc, arith, call_after, calls_along, calls_of}
+use Rattle.map_laws.proofs.Words.{command_of, command_of-push, commands_after, either, eq-eqb, eqb-true, false, if◌then◌else◌, inl, inr, is_entry_of, length}
+use Rattle.map_laws.proofs.Words.{operation_at, own_entries, pushed_length, refl, slice_get, slice_get-append_left, slice_get-push, slice_get-push_cases}
+use Rattle.map_laws.proofs.Words.{slice_get_below, slice_get_kept, subst, suc, sym, take, take-push_whole, true, ℕ, [], ◌++◌, ◌<◌, ◌∙◌, ◌∷◌, ◌≡◌, ◌≤◌, ◌⊎◌}
 use Rattle.traces.specs.trace.Run.{IsNext}
-use Rattle.traces.proofs.Pushes.{pushed_length, slice_get-append_left, slice_get-push_cases, take-push_whole}
-use Rattle.traces.proofs.TraceLaws.{command_of-push}
-use Rattle.linearization.specs.Operations.{IsOwnEntry}
 use Rattle.map_laws.proofs.Asking.{Calls}
 use Rattle.map_laws.proofs.Spans.{IsOpenAt}
 
@@ -76,7 +72,7 @@ module _ (run : List Entry) (actor since : ℕ) (D : Calls → ℕ → Type 0) (
     at_end front back entry is = ap (λ es. slice_get es (length front)) is ∙ get_middle front entry back
 
     next : (front back : List Entry) (entry : Entry) → run ≡ front ++ entry ∷ back → IsNext limits front entry
-    next front back entry is = subst (λ es. IsNext limits es entry) (ap (take (length front)) is ∙ take-push_whole front (entry ∷ back)) (is_run.each (length front) entry (at_end front back entry is))
+    next front back entry is = rw (← (ap (take (length front)) is ∙ take-push_whole front (entry ∷ back))) (is_run.each (length front) entry (at_end front back entry is))
 
     command_then : (front : List Entry) (entry : Entry) → command_of (front ++ entry ∷ []) actor ≡ commands_after (command_of front) entry actor
     command_then front entry = ap (λ commands. commands actor) (command_of-push front entry)
@@ -153,8 +149,7 @@ module _ (run : List Entry) (actor since : ℕ) (D : Calls → ℕ → Type 0) (
     by_end front back step told given all is (inl (none, holds)) = absurd (no_command (command_of front actor) (next front back (Step actor step told (Some given)) is).0 none)
     by_end front back step told given all is (inr busy) = inl (
       command_then front (Step actor step told (Some given)) ∙ ap (λ (b : Bool). if b then None else command_of front actor) (eq-eqb actor actor refl),
-      subst (λ (calls : Calls). D calls (length (front ++ Step actor step told (Some given) ∷ [])))
-          (sym (ap (λ (calls : Calls). answered_last calls given) busy.is ∙ answered_snoc busy.calls busy.asked None given))
+      rw (ap (λ (calls : Calls). answered_last calls given) busy.is ∙ answered_snoc busy.calls busy.asked None given)
           (subst (D (busy.calls ++ (busy.asked, Some given) ∷ [])) (sym (pushed_length front (Step actor step told (Some given))))
           (keeps.ends busy.calls busy.asked busy.start (length front) step told given
           (opens front (Step actor step told (Some given) ∷ back) is busy.start busy.asked busy.opened)
@@ -175,8 +170,8 @@ module _ (run : List Entry) (actor since : ℕ) (D : Calls → ℕ → Type 0) (
     by_entry : (front back : List Entry) (entry : Entry) (all : Calls) → run ≡ front ++ entry ∷ back → since ≤ length front → Now front all
         → Now (front ++ entry ∷ []) (if is_entry_of actor entry then call_after all entry else all)
     by_entry front back entry all is late now = either (is_entry_of actor entry)
-        (λ mine. subst (λ (b : Bool). Now (front ++ entry ∷ []) (if b then call_after all entry else all)) (sym mine) (by_own front back entry all is mine now))
-        (λ apart. subst (λ (b : Bool). Now (front ++ entry ∷ []) (if b then call_after all entry else all)) (sym apart) (by_other front back entry all is late apart now))
+        (λ mine. rw mine (by_own front back entry all is mine now))
+        (λ apart. rw apart (by_other front back entry all is late apart now))
 
     pub along : (front back : List Entry) (all : Calls) → run ≡ front ++ back → since ≤ length front → Now front all → Now run (calls_along all (own_entries actor back))
     along front [] all is late now = subst (λ es. Now es all) (sym (is ∙ append-nil front)) now

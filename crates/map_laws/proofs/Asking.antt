@@ -1,12 +1,9 @@
 -- A seat's call that is done: the operation that it was.
-use Rattle.map_laws.proofs.Words.{◌≡◌, ◌≤◌, ◌+◌, ◌⊎◌, ℕ, List, [], ◌∷◌, ◌++◌, length, Bool, true, false, Option, Some, None, inl, inr, refl, sym, ap, subst}
-use Rattle.map_laws.proofs.Words.{◌∙◌, arith, eq-eqb, if◌then◌else◌, slice_get, dite, dec_le, Command, Reply, Limits, Leave, either, Entry, Begin, Step}
-use Rattle.map_laws.proofs.Words.{is_entry_of, own_entries, IsRun, command_of, commands_after, slice_get_below, slice_get_kept, slice_get-push, Finishes}
-use Rattle.map_laws.proofs.Words.{IsOperation, Operation, answered_last, call_after, calls_along, calls_of, answered_snoc}
-use Rattle.std.specs.List.{fold}
-use Rattle.traces.proofs.Pushes.{slice_get-push_cases}
+use Rattle.map_laws.proofs.Words.{Begin, Command, Entry, Finishes, IsOperation, IsRun, Leave, Limits, List, None, Operation, Option, Reply, Some, Step}
+use Rattle.map_laws.proofs.Words.{answered_last, answered_snoc, ap, arith, call_after, calls_along, calls_of, command_of, commands_after, dec_le, dite, either}
+use Rattle.map_laws.proofs.Words.{eq-eqb, false, fold, inl, inr, is_entry_of, length, own_entries, own_push, refl, slice_get, slice_get-push}
+use Rattle.map_laws.proofs.Words.{slice_get-push_cases, slice_get_below, slice_get_kept, subst, sym, true, ℕ, [], ◌++◌, ◌+◌, ◌∙◌, ◌∷◌, ◌≡◌, ◌≤◌, ◌⊎◌}
 use Rattle.traces.proofs.RunLaws.{IsRun-last}
-use Rattle.traces.proofs.OwnEntries.{own_push}
 use Rattle.bw_model.specs.declared.step.Answer.TheVariants as answer
 use Rattle.map_laws.proofs.Ending.{some_of}
 use Rattle.map_laws.proofs.Spans.{IsOpenAt, begun_since, in_hand}
@@ -34,20 +31,18 @@ told actor commands calls (entry ∷ run) asked fits is = by_entry entry (λ com
         → (is_entry_of actor e ≡ false → (c : Command) → commands' actor ≡ Some c → EndsUnanswered calls c)
         → EndsUnanswered (calls_along calls (own_entries actor (e ∷ run))) asked
     either_way e commands' rest along own other = either (is_entry_of actor e)
-        (λ mine. subst (λ (b : Bool). EndsUnanswered (calls_along calls (if b then e ∷ own_entries actor run else own_entries actor run)) asked) (sym mine)
-        (rest commands' (call_after calls e) (own mine) along))
-        (λ others. subst (λ (b : Bool). EndsUnanswered (calls_along calls (if b then e ∷ own_entries actor run else own_entries actor run)) asked) (sym others)
-        (rest commands' calls (other others) along))
+        (λ mine. rw mine (rest commands' (call_after calls e) (own mine) along))
+        (λ others. rw others (rest commands' calls (other others) along))
 
     by_entry : (e : Entry) → IsTold actor run asked → fold commands_after (commands_after commands e) run actor ≡ Some asked → EndsUnanswered (calls_along calls (own_entries actor (e ∷ run))) asked
     by_entry (Begin who c) rest along = either_way (Begin who c) (commands_after commands (Begin who c)) rest along
-        (λ mine d has. let some : Some c ≡ Some d = subst (λ (b : Bool). (if b then Some c else commands actor) ≡ Some d) mine has in let same : c ≡ d = cc in
+        (λ mine d has. let some : Some c ≡ Some d = rw mine at has in let same : c ≡ d = cc in
         subst (EndsUnanswered (calls ++ (c, None) ∷ [])) same (calls, refl))
-        (λ others d has. fits d (subst (λ (b : Bool). (if b then Some c else commands actor) ≡ Some d) others has))
+        (λ others d has. fits d (rw others at has))
     by_entry (Step who step answer None) rest along = either_way (Step who step answer None) commands rest along (λ mine c has. fits c has) (λ others c has. fits c has)
     by_entry (Step who step answer (Some given)) rest along = either_way (Step who step answer (Some given)) (commands_after commands (Step who step answer (Some given))) rest along
-        (λ mine d has. let none : None ≡ Some d = subst (λ (b : Bool). (if b then None else commands actor) ≡ Some d) mine has in absurd (cc))
-        (λ others d has. fits d (subst (λ (b : Bool). (if b then None else commands actor) ≡ Some d) others has))
+        (λ mine d has. let none : None ≡ Some d = rw mine at has in absurd (cc))
+        (λ others d has. fits d (rw others at has))
 
 pub last_unanswered : (actor : ℕ) (run : List Entry) (asked : Command) → command_of run actor ≡ Some asked → EndsUnanswered (calls_of actor run) asked
 last_unanswered actor run asked is = told actor (λ a. None) [] run asked (λ c has. absurd (cc)) is
@@ -125,8 +120,8 @@ module _ (limits : Limits) (run front : List Entry) (actor : ℕ) (asked : Comma
     answer.Done,
     record {
       begun = slice_get_below front opened.0 (Begin actor asked) opened.1.begins;
-      entry = subst (λ es. slice_get es (length front) ≡ Some leave) (sym ends) (slice_get-push front leave);
-      not_ended = λ later c after before at. elim (slice_get-push_cases front leave later (Begin actor c) (subst (λ es. slice_get es later ≡ Some (Begin actor c)) ends at)) [
+      entry = rw ends (slice_get-push front leave);
+      not_ended = λ later c after before at. elim (slice_get-push_cases front leave later (Begin actor c) (rw (← ends) at)) [
         | inl there ↦ opened.1.last later c after there
         | inr last ↦ let here = last.0 in omega arith
       ];

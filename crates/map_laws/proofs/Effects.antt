@@ -1,17 +1,14 @@
 -- What the update of a command makes of the log's value at a key.
-use Rattle.map_laws.proofs.Words.{◌≡◌, ℕ, List, [], ◌∷◌, ◌++◌, Bool, true, false, Option, Some, None, refl, sym, ap, ◌∙◌, if◌then◌else◌, fold-append, either}
-use Rattle.map_laws.proofs.Words.{logged_value, is_writer, Command, Get, Upsert, is_about, value_made}
+use Rattle.map_laws.proofs.Words.{Bool, Command, Get, List, None, Option, Some, Update, Upsert, ap, command_key, either, false, fold-append, if◌then◌else◌}
+use Rattle.map_laws.proofs.Words.{is_about, is_eq, is_writer, key_cmp, logged_value, refl, sym, true, updates_by, value_made, ℕ, [], ◌++◌, ◌∙◌, ◌∷◌, ◌≡◌}
 use Rattle.std.specs.Option.{option_to_list}
-use Rattle.std.specs.Ordering.{is_eq}
 use Rattle.std.specs.Str.{bytes_eq}
 use Rattle.std.proofs.lemmas.List.{append-nil}
 use Rattle.base_page.proofs.KeyLaws.{same}
-use Rattle.bw_model.specs.Bytes.{key_cmp}
-use Rattle.bw_model.specs.Log.{Update, set, unset, updated_key, updated_value}
+use Rattle.bw_model.specs.Log.{set, unset, updated_key, updated_value}
 use Rattle.bw_model.specs.Numbers.{added, is_number}
-use Rattle.bw_model.specs.Replies.{command_key, update_of}
+use Rattle.bw_model.specs.Replies.{update_of}
 use Rattle.bw_model.specs.declared.command.Command.TheVariants.{Insert, Delete, DeleteIf, Swap, Add, Page, Back, Tidy}
-use Rattle.linearization.specs.Points.{updates_by}
 use Rattle.map_laws.specs.OwnKeys.{value_by}
 
 abbrev Value : Type 0
@@ -40,21 +37,14 @@ module _ (key : List ℕ) (actor : ℕ) (before : Value) where
 
   -- an update names its command's key
   names_key : (asked : Command) (old : Value) → Names asked (update_of actor asked old)
-  names_key (Get k) old = sym (if_same (is_eq (key_cmp key k)) before)
   names_key (Insert k value) None = refl
-  names_key (Insert k value) (Some old) = sym (if_same (is_eq (key_cmp key k)) before)
   names_key (Upsert k value) old = refl
-  names_key (Delete k) None = sym (if_same (is_eq (key_cmp key k)) before)
   names_key (Delete k) (Some old) = refl
-  names_key (DeleteIf k expected) None = sym (if_same (is_eq (key_cmp key k)) before)
   names_key (DeleteIf k expected) (Some old) = names_if (DeleteIf k expected) (unset actor k) (bytes_eq old expected) refl
-  names_key (Swap k expected value) None = sym (if_same (is_eq (key_cmp key k)) before)
   names_key (Swap k expected value) (Some old) = names_if (Swap k expected value) (set actor k value) (bytes_eq old expected) refl
   names_key (Add k number) None = refl
   names_key (Add k number) (Some old) = names_if (Add k number) (set actor k (added old number)) (is_number old) refl
-  names_key (Page k) old = sym (if_same (is_eq (key_cmp key k)) before)
-  names_key (Back k) old = sym (if_same (is_eq (key_cmp key k)) before)
-  names_key (Tidy k) old = sym (if_same (is_eq (key_cmp key k)) before)
+  names_key asked old = sym (if_same (is_eq (key_cmp key (command_key asked))) before)
 
   any_if : (one other : Update) (b : Bool) → updated_value one ≡ updated_value other
       → value_by (if b then Some one else None) before ≡ value_by (if b then Some other else None) before
@@ -63,21 +53,11 @@ module _ (key : List ℕ) (actor : ℕ) (before : Value) where
 
   -- whoever makes it
   any_actor : (asked : Command) (old : Value) → value_by (update_of actor asked old) before ≡ value_by (update_of 0 asked old) before
-  any_actor (Get k) old = refl
-  any_actor (Insert k value) None = refl
-  any_actor (Insert k value) (Some old) = refl
-  any_actor (Upsert k value) old = refl
-  any_actor (Delete k) None = refl
-  any_actor (Delete k) (Some old) = refl
-  any_actor (DeleteIf k expected) None = refl
   any_actor (DeleteIf k expected) (Some old) = any_if (unset actor k) (unset 0 k) (bytes_eq old expected) refl
-  any_actor (Swap k expected value) None = refl
   any_actor (Swap k expected value) (Some old) = any_if (set actor k value) (set 0 k value) (bytes_eq old expected) refl
-  any_actor (Add k number) None = refl
   any_actor (Add k number) (Some old) = any_if (set actor k (added old number)) (set 0 k (added old number)) (is_number old) refl
-  any_actor (Page k) old = refl
-  any_actor (Back k) old = refl
-  any_actor (Tidy k) old = refl
+  any_actor asked None = refl
+  any_actor asked old = refl
 
 about : (key : List ℕ) (asked : Command) (before : Value)
     → (if is_eq (key_cmp key (command_key asked)) then value_made asked before else before) ≡ (if is_about key asked then value_made asked before else before)
@@ -107,18 +87,10 @@ module _ (key : List ℕ) (log : List Update) (actor : ℕ) (asked : Command) wh
 -- a command whose actor links nothing changes nothing
 pub reader_keeps : (asked : Command) (before : Value) → is_writer asked ≡ false → value_made asked before ≡ before
 reader_keeps (Get k) before is = refl
-reader_keeps (Page k) before is = refl
-reader_keeps (Back k) before is = refl
-reader_keeps other before is = absurd (cc)
+reader_keeps other before is = cc
 
 pub about_key : (key : List ℕ) (asked : Command) → is_about key asked ≡ true → key ≡ command_key asked
-about_key key (Get k) is = same key k is
-about_key key (Insert k value) is = same key k is
-about_key key (Upsert k value) is = same key k is
-about_key key (Delete k) is = same key k is
-about_key key (DeleteIf k expected) is = same key k is
-about_key key (Swap k expected value) is = same key k is
-about_key key (Add k number) is = same key k is
 about_key key (Page k) is = absurd (cc)
 about_key key (Back k) is = absurd (cc)
 about_key key (Tidy k) is = absurd (cc)
+about_key key other is = same key (command_key other) is

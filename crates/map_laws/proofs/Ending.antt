@@ -1,12 +1,9 @@
 -- An operation that is done takes no step after its last one.
-use Rattle.map_laws.proofs.Words.{◌≡◌, ◌≤◌, ◌<◌, ◌+◌, ℕ, zero, suc, List, [], ◌∷◌, ◌++◌, length, take, Bool, Option, Some, None, refl, sym, ap, ◌∙◌, arith}
-use Rattle.map_laws.proofs.Words.{eq-eqb, if◌then◌else◌, slice_get, dite, dec_le, Command, Reply, Limits, Entry, Begin, Step, IsRun, command_of}
-use Rattle.map_laws.proofs.Words.{commands_after, slice_get_below, Finishes, IsOwnStep, Operation}
-use Rattle.std.proofs.Common.{drop, IsSome}
+use Rattle.map_laws.proofs.Words.{Begin, Bool, Command, Entry, Finishes, IsOwnStep, IsRun, IsSome, Limits, List, None, Operation, Option, Reply, Some, Step, ap}
+use Rattle.map_laws.proofs.Words.{arith, command_of, command_of-push, commands_after, dec_le, dite, drop, eq-eqb, if◌then◌else◌, length, refl, slice_get}
+use Rattle.map_laws.proofs.Words.{slice_get_below, suc, sym, take, take-one, zero, ℕ, [], ◌++◌, ◌+◌, ◌<◌, ◌∙◌, ◌∷◌, ◌≡◌, ◌≤◌}
 use Rattle.std.proofs.lemmas.List.{length-take-le, take-append-drop}
 use lib.Seq.{take-take}
-use Rattle.traces.proofs.TraceLaws.{command_of-push}
-use Rattle.linearization.proofs.LogLaws.{take-one}
 use Rattle.map_laws.proofs.Spans.{begun_since}
 
 -- a finished operation takes no step after its last one

@@ -1,15 +1,12 @@
 -- The reply of a finished operation fits its command.
-use Rattle.map_laws.proofs.Words.{◌≡◌, ℕ, List, [], ◌∷◌, ◌++◌, length, map, Bool, true, false, Option, Some, None, IsTrue, inl, inr, refl, sym, ap, subst}
-use Rattle.map_laws.proofs.Words.{◌∙◌, if◌then◌else◌, slice_get, logged_value, is_writer, reply_of, Command, Get, Upsert, Reply, Limits, Entry, Turn, turn_of}
-use Rattle.map_laws.proofs.Words.{slice_get-push, RepliesAtPoint, IsLinearized, Finishes, IsOperation, Operation, log_at, answered_last, calls_in, calls_of}
-use Rattle.map_laws.proofs.Words.{IsOneHistory, Seat, answered_snoc, fits}
+use Rattle.map_laws.proofs.Words.{Bool, Command, Entry, Finishes, Get, IsLinearized, IsOneHistory, IsOperation, IsTrue, IsTrueReply, Limits, List, None}
+use Rattle.map_laws.proofs.Words.{Operation, Option, RepliesAtPoint, Reply, Seat, Some, Turn, answered_last, answered_snoc, ap, calls_in, calls_of, command_key}
+use Rattle.map_laws.proofs.Words.{false, fits, if◌then◌else◌, inl, inr, is_writer, length, log_at, logged_value, map, refl, reply_of, same_Some, slice_get}
+use Rattle.map_laws.proofs.Words.{slice_get-push, true, turn_of, unfinished_command, ℕ, [], ◌++◌, ◌∙◌, ◌∷◌, ◌≡◌}
 use Rattle.std.specs.Str.{bytes_eq}
 use Rattle.bw_model.specs.Numbers.{is_number}
-use Rattle.bw_model.specs.Replies.{command_key}
-use Rattle.bw_model.specs.declared.command.Command.TheVariants.{Insert, Delete, DeleteIf, Swap, Add, Page, Back, Tidy}
-use Rattle.linearization.specs.Answered.{IsTrueReply}
+use Rattle.bw_model.specs.declared.command.Command.TheVariants.{DeleteIf, Swap, Add, Page, Back, Tidy}
 use Rattle.running_tree.specs.Calls.{IsCalled, IsResumed}
-use Rattle.running_tree.specs.Seats.{unfinished_command}
 use Rattle.running_tree.specs.declared.called.Called.{Called}
 use Rattle.map_laws.specs.Fits.{CameFitting}
 use Rattle.bw_model.specs.declared.command.Reply.TheVariants as reply
@@ -17,37 +14,29 @@ use Rattle.running_tree.specs.declared.called.Called.TheVariants as called
 use Rattle.map_laws.proofs.Asking.{Calls, last_unanswered}
 use Rattle.map_laws.proofs.InOrder.{are_in_order, each_ended}
 
+fits_as : (asked : Command) {one given : Reply} → Some one ≡ Some given → IsTrue (fits asked one) → IsTrue (fits asked given)
+fits_as asked {one} {given} e fit = rw (← same_Some one given e) fit
+
 -- what goes by a test
 by_test : (asked : Command) (test : Bool) (one other given : Reply) → IsTrue (fits asked one) → IsTrue (fits asked other)
     → (if test then Some one else Some other) ≡ Some given → IsTrue (fits asked given)
-by_test asked true one other given fit fit_other e = let same : one ≡ given = cc in subst (λ r. IsTrue (fits asked r)) same fit
-by_test asked false one other given fit fit_other e = let same : other ≡ given = cc in subst (λ r. IsTrue (fits asked r)) same fit_other
+by_test asked true one other given fit fit_other e = fits_as asked e fit
+by_test asked false one other given fit fit_other e = fits_as asked e fit_other
 
 -- what goes by the key's value
 by_value : (asked : Command) (old : Option (List ℕ)) (given : Reply) → reply_of asked old ≡ Some given → IsTrue (fits asked given)
-by_value (Get key) None given e = let same : reply.None ≡ given = cc in subst (λ r. IsTrue (fits (Get key) r)) same refl
-by_value (Get key) (Some old) given e = let same : reply.Value old ≡ given = cc in subst (λ r. IsTrue (fits (Get key) r)) same refl
-by_value (Insert key value) None given e = let same : reply.Inserted ≡ given = cc in subst (λ r. IsTrue (fits (Insert key value) r)) same refl
-by_value (Insert key value) (Some old) given e = let same : reply.Exists old ≡ given = cc in subst (λ r. IsTrue (fits (Insert key value) r)) same refl
-by_value (Upsert key value) None given e = let same : reply.Set ≡ given = cc in subst (λ r. IsTrue (fits (Upsert key value) r)) same refl
-by_value (Upsert key value) (Some old) given e = let same : reply.Replaced old ≡ given = cc in subst (λ r. IsTrue (fits (Upsert key value) r)) same refl
-by_value (Delete key) None given e = let same : reply.Absent ≡ given = cc in subst (λ r. IsTrue (fits (Delete key) r)) same refl
-by_value (Delete key) (Some old) given e = let same : reply.Deleted old ≡ given = cc in subst (λ r. IsTrue (fits (Delete key) r)) same refl
-by_value (DeleteIf key expected) None given e = let same : reply.Absent ≡ given = cc in subst (λ r. IsTrue (fits (DeleteIf key expected) r)) same refl
 by_value (DeleteIf key expected) (Some old) given e = by_test (DeleteIf key expected) (bytes_eq old expected) (reply.Deleted old) (reply.Differs old) given refl refl e
-by_value (Swap key expected value) None given e = let same : reply.Absent ≡ given = cc in subst (λ r. IsTrue (fits (Swap key expected value) r)) same refl
 by_value (Swap key expected value) (Some old) given e = by_test (Swap key expected value) (bytes_eq old expected) reply.Swapped (reply.Differs old) given refl refl e
-by_value (Add key number) None given e = let same : reply.Set ≡ given = cc in subst (λ r. IsTrue (fits (Add key number) r)) same refl
 by_value (Add key number) (Some old) given e = by_test (Add key number) (is_number old) (reply.Replaced old) (reply.Differs old) given refl refl e
 by_value (Page from) old given e = absurd (cc)
 by_value (Back upto) old given e = absurd (cc)
 by_value (Tidy key) old given e = absurd (cc)
+by_value asked None given e = fits_as asked e refl
+by_value asked old given e = fits_as asked e refl
 
 full : (asked : Command) → IsTrue (is_writer asked) → IsTrue (fits asked reply.Full)
-full (Get key) is = absurd (cc)
-full (Page from) is = absurd (cc)
-full (Back upto) is = absurd (cc)
-full other is = refl
+full (Get key) is = cc
+full other is = cc
 
 module _ (limits : Limits) (run : List Entry) (points : List Bool) (operation : Operation) where
   abbrev FitsIts : Reply → Type 0
@@ -55,13 +44,13 @@ module _ (limits : Limits) (run : List Entry) (points : List Bool) (operation : 
 
   at_point : (given : Reply) → RepliesAtPoint limits run points operation given → FitsIts given
   at_point given (n, own, point, inl value) = by_value operation.command (logged_value (log_at run points n) (command_key operation.command)) given value
-  at_point given (n, own, point, inr (inl page)) = subst (λ (z : Command × Reply). IsTrue (fits z.0 z.1)) (λ i. (sym page.asks i, sym page.is i)) refl
-  at_point given (n, own, point, inr (inr page)) = subst (λ (z : Command × Reply). IsTrue (fits z.0 z.1)) (λ i. (sym page.asks i, sym page.is i)) refl
+  at_point given (n, own, point, inr (inl page)) = rw (page.asks, page.is) refl
+  at_point given (n, own, point, inr (inr page)) = rw (page.asks, page.is) refl
 
   -- a true reply fits
   pub true_fits : (given : Reply) → IsTrueReply limits run points operation given → FitsIts given
   true_fits reply.Full is = full operation.command is.0
-  true_fits reply.Tidied is = subst (λ c. IsTrue (fits c reply.Tidied)) (sym is.asks) refl
+  true_fits reply.Tidied is = rw is.asks refl
   true_fits other is = at_point other is
 
 pub reply_fits : (limits : Limits) (turns : List Turn) (run : List Entry) → IsLinearized limits turns run → (operation : Operation) (done : ℕ) (given : Reply)

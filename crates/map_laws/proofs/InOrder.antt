@@ -84,7 +84,7 @@ each_ended run actor early ((other, None) ∷ calls) (suc place) asked given (be
     in_none e = cc
 each_ended run actor early ((other, Some reply) ∷ calls) zero asked given (done, ended, rest) at =
     let same = both_same (other, Some reply) (asked, Some given) at in
-    (done, subst (λ g. IsEnded run actor early asked g done) (some_same same.1) (subst (λ c. IsEnded run actor early c reply done) same.0 ended))
+    (done, rw (← (some_same same.1)) (rw (← same.0) ended))
 each_ended run actor early ((other, Some reply) ∷ calls) (suc place) asked given (done, ended, rest) at =
     let (then', is) = each_ended run actor (suc done) calls place asked given rest at in
     (then', earlier run actor early (suc done) asked given then' (let late = ended.begun.late in let begun = ended.ends.2.begun in omega arith) is)

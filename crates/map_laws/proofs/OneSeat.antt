@@ -1,7 +1,6 @@
 -- A tree with one actor: each key is its own.
-use Rattle.map_laws.proofs.Words.{◌≡◌, ◌<◌, ℕ, List, [], ◌∷◌, Some, None, refl, arith, dite, ℕ_discrete, Limits, Entry, Begin, Turn, IsRun, IsLinearized}
-use Rattle.map_laws.proofs.Words.{IsOperation, Operation, calls_of, operation_at, AreOwnReplies}
-use Rattle.map_laws.specs.InOrder.{AreInOrder}
+use Rattle.map_laws.proofs.Words.{AreInOrder, AreOwnReplies, Begin, Entry, IsLinearized, IsOperation, IsRun, Limits, List, None, Operation, Some, Turn, arith}
+use Rattle.map_laws.proofs.Words.{calls_of, dite, operation_at, refl, ℕ, ℕ_discrete, [], ◌<◌, ◌∷◌, ◌≡◌}
 use Rattle.map_laws.proofs.Asking.{Calls}
 use Rattle.map_laws.proofs.InOrder.{are_in_order}
 use Rattle.map_laws.proofs.OwnKeys.{own_replies}

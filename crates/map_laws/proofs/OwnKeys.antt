@@ -1,22 +1,17 @@
 -- The replies to an actor's calls about a key that nobody else changes are those of a map with this one key.
-use Rattle.map_laws.proofs.Words.{◌≡◌, ◌<◌, ◌≤◌, ◌⊎◌, ℕ, zero, suc, List, [], ◌∷◌, ◌++◌, length, take, Bool, true, false, Option, Some, None, IsTrue, inl}
-use Rattle.map_laws.proofs.Words.{inr, refl, sym, ap, subst, ◌∙◌, arith, eq-eqb, if◌then◌else◌, slice_get, ◌==◌, dite, ℕ_discrete, either, Limits}
-use Rattle.map_laws.proofs.Words.{logged_value, is_writer, reply_of, Command, Reply, Answer, StepOf, Record, Entry, Begin, Step, Turn, is_entry_of, IsRun}
-use Rattle.map_laws.proofs.Words.{command_of, slice_get_below, RepliesAtPoint, IsLinearized, Finishes, IsOperation, IsOwnStep, Operation, has_point, log_at}
-use Rattle.map_laws.proofs.Words.{calls_of, operation_at, AreOwnReplies, is_about, tells, value_made, value_then}
+use Rattle.map_laws.proofs.Words.{Answer, AreOwnReplies, Begin, Bool, Command, Entry, Finishes, HasPoints, IsAnswered, IsLinearized, IsOperation, IsOwnEntry}
+use Rattle.map_laws.proofs.Words.{IsOwnStep, IsPoint, IsRun, IsTrue, IsTrueReply, Limits, List, None, Operation, Option, Record, RepliesAtPoint, Reply, Some}
+use Rattle.map_laws.proofs.Words.{Step, StepOf, Turn, Update, and_both, and_left, and_right, ap, arith, calls_of, command_of, dite, either, eq-eqb, eqb-false}
+use Rattle.map_laws.proofs.Words.{false, has_point, if◌then◌else◌, inl, inr, is_about, is_entry_of, is_writer, length, log_at, logged_value, may_change}
+use Rattle.map_laws.proofs.Words.{memory_at, operation_at, refl, reply_of, slice_get, slice_get_below, subst, suc, sym, take, tells, true, updates_by}
+use Rattle.map_laws.proofs.Words.{value_made, value_then, value_through, zero, ℕ, ℕ_discrete, [], ◌++◌, ◌<◌, ◌==◌, ◌∙◌, ◌∷◌, ◌≡◌, ◌≤◌, ◌⊎◌}
 use Rattle.std.specs.Prelude.{◌&&◌}
-use Rattle.std.proofs.lemmas.Bool.{eqb-false}
 use Rattle.std.proofs.lemmas.List.{append-nil, length-take-le}
-use Rattle.base_page.proofs.KeyLaws.{and_both, and_left, and_right}
-use Rattle.bw_model.specs.Log.{Update}
 use Rattle.deltas.specs.Memory.{Memory}
-use Rattle.traces.specs.trace.Trace.{memory_at}
 use Rattle.traces.proofs.Cuts.{get_take}
-use Rattle.linearization.specs.Answered.{IsAnswered, IsTrueReply, RepliesAt}
-use Rattle.linearization.specs.Operations.{IsOwnEntry}
-use Rattle.linearization.specs.Points.{HasPoints, IsPoint, updates_by}
+use Rattle.linearization.specs.Answered.{RepliesAt}
 use Rattle.linearization.proofs.LogLaws.{log_at-step}
-use Rattle.map_laws.specs.OwnKeys.{ChangesAlone, ChangesAloneSince, may_change, value_through}
+use Rattle.map_laws.specs.OwnKeys.{ChangesAlone, ChangesAloneSince}
 use Rattle.bw_model.specs.declared.command.Reply.TheVariants as reply
 use Rattle.map_laws.proofs.Along.{Keeps, Now, keeps_on}
 use Rattle.map_laws.proofs.Asking.{Calls}
@@ -63,7 +58,7 @@ replied limits run points operation other has says = says
 
 pub at_key : (key : List ℕ) (log : List Update) (memory : Memory) (asked : Command) (given : Reply) → RepliesAt memory log asked given → is_about key asked ≡ true
     → reply_of asked (logged_value log key) ≡ Some given
-at_key key log memory asked given (inl by_value) is = subst (λ (k : List ℕ). reply_of asked (logged_value log k) ≡ Some given) (sym (about_key key asked is)) by_value
+at_key key log memory asked given (inl by_value) is = rw (about_key key asked is) by_value
 at_key key log memory asked given (inr (inl page)) is = let never : false ≡ true = sym (ap (is_about key) page.asks) ∙ is in absurd (cc)
 at_key key log memory asked given (inr (inr page)) is = let never : false ≡ true = sym (ap (is_about key) page.asks) ∙ is in absurd (cc)
 
@@ -200,8 +195,7 @@ module _ (limits : Limits) (run : List Entry) (points : List Bool) (pointed : Ha
           let (m, own, point, replies) = replied limits run points operation given has (answered.each operation n given is ends) in
           let same : m ≡ had.point = pointed.one operation m had.point is own had.own point had.is in
           let here : value_at m ≡ before = ap value_at same ∙ had.old in
-          subst (λ (v : Value). reply_of operation.command v ≡ Some given) here
-          (at_key key (log_at run points m) (memory_at limits run m) operation.command given replies (and_left (is_about key operation.command) (has_point given) tell)),
+          rw (← here) (at_key key (log_at run points m) (memory_at limits run m) operation.command given replies (and_left (is_about key operation.command) (has_point given) tell)),
       had.new ∙ sym (ap (λ (b : Bool). if b then value_made operation.command before else before) (and_true (is_about key operation.command) (has_point given) has)),
     )
 

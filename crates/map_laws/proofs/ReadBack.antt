@@ -1,12 +1,9 @@
 -- What an actor reads of a key of its own.
-use Rattle.map_laws.proofs.Words.{◌≡◌, ℕ, List, [], ◌∷◌, ◌++◌, length, map, Bool, true, Some, None, IsTrue, refl, sym, ap, subst, ◌∙◌, append_assoc}
-use Rattle.map_laws.proofs.Words.{if◌then◌else◌, slice_get, reply_of, Command, Get, Upsert, Reply, has_point, turn_of, slice_get-push, slice_get_kept, IsDone}
-use Rattle.map_laws.proofs.Words.{calls_in, IsOneHistory, Seat, fits, AreOwnReplies, is_about, tells, value_then}
+use Rattle.map_laws.proofs.Words.{AreOwnReplies, Bool, Command, Get, IsDone, IsOneHistory, IsTrue, List, None, Reply, Seat, Some, Upsert, and_both, ap}
+use Rattle.map_laws.proofs.Words.{append_assoc, calls_in, fits, has_point, if◌then◌else◌, is_about, is_eq, key_cmp, length, map, refl, reply_of, slice_get}
+use Rattle.map_laws.proofs.Words.{slice_get-push, slice_get_kept, subst, sym, tells, true, turn_of, value_then, value_through, ℕ, [], ◌++◌, ◌∙◌, ◌∷◌, ◌≡◌}
 use Rattle.std.specs.Prelude.{◌≢◌}
-use Rattle.std.specs.Ordering.{is_eq}
-use Rattle.base_page.proofs.KeyLaws.{and_both, itself}
-use Rattle.bw_model.specs.Bytes.{key_cmp}
-use Rattle.map_laws.specs.OwnKeys.{value_through}
+use Rattle.base_page.proofs.KeyLaws.{itself}
 use Rattle.bw_model.specs.declared.command.Reply.TheVariants as reply
 use Rattle.map_laws.proofs.Asking.{Calls}
 use Rattle.map_laws.proofs.Fitting.{call_fits}
@@ -45,7 +42,7 @@ module _ (key : List ℕ) where
       (and_both (is_eq (key_cmp key key)) (has_point given) own_key (took_effect key (Upsert key value) given own_key fit full))
 
   not_full : (told : Reply) → IsTrue (fits (Get key) told) → told ≢ reply.Full
-  not_full told fit = λ full. let never : IsTrue (fits (Get key) reply.Full) = subst (λ (r : Reply). IsTrue (fits (Get key) r)) full fit in cc
+  not_full told fit = λ full. let never : IsTrue (fits (Get key) reply.Full) = rw full at fit in cc
 
   -- what was set is read
   pub read_back : (before : Value) (calls : Calls) (value : List ℕ) (given told : Reply) → AreOwnReplies key before (calls ++ (Upsert key value, Some given) ∷ (Get key, Some told) ∷ [])
@@ -55,7 +52,7 @@ module _ (key : List ℕ) where
       subst (AreOwnReplies key before) (sym (append_assoc calls ((Upsert key value, Some given) ∷ []) ((Get key, Some told) ∷ []))) are in
       let says : reply_of (Get key) (value_through key before (calls ++ (Upsert key value, Some given) ∷ [])) ≡ Some told = last_replies before
       (calls ++ (Upsert key value, Some given) ∷ []) (Get key) told split own_key fit_told (not_full told fit_told) in
-      let has : reply_of (Get key) (Some value) ≡ Some told = subst (λ (v : Value). reply_of (Get key) v ≡ Some told) (written before calls value given fit full) says in
+      let has : reply_of (Get key) (Some value) ≡ Some told = rw (written before calls value given fit full) at says in
       told_so told value has
     where
       told_so : (told : Reply) (value : List ℕ) → reply_of (Get key) (Some value) ≡ Some told → told ≡ reply.Value value

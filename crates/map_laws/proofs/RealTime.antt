@@ -1,17 +1,10 @@
 -- What two calls reply, where the second one begins after the first one has returned.
-use Rattle.map_laws.proofs.Words.{◌≡◌, ◌<◌, ◌≤◌, ◌+◌, ◌⊎◌, ℕ, zero, suc, List, [], ◌∷◌, length, map, Bool, true, false, Option, Some, None, IsTrue, inl, inr}
-use Rattle.map_laws.proofs.Words.{refl, sym, ap, subst, ◌∙◌, arith, if◌then◌else◌, slice_get, dite, dec_le, either, Limits, reply_of, Command, Get, Upsert}
-use Rattle.map_laws.proofs.Words.{Reply, Answer, StepOf, Record, Entry, Begin, Step, IsRun, slice_get_below, turn_of, RepliesAtPoint, Finishes, IsOperation}
-use Rattle.map_laws.proofs.Words.{IsOwnStep, Operation, has_point, log_at, IsDone, IsOneHistory, IsSame, Seat, fits, operation_at, is_about, tells}
-use Rattle.map_laws.proofs.Words.{value_made, value_then}
-use Rattle.std.proofs.Common.{◌≢◌, ◌-◌}
-use Rattle.std.specs.Prelude.{◌&&◌}
-use Rattle.base_page.proofs.KeyLaws.{and_left, and_right}
-use Rattle.traces.specs.trace.Trace.{memory_at}
-use Rattle.linearization.specs.Answered.{IsAnswered}
-use Rattle.linearization.specs.Points.{HasPoints, IsPoint}
-use Rattle.running_tree.specs.RealTime.{ComesBefore}
-use Rattle.map_laws.specs.OwnKeys.{may_change}
+use Rattle.map_laws.proofs.Words.{Answer, Begin, Bool, ComesBefore, Command, Entry, Finishes, Get, HasPoints, IsAnswered, IsDone, IsOneHistory, IsOperation}
+use Rattle.map_laws.proofs.Words.{IsOwnStep, IsPoint, IsRun, IsSame, IsTrue, Limits, List, Operation, Option, Record, Reply, Seat, Some, Step, StepOf, Upsert}
+use Rattle.map_laws.proofs.Words.{and_left, and_right, ap, arith, dec_le, dite, either, false, fits, has_point, if◌then◌else◌, inl, inr, is_about, length}
+use Rattle.map_laws.proofs.Words.{log_at, map, may_change, memory_at, operation_at, reply_of, slice_get, slice_get_below, suc, sym, tells, true, turn_of}
+use Rattle.map_laws.proofs.Words.{value_made, value_then, zero, ℕ, [], ◌+◌, ◌-◌, ◌<◌, ◌∙◌, ◌≡◌, ◌≤◌, ◌⊎◌}
+use Rattle.std.proofs.Common.{◌≢◌}
 use Rattle.map_laws.specs.RealTime.{AreApart, ChangedByTwo, ReplyInOrder, call_operation}
 use Rattle.bw_model.specs.declared.command.Reply.TheVariants as reply
 use Rattle.map_laws.proofs.Ending.{own_before}
@@ -112,13 +105,13 @@ module _ (limits : Limits) (run : List Entry) (points : List Bool) (pointed : Ha
         let end = below second m own in
         let same : value m ≡ value from = until from m (omega arith) (omega arith) (λ n low high point' operation is own' may.
         by m own point n low high point' (two.each operation n (omega arith) is own' may) own') in
-        subst (λ (v : Value). reply_of second.command v ≡ Some told) (same ∙ is_left) (replies tell)
+        rw (← (same ∙ is_left)) (replies tell)
       where
         by : (m : ℕ) → IsOwnStep run second m → IsPoint points m → (n : ℕ) → from ≤ n → n < m → IsPoint points n → {operation : Operation} → (operation ≡ first) ⊎ (operation ≡ second)
             → IsOwnStep run operation n → ⊥
-        by m own point n low high point' (inl same) own' = never n low point' (subst (λ (o : Operation). IsOwnStep run o n) same own')
+        by m own point n low high point' (inl same) own' = never n low point' (rw (← same) own')
         by m own point n low high point' (inr same) own' =
-            let one : n ≡ m = pointed.one second n m apart.begins (subst (λ (o : Operation). IsOwnStep run o n) same own') own point' point in omega arith
+            let one : n ≡ m = pointed.one second n m apart.begins (rw (← same) own') own point' point in omega arith
 
     both : (IsTrue (tells key first.command given) → reply_of first.command start_value ≡ Some given) → LeftAt → ReplyInOrder key first.command given second.command told
     both says (from, late, early, is_left, never) = (start_value, (says, (second_says from late early is_left never, tt)))
@@ -134,14 +127,14 @@ module _ (limits : Limits) (run : List Entry) (points : List Bool) (pointed : Ha
         let new : value (suc m) ≡ left =
         after_point first m apart.opens own point ∙ ap (λ (v : Value). if is_about key first.command then value_made first.command v else v) old
         ∙ sym (ap (λ (b : Bool). if b then value_made first.command start_value else start_value) (and_true (is_about key first.command) (has_point given) has)) in
-        both (λ tell. subst (λ (v : Value). reply_of first.command v ≡ Some given) old (replies tell))
+        both (λ tell. rw (← old) (replies tell))
         (suc m, omega arith, omega arith, new, λ n late point' own'. let one : n ≡ m = pointed.one first n m apart.opens own' own point' point in omega arith)
       where
         by : (m : ℕ) → IsOwnStep run first m → IsPoint points m → (n : ℕ) → m ≤ apart.done → n < m → IsPoint points n → {operation : Operation} → (operation ≡ first) ⊎ (operation ≡ second)
             → IsOwnStep run operation n → ⊥
         by m own point n low near point' (inl same) own' =
-            let one : n ≡ m = pointed.one first n m apart.opens (subst (λ (o : Operation). IsOwnStep run o n) same own') own point' point in omega arith
-        by m own point n low near point' (inr same) own' = let later = apart.steps m n own (subst (λ (o : Operation). IsOwnStep run o n) same own') in omega arith
+            let one : n ≡ m = pointed.one first n m apart.opens (rw (← same) own') own point' point in omega arith
+        by m own point n low near point' (inr same) own' = let later = apart.steps m n own (rw (← same) own') in omega arith
 
     had_none : has_point given ≡ false → ReplyInOrder key first.command given second.command told
     had_none never =

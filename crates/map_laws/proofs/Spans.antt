@@ -1,8 +1,6 @@
 -- The operation that an actor has in hand: where it was begun.
-use Rattle.map_laws.proofs.Words.{◌≡◌, ◌<◌, ◌+◌, ◌⊎◌, ℕ, zero, suc, List, [], ◌∷◌, ◌++◌, length, Option, Some, None, inl, inr, refl, sym, ap, subst, ◌∙◌}
-use Rattle.map_laws.proofs.Words.{arith, if◌then◌else◌, slice_get, ◌==◌, fold-append, Command, either, Entry, Begin, Step, command_of, commands_after}
-use Rattle.std.specs.List.{fold}
-use Rattle.std.proofs.lemmas.Bool.{eqb-false, eqb-true}
+use Rattle.map_laws.proofs.Words.{Begin, Command, Entry, List, None, Option, Some, Step, ap, arith, command_of, commands_after, either, eqb-false, eqb-true}
+use Rattle.map_laws.proofs.Words.{fold, fold-append, inl, inr, length, refl, slice_get, suc, sym, zero, ℕ, [], ◌++◌, ◌+◌, ◌<◌, ◌==◌, ◌∙◌, ◌∷◌, ◌≡◌, ◌⊎◌}
 
 -- It was begun at this place, and the actor begins nothing after that.
 pub record IsOpenAt (run : List Entry) (actor : ℕ) (command : Command) (start : ℕ) : Type 0 where
@@ -48,18 +46,18 @@ held commands (entry ∷ run) actor command is = elim (held (commands_after comm
     by_entry (Begin other asked) has nothing = either (actor == other)
         (λ same.
         let who : actor ≡ other = eqb-true actor other same in
-        let some : Some asked ≡ Some command = subst (λ b. (if b then Some asked else commands actor) ≡ Some command) same has in
+        let some : Some asked ≡ Some command = rw same at has in
         let what : asked ≡ command = cc in
-        inr (0, subst (λ a. IsOpenAt (Begin a asked ∷ run) actor command 0) who (subst (λ c. IsOpenAt (Begin actor c ∷ run) actor command 0) (sym what) (open_here run actor command nothing))))
+        inr (0, rw (← who) (rw what (open_here run actor command nothing))))
         (λ apart.
-        let kept : commands actor ≡ Some command = subst (λ b. (if b then Some asked else commands actor) ≡ Some command) apart has in
+        let kept : commands actor ≡ Some command = rw apart at has in
         let differs : actor ≡ other → ⊥ = eqb-false actor other apart in
         inl (kept, nothing_more (Begin other asked) run actor (λ more e. differs (cc)) nothing))
     by_entry (Step other step answer None) has nothing = inl (has, nothing_more (Step other step answer None) run actor (λ asked e. cc) nothing)
     by_entry (Step other step answer (Some reply)) has nothing = either (actor == other)
-        (λ same. let none : None ≡ Some command = subst (λ b. (if b then None else commands actor) ≡ Some command) same has in absurd (cc))
+        (λ same. let none : None ≡ Some command = rw same at has in absurd (cc))
         (λ apart.
-        let kept : commands actor ≡ Some command = subst (λ b. (if b then None else commands actor) ≡ Some command) apart has in
+        let kept : commands actor ≡ Some command = rw apart at has in
         inl (kept, nothing_more (Step other step answer (Some reply)) run actor (λ asked e. cc) nothing))
 
 -- what an actor has in hand it has begun

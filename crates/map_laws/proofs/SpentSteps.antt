@@ -1,26 +1,21 @@
 -- A call that is spent has taken its budget in own steps of one operation; a lookup's are few for each change of the tree.
-use Rattle.map_laws.proofs.Words.{◌≡◌, ◌<◌, ◌≤◌, ◌+◌, ◌⊎◌, ℕ, suc, List, [], ◌∷◌, ◌++◌, length, take, Bool, true, false, Option, Some, None, refl, sym, ap}
-use Rattle.map_laws.proofs.Words.{subst, ◌∙◌, inl, inr, arith, eq-eqb, if◌then◌else◌, slice_get, ◌==◌, fold-append, Command, Reply, Answer, StepOf, Record}
-use Rattle.map_laws.proofs.Words.{Entry, Begin, Step, is_entry_of, own_entries, IsRun, command_of, IsOperation, IsOwnStep, calls_along, calls_of, IsSame}
-use Rattle.map_laws.proofs.Words.{Seat, operation_at}
-use Rattle.std.proofs.Common.{◌-◌, ◌*◌, drop, cond, append-nil}
+use Rattle.map_laws.proofs.Words.{Answer, Begin, Bool, Command, Entry, IsOperation, IsOwnStep, IsRun, IsSame, List, None, Option, Record, Reply, Seat, Some}
+use Rattle.map_laws.proofs.Words.{Step, StepOf, ap, append-nil, arith, calls_along, calls_of, drop, eq-eqb, false, fold-append, if◌then◌else◌, inl, inr}
+use Rattle.map_laws.proofs.Words.{is_entry_of, length, operation_at, own_append, own_entries, own_push, pushed_length, refl, same_Some, slice_get, suc, sym}
+use Rattle.map_laws.proofs.Words.{take, take-one, take-push_whole, true, unfinished_command, ℕ, [], ◌++◌, ◌+◌, ◌-◌, ◌<◌, ◌==◌, ◌∙◌, ◌∷◌, ◌≡◌, ◌≤◌, ◌⊎◌}
+use Rattle.std.proofs.Common.{◌*◌, cond}
 use Rattle.std.specs.Prelude.{slice_range}
 use Rattle.std.specs.List.{count_by}
 use Rattle.std.proofs.Math.Nat.{mul-le-mul_left}
 use Rattle.std.proofs.lemmas.Bool.Decides.{eqb_tells}
 use Rattle.std.proofs.lemmas.List.{take_all}
 use Rattle.std.proofs.lemmas.List.Elements.{All-weaker}
-use Rattle.std.proofs.lemmas.Option.{same_Some}
 use Rattle.traces.specs.trace.Trace.{Happens}
 use Rattle.traces.proofs.Cuts.{get_drop}
-use Rattle.traces.proofs.OwnEntries.{own_append, own_push}
-use Rattle.traces.proofs.Pushes.{pushed_length, take-push_whole}
-use Rattle.linearization.proofs.LogLaws.{take-one}
 use Rattle.linearization.specs.Direct.{is_step_of}
 use Rattle.linearization.specs.Progress.{AreAmong, ChangesTree, steps_from}
 use Rattle.linearization.specs.ReadersEnd.{one_memory}
 use Rattle.running_tree.specs.Calls.{IsSpent}
-use Rattle.running_tree.specs.Seats.{unfinished_command}
 use Rattle.running_tree.specs.declared.called.Called.TheVariants.{Done, Spent}
 use Rattle.map_laws.specs.Budgets.{LookupsAreDone}
 use Rattle.map_laws.proofs.Along.{Keeps, Now, along}
@@ -154,7 +149,7 @@ spent_steps : (old new : Seat) (command : Command) (budget : ℕ) → IsRun new.
 spent_steps old new command budget is_run same idle some spent =
     by_now (along new.seen new.actor (length old.seen) (AtRest new.seen new.actor (length old.seen) (length olds)) (UnderWay new.seen new.actor (length old.seen) (length olds)) new.limits is_run
     (keeps new.seen new.actor (length old.seen) (length olds)) old.seen spent.grows.0 olds spent.grows.1 (omega arith)
-    (inl (subst (λ a. command_of old.seen a ≡ None) (sym same.actor) idle, (omega arith, omega arith, λ e. refl))))
+    (inl (rw same.actor idle, (omega arith, omega arith, λ e. refl))))
   where
     olds : Calls
     olds = calls_of new.actor old.seen
@@ -189,8 +184,8 @@ spent_steps old new command budget is_run same idle some spent =
             last = h.0;
             late = u.late;
             within = h.1;
-            begun = subst (λ c. IsOperation new.seen (operation_at new.actor busy.start c)) command_is busy.opened.begins;
-            own_step = subst (λ c. IsOwnStep new.seen (operation_at new.actor busy.start c) h.0) command_is h.2;
+            begun = rw (← command_is) busy.opened.begins;
+            own_step = rw (← command_is) h.2;
             counted = h.3 ∙ as_many;
           }
         ]

@@ -1,7 +1,6 @@
 -- Each operation of a run is one of its actor's calls.
-use Rattle.map_laws.proofs.Words.{◌≡◌, ℕ, zero, suc, List, [], ◌∷◌, length, Bool, true, Option, Some, None, refl, sym, ap, subst, ◌∙◌, eq-eqb, if◌then◌else◌}
-use Rattle.map_laws.proofs.Words.{slice_get, Command, Reply, either, Entry, Begin, Step, is_entry_of, own_entries, slice_get_kept, slice_get-push}
-use Rattle.map_laws.proofs.Words.{answered_last, call_after, calls_along}
+use Rattle.map_laws.proofs.Words.{Begin, Command, Entry, List, None, Option, Reply, Some, Step, answered_last, ap, call_after, calls_along, either, eq-eqb}
+use Rattle.map_laws.proofs.Words.{is_entry_of, length, own_entries, refl, slice_get, slice_get-push, slice_get_kept, suc, true, zero, ℕ, [], ◌∙◌, ◌∷◌, ◌≡◌}
 use Rattle.map_laws.specs.InOrder.{IsCall}
 use Rattle.map_laws.proofs.Asking.{Calls}
 
@@ -35,7 +34,7 @@ along_tells : (actor : ℕ) (asked : Command) (calls : Calls) (entries : List En
 along_tells actor asked calls [] n at = absurd (cc)
 along_tells actor asked calls (entry ∷ entries) zero at =
     let is : entry ≡ Begin actor asked = cc in
-    along_keeps asked (call_after calls entry) entries (subst (λ e. IsAmong asked (call_after calls e)) (sym is) (length calls, None, slice_get-push calls (asked, None)))
+    along_keeps asked (call_after calls entry) entries (rw is (length calls, None, slice_get-push calls (asked, None)))
 along_tells actor asked calls (entry ∷ entries) (suc n) at = along_tells actor asked (call_after calls entry) entries n at
 
 own_begin : (actor : ℕ) (asked : Command) (run : List Entry) (n : ℕ) → slice_get run n ≡ Some (Begin actor asked) → (m : ℕ) × (slice_get (own_entries actor run) m ≡ Some (Begin actor asked))
@@ -43,13 +42,13 @@ own_begin actor asked [] n at = absurd (cc)
 own_begin actor asked (entry ∷ run) zero at =
     let is : entry ≡ Begin actor asked = cc in
     let mine : is_entry_of actor entry ≡ true = ap (is_entry_of actor) is ∙ eq-eqb actor actor refl in
-    (0, subst (λ (b : Bool). slice_get (if b then entry ∷ own_entries actor run else own_entries actor run) 0 ≡ Some (Begin actor asked)) (sym mine) at)
+    (0, rw mine at)
 own_begin actor asked (entry ∷ run) (suc n) at = by_rest (own_begin actor asked run n at)
   where
     by_rest : (m : ℕ) × (slice_get (own_entries actor run) m ≡ Some (Begin actor asked)) → (m : ℕ) × (slice_get (own_entries actor (entry ∷ run)) m ≡ Some (Begin actor asked))
     by_rest (m, there) = either (is_entry_of actor entry)
-        (λ mine. (suc m, subst (λ (b : Bool). slice_get (if b then entry ∷ own_entries actor run else own_entries actor run) (suc m) ≡ Some (Begin actor asked)) (sym mine) there))
-        (λ apart. (m, subst (λ (b : Bool). slice_get (if b then entry ∷ own_entries actor run else own_entries actor run) m ≡ Some (Begin actor asked)) (sym apart) there))
+        (λ mine. (suc m, rw mine there))
+        (λ apart. (m, rw apart there))
 
 pub told_call : (run : List Entry) (actor start : ℕ) (asked : Command) → slice_get run start ≡ Some (Begin actor asked) → IsCall run actor asked
 told_call run actor start asked at = let (m, there) = own_begin actor asked run start at in along_tells actor asked [] (own_entries actor run) m there

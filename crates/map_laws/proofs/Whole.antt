@@ -1,14 +1,11 @@
 -- A call that is done is one whole operation of the run that it has left.
-use Rattle.map_laws.proofs.Words.{◌≡◌, ◌<◌, ◌≤◌, ◌+◌, ℕ, zero, suc, List, [], ◌∷◌, ◌++◌, length, Bool, true, false, Option, Some, None, refl, sym, ap, subst}
-use Rattle.map_laws.proofs.Words.{◌∙◌, arith, eq-eqb, append_assoc, if◌then◌else◌, slice_get, dite, ℕ_discrete, Limits, Command, Reply, Leave, Entry, Begin}
-use Rattle.map_laws.proofs.Words.{Step, is_entry_of, own_entries, IsRun, slice_get-push, slice_get_below, slice_get_kept, Finishes, IsOperation, IsOwnStep}
-use Rattle.map_laws.proofs.Words.{Operation, IsDone, answered_last, calls_along, calls_in, IsSame, Seat}
+use Rattle.map_laws.proofs.Words.{Begin, Bool, ComesBefore, Command, Done, Entry, Finishes, IsDone, IsOperation, IsRun, IsSame, Leave, Limits, List, None}
+use Rattle.map_laws.proofs.Words.{Operation, Reply, Seat, Some, Step, answered_last, ap, append_assoc, arith, calls_along, calls_in, dite, eq-eqb, false}
+use Rattle.map_laws.proofs.Words.{if◌then◌else◌, is_entry_of, length, own_append, own_entries, refl, slice_get, slice_get-append_left, slice_get-push}
+use Rattle.map_laws.proofs.Words.{slice_get_below, slice_get_kept, suc, sym, true, zero, ℕ, ℕ_discrete, [], ◌++◌, ◌+◌, ◌<◌, ◌∙◌, ◌∷◌, ◌≡◌, ◌≤◌}
 use Rattle.std.proofs.Common.{length-append}
-use Rattle.bw_model.specs.declared.step.Answer.TheVariants.{Done}
-use Rattle.traces.proofs.OwnEntries.{own_append, own_extends}
-use Rattle.traces.proofs.Pushes.{slice_get-append_left}
+use Rattle.traces.proofs.OwnEntries.{own_extends}
 use Rattle.running_tree.specs.Calls.{BeginsIn}
-use Rattle.running_tree.specs.RealTime.{ComesBefore}
 use Rattle.map_laws.specs.RealTime.{AreApart, call_operation}
 use Rattle.map_laws.proofs.Along.{get_middle}
 use Rattle.map_laws.proofs.Asking.{Calls}
@@ -49,7 +46,7 @@ none_begun : (actor : ℕ) (entries : List Entry) → begun (own_entries actor e
 none_begun actor [] none n asked at = cc
 none_begun actor (entry ∷ entries) none zero asked at =
     let is : entry ≡ Begin actor asked = cc in
-    let one : begun (own_entries actor (Begin actor asked ∷ entries)) ≡ 0 = subst (λ (e : Entry). begun (own_entries actor (e ∷ entries)) ≡ 0) is none in
+    let one : begun (own_entries actor (Begin actor asked ∷ entries)) ≡ 0 = rw is at none in
     let more = ap begun (own_begin actor asked entries) in absurd (omega arith)
 none_begun actor (entry ∷ entries) none (suc n) asked at = none_begun actor entries (fewer entry (is_entry_of actor entry) none) n asked at
   where
@@ -151,15 +148,13 @@ module _ (old first : Seat) (command : Command) (budget : ℕ) (given : Reply) (
       let more : List Entry = comes.before.0 ++ Begin later.actor asked ∷ comes.begins.after in
       let one : Operation = call_operation old command first.seen is.begins in
       let done : ℕ = last old first command budget given same is is.begins in
-      let ends : Finishes new.seen one done given = subst (λ (run : List Entry). Finishes run one done given) (sym grown)
-      (finishes_on first.seen more one done given (whole old first command budget given same is is.begins)) in
+      let ends : Finishes new.seen one done given = rw grown (finishes_on first.seen more one done given (whole old first command budget given same is is.begins)) in
       let below = last_below old first command budget given same is is.begins in
       let long : length comes.begins.before ≡ length first.seen + length comes.before.0 = ap length comes.before.1 ∙ length-append first.seen comes.before.0 in
       let order : done < length comes.begins.before = omega arith in
       record {
         done = done;
-        opens = subst (λ (run : List Entry). IsOperation run one) (sym grown)
-            (slice_get_kept first.seen more one.start (Begin old.actor command) (opens old first command budget given same is is.begins));
+        opens = rw grown (slice_get_kept first.seen more one.start (Begin old.actor command) (opens old first command budget given same is is.begins));
         ends = ends;
         begins = ap (λ (run : List Entry). slice_get run (length comes.begins.before)) comes.begins.is ∙ get_middle comes.begins.before (Begin later.actor asked) comes.begins.after;
         apart = order;

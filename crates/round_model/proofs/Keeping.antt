@@ -39,7 +39,8 @@ Passed limits key floor k now pid earlier (Merge left) = IsKept limits now left 
 Passed limits key floor k now pid earlier (Unterm parent left) = IsLosingTerm limits now earlier parent left
 
 -- A page was read whole, on the way of the goal.
-pub record HasReached (limits : Limits) (key : List ℕ) (floor : ℕ) (splits : Bool) (goal : WriteGoal) (parent left : Option Version) (k now : Knowledge) (r : Recalled) (version : Version) : Type 0 where
+pub record HasReached (limits : Limits) (key : List ℕ) (floor : ℕ) (splits : Bool) (goal : WriteGoal) (parent left : Option Version) (k now : Knowledge) (r : Recalled)
+    (version : Version) : Type 0 where
   pub level : ℕ
   pub low : List ℕ
   pub earlier : List ℕ
@@ -204,7 +205,8 @@ module _ (limits : Limits) (key : List ℕ) (floor : ℕ) (splits : Bool) (goal 
             (there visit VisitsAt (Row b.head b.row) (answer.Content b.content) told b.asked b.is h)))
       ]
 
-  pub reached_next : (version : Version) → Completes visit told version → HasReached limits key floor splits goal parent left k (learn k (wanted_step visit) told) (recall r (wanted_step visit) told) version
+  pub reached_next : (version : Version) → Completes visit told version
+      → HasReached limits key floor splits goal parent left k (learn k (wanted_step visit) told) (recall r (wanted_step visit) told) version
   reached_next version b =
       let fits = there visit FitsAt (Row version.head b.row) (answer.Content b.content) told b.asked b.is f in
       back visit (λ v x. HasReached limits key floor splits goal parent left k (learn k (wanted_step v) x) (recall r (wanted_step v) x) version)

@@ -184,7 +184,8 @@ IsLed way None None pid level low = low ≡ []
 IsLed way None (Some left) pid level low = (0 < level) ⊎ IsNextToFirst left pid low
 
 -- A page is visited on the way to the key.
-pub record VisitsToWrite (limits : Limits) (key : List ℕ) (floor : ℕ) (splits : Bool) (goal : WriteGoal) (parent left : Option Version) (k : Knowledge) (r : Recalled) (visit : page.Visit) : Type 0 where
+pub record VisitsToWrite (limits : Limits) (key : List ℕ) (floor : ℕ) (splits : Bool) (goal : WriteGoal) (parent left : Option Version) (k : Knowledge) (r : Recalled)
+    (visit : page.Visit) : Type 0 where
   pub level : ℕ
   pub low : List ℕ
   pub earlier : List ℕ

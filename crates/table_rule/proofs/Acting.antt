@@ -1,33 +1,16 @@
 -- Each step that is one atomic operation on a word keeps the rule.
-use Rattle.std.proofs.Common.{◌≡◌, ℕ, ◌<◌, eqb, Bool, true, false, List, get_or, set, sym, refl, ap, ◌∙◌, subst, arith, get_or-set_other}
-use Rattle.std.specs.Prelude.{Option, if◌then◌else◌}
-use mathlib.Core.Option.{some}
-use lib.ListN.{get_elem?}
+use Rattle.table_rule.proofs.Words.{Allows, Answer, Bool, Command, Done, Entry, Event, Idle, IsLawfulStep, IsOf, IsSettled, Limits, List, Memory, Mine, Option}
+use Rattle.table_rule.proofs.Words.{Record, Reply, SitsAt, SpellsWhere, alone, ap, arith, eqb, false, get_elem?, get_or, get_or-set_other, if◌then◌else◌}
+use Rattle.table_rule.proofs.Words.{memory_after, memory_of, refl, row_at, seen_of, set, some, subst, sym, true, width_of, words_in, ℕ, ◌<◌, ◌∙◌, ◌≡◌}
 use prog.Atomic.{either}
-use Rattle.atomic_table.specs.Table.{Allows}
 use Rattle.atomic_table.specs.Seated.{TableId}
-use Rattle.bw_model.specs.declared.command.Command.{Command}
-use Rattle.bw_model.specs.declared.command.Reply.{Reply}
-use Rattle.tree_limits.specs.declared.limits.Limits.{Limits}
 use Rattle.tree_limits.specs.Limits.{most_large_actors}
-use Rattle.bw_model.specs.declared.step.Answer.{Answer}
-use Rattle.bw_model.specs.declared.step.Answer.TheVariants.{Done}
 use Rattle.bw_model.specs.declared.step.Step.{Step}
-use Rattle.deltas.specs.declared.record.Record.{Record}
-use Rattle.deltas.specs.Memory.{Memory}
-use Rattle.traces.specs.declared.trace.Entry.{Entry}
-use Rattle.traces.specs.trace.Steps.{memory_after}
-use Rattle.traces.specs.trace.Trace.{memory_of}
 use Rattle.tree_words.specs.Changes.{HasWord, SetsBits, TellsNothing, changed_word, left_by, operation_of, answer_by, word_after, words_after, SpellsParts}
 use Rattle.tree_words.specs.Changes.{ChangesOneWord, OperationsLeaveWords, StepsChangeOneWord, StoresTellNothing, WordsStandApart, HasOwnWord}
 use Rattle.tree_words.specs.declared.operations.Operation.{Operation}
 use Rattle.tree_words.specs.declared.operations.Operation.TheVariants as operation
-use Rattle.tree_words.specs.Layout.{row_at, width_of}
-use Rattle.tree_words.specs.Words.{words_in, SpellsWhere}
-use Rattle.table_rule.specs.declared.view.Reach.TheVariants.{Idle}
-use Rattle.table_rule.specs.Running.{IsSettled}
-use Rattle.table_rule.specs.Steps.{IsLawfulStep, Acts, Event}
-use Rattle.table_rule.specs.Views.{Mine, alone, seen_of, SitsAt, IsOf}
+use Rattle.table_rule.specs.Steps.{Acts}
 use Rattle.table_rule.proofs.Parts.{settled_back, spells_views}
 use Rattle.table_rule.proofs.Turns.{TableState, Rule, Ready, event}
 

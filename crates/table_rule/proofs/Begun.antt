@@ -1,18 +1,7 @@
 -- The store of the second word of an own row, by which a record begins to be placed there in a large tree, keeps the rule.
-use Rattle.std.proofs.Common.{◌≡◌, ℕ, ◌<◌, true, List, [], ◌∷◌, refl, ap, ◌∙◌, arith}
-use mathlib.Core.Option.{some, none}
-use lib.ListN.{get_elem?}
-use Rattle.atomic_table.specs.Table.{step, keeps, Allows}
-use Rattle.tree_limits.specs.declared.limits.Limits.{Limits}
-use Rattle.traces.specs.declared.trace.Entry.{Entry}
-use Rattle.traces.specs.discipline.Knowledge.{knows}
-use Rattle.tree_words.proofs.RowWidths.{few_words, row_within, some_words}
-use Rattle.tree_words.specs.Layout.{row_at}
-use Rattle.table_rule.specs.declared.view.Reach.TheVariants.{Idle, Writing}
-use Rattle.table_rule.specs.declared.view.Part.{Part}
-use Rattle.table_rule.specs.Running.{KnowsPlaceable, KeepsRowsApart}
+use Rattle.table_rule.proofs.Words.{Allows, Entry, Idle, KeepsRowsApart, KnowsPlaceable, Limits, List, Mine, Part, SitsAt, Writing, alone, ap, arith, few_words}
+use Rattle.table_rule.proofs.Words.{get_elem?, keeps, knows, none, refl, row_at, row_within, seen_of, some, some_words, step, true, ℕ, [], ◌<◌, ◌∙◌, ◌∷◌, ◌≡◌}
 use Rattle.table_rule.specs.Steps.{Begins}
-use Rattle.table_rule.specs.Views.{alone, Mine, seen_of, SitsAt}
 use Rattle.table_rule.proofs.OwnRows.{may_now, part_stored, stand_with}
 use Rattle.table_rule.proofs.RowPlaces.{same_row}
 use Rattle.table_rule.proofs.Turns.{Rule, same_actor, same_limits}

@@ -1,11 +1,8 @@
 -- One word of a row changes.
-use Rattle.std.proofs.Common.{◌≡◌, ℕ, ◌<◌, List, get_or, set, sym, ◌∙◌, subst, arith, get_or-set_other}
-use Rattle.tree_limits.specs.declared.limits.Limits.{Limits}
-use Rattle.deltas.specs.Memory.{Memory}
+use Rattle.table_rule.proofs.Words.{Limits, List, Memory, SpellsWhere, arith, few_words, get_or, get_or-set_other, row_at, row_within, set, subst, sym, used_in}
+use Rattle.table_rule.proofs.Words.{width_of, words_in, ℕ, ◌<◌, ◌∙◌, ◌≡◌}
 use Rattle.traces.specs.trace.Steps.{IsWordOf}
-use Rattle.tree_words.proofs.RowWidths.{few_words, row_within}
-use Rattle.tree_words.specs.Layout.{width_of, row_at, slot_at, epoch_at, announced_at, pid_bits_at, row_bits_at}
-use Rattle.tree_words.specs.Words.{used_in, words_in, SpellsWhere}
+use Rattle.tree_words.specs.Layout.{slot_at, epoch_at, announced_at, pid_bits_at, row_bits_at}
 
 module _ (limits : Limits) where
   -- A word of a row changes, and so no word but this row's.

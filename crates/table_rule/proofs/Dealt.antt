@@ -1,34 +1,19 @@
 -- The opening words with a view of all actors keep the rule.
-use Rattle.std.proofs.Common.{◌≡◌, ◌≢◌, ℕ, zero, suc, ◌+◌, ◌<◌, ◌≤◌, Bool, true, false, eqb, List, [], ◌∷◌, length, sym, refl, ap, subst, arith, eq-eqb, ne_eqb}
-use Rattle.std.specs.Prelude.{if◌then◌else◌, Some, None}
+use Rattle.table_rule.proofs.Words.{AreWordsOf, Bool, Each, Entry, HasSpelling, IsSettled, IsSpelledRow, Limits, List, None, Part, PartFits, Record, Running}
+use Rattle.table_rule.proofs.Words.{Some, ap, arith, compact_words, dite, eq-eqb, eqb, eqb-true, extends_self, false, get_elem?, if◌then◌else◌, length, ne_eqb}
+use Rattle.table_rule.proofs.Words.{one_width, refl, same_Some, some, some-injective, some-ne-none, some_words, stored, subst, suc, sym, times, true, width_of}
+use Rattle.table_rule.proofs.Words.{zero, ℕ, ℕ_discrete, [], ◌+◌, ◌<◌, ◌∷◌, ◌≡◌, ◌≢◌, ◌≤◌}
 use Rattle.std.specs.List.Sorted.{IsStrictlySortedBy}
-use Rattle.std.proofs.lemmas.Bool.{eqb-true}
 use Rattle.std.proofs.lemmas.List.Elements.{All-nil}
-use Rattle.std.proofs.lemmas.Option.{same_Some}
-use mathlib.Core.Logic.{dite}
-use mathlib.Core.Option.{some, some-injective, some-ne-none}
-use native.Mathlib.Decide.{ℕ_discrete}
-use lib.ListN.{get_elem?}
 use Rattle.atomic_table.specs.Table.{opening}
-use Rattle.tree_limits.specs.declared.limits.Limits.{Limits}
 use Rattle.base_page.specs.Pages.{IsAscending, empty_leaf}
-use Rattle.deltas.specs.declared.record.Record.{Record}
 use Rattle.deltas.specs.declared.record.Record.TheVariants.{Base}
 use Rattle.deltas.specs.Memory.{opening as memory_opening}
 use Rattle.deltas.specs.Spellable.{IsSpellablePage}
-use Rattle.traces.specs.declared.trace.Entry.{Entry}
 use Rattle.record_slots.specs.Spelling.{words_of}
 use Rattle.record_slots.proofs.SpellingLaws.{spelling_length}
-use Rattle.compact_rows.specs.Spelling.{compact_words}
-use Rattle.tree_words.proofs.RowWidths.{one_width, some_words}
-use Rattle.tree_words.specs.Layout.{width_of}
-use Rattle.tree_words.specs.Words.{AreWordsOf, stored}
-use Rattle.table_rule.specs.declared.view.Part.{Part}
-use Rattle.record_slots.specs.Spells.{HasSpelling}
-use Rattle.table_rule.specs.Running.{Each, IsSpelledRow, IsSettled, times, PartFits, Running}
 use Rattle.table_rule.specs.Views.{dealt, dealt_from}
 use Rattle.table_rule.proofs.Parts.{mark, spells_views}
-use Rattle.traces.proofs.OwnEntries.{extends_self}
 
 mark_most : (b : Bool) → mark b ≤ 1
 mark_most true = omega arith

@@ -1,30 +1,11 @@
 -- A step is taken right after the longest run.
-use Rattle.std.proofs.Common.{◌≡◌, ◌≢◌, ◌⊎◌, inl, inr, ℕ, suc, ◌+◌, ◌<◌, ◌≤◌, Bool, true, List, [], ◌∷◌, ◌++◌, length, set, sym, refl, ap, ◌∙◌, subst}
-use Rattle.std.proofs.Common.{arith, append-nil, append_assoc, length-append, eq-eqb}
-use Rattle.std.specs.Prelude.{if◌then◌else◌, None, Option, Some, slice_get}
-use mathlib.Core.Logic.{dite}
-use mathlib.Core.Option.{some}
-use native.Mathlib.Decide.{ℕ_discrete}
-use lib.ListN.{get_elem?}
-use Rattle.atomic_table.proofs.Lists.{set_else}
-use Rattle.bw_model.specs.declared.command.Command.{Command}
-use Rattle.bw_model.specs.declared.command.Reply.{Reply}
-use Rattle.bw_model.specs.declared.step.Answer.{Answer}
-use Rattle.bw_model.specs.declared.step.Step.{Step as StepOf}
-use Rattle.deltas.specs.declared.record.Record.{Record}
-use Rattle.tree_limits.specs.declared.limits.Limits.{Limits}
-use Rattle.traces.specs.declared.trace.Entry.{Entry}
-use Rattle.traces.specs.declared.trace.Entry.TheVariants.{Begin, Step}
-use Rattle.traces.specs.discipline.Disciplined.{Extends, is_entry_of, own_entries}
+use Rattle.table_rule.proofs.Words.{Answer, Begin, Bool, Command, Each, Entry, Extends, Idle, IsSeen, Limits, List, Mine, Moment, None, Noted, Option, Part}
+use Rattle.table_rule.proofs.Words.{Reach, Record, Reply, Running, Some, StartsWith, Step, StepOf, TakesStep, Writing, ap, append-nil, append_assoc, arith}
+use Rattle.table_rule.proofs.Words.{dite, entry_actor, eq-eqb, get_elem?, if◌then◌else◌, inl, inr, is_entry_of, length, length-append, own_entries, part, refl}
+use Rattle.table_rule.proofs.Words.{seen_of, set, set_else, slice_get, some, steps, subst, suc, sym, true, ℕ, ℕ_discrete, [], ◌++◌, ◌+◌, ◌<◌, ◌∙◌, ◌∷◌, ◌≡◌}
+use Rattle.table_rule.proofs.Words.{◌≢◌, ◌≤◌, ◌⊎◌}
 use Rattle.traces.proofs.OwnEntries.{extends_on, own_append, own_extends}
-use Rattle.table_rule.specs.declared.view.Reach.{Reach}
-use Rattle.table_rule.specs.declared.view.Reach.TheVariants.{Idle, Writing, Noted}
-use Rattle.table_rule.specs.declared.view.Part.{Part}
 use Rattle.table_rule.specs.Growing.{HasSat, HasSeen, StepsExtendTheLongest}
-use Rattle.table_rule.specs.Longest.{IsSeen}
-use Rattle.table_rule.specs.Moments.{Moment, TakesStep, steps}
-use Rattle.table_rule.specs.Running.{Each, Running, StartsWith, entry_actor}
-use Rattle.table_rule.specs.Views.{Mine, part, seen_of}
 use Rattle.table_rule.proofs.Growing.{begun_by, cancel, fronts, sat_extends}
 use Rattle.table_rule.proofs.Later.{on_set, only, turns_on}
 use Rattle.table_rule.proofs.Longest.{in_view, in_views, longest_seen, stands_as, whole}

@@ -1,36 +1,15 @@
 -- The stores of a row that is written keep the rule.
-use Rattle.std.proofs.Common.{◌≡◌, ◌≢◌, inl, inr, ℕ, zero, suc, ◌+◌, ◌<◌, ◌≤◌, List, [], ◌∷◌, ◌++◌, length, get_or, set, sym, refl, ap, ◌∙◌, subst, ⊎_elim, arith}
-use Rattle.std.proofs.Common.{add-one, length-append, get_or-set_same, get_or-set_other}
-use Rattle.std.specs.Prelude.{true, false, Option, None, Some}
-use Rattle.std.proofs.lemmas.Bool.{cases_Bool, cases_lt}
-use Rattle.std.proofs.lemmas.List.{get_or-take, length-take-le}
-use Rattle.std.proofs.lemmas.Option.{same_Some}
-use mathlib.Core.Logic.{dite}
-use mathlib.Core.Option.{some}
-use native.Mathlib.Decide.{ℕ_discrete}
-use lib.ListN.{get_elem?}
-use Rattle.atomic_table.specs.Table.{keeps, Allows}
-use Rattle.tree_limits.specs.declared.limits.Limits.{Limits}
-use Rattle.bw_model.specs.declared.step.Answer.TheVariants.{Done}
-use Rattle.bw_model.specs.declared.step.Step.{Step as StepOf}
-use Rattle.bw_model.specs.declared.step.Step.TheVariants.{Place}
-use Rattle.deltas.specs.declared.record.Record.{Record}
-use Rattle.deltas.specs.Memory.{Memory, replaced_at}
-use Rattle.traces.specs.declared.trace.Entry.{Entry}
-use Rattle.traces.specs.discipline.Knowledge.{knows}
-use Rattle.traces.specs.trace.Trace.{memory_of}
-use Rattle.record_slots.specs.Layout.{row_size}
-use Rattle.compact_rows.specs.Spelling.{compact_words}
-use Rattle.record_slots.specs.Spells.{HasSpelling}
-use Rattle.tree_words.proofs.RowWidths.{few_words, one_width, row_within, some_words}
-use Rattle.tree_words.specs.Layout.{row_at, width_of}
-use Rattle.tree_words.specs.Words.{stored, used_in, words_in}
-use Rattle.table_rule.specs.declared.view.Reach.{Reach}
-use Rattle.table_rule.specs.declared.view.Reach.TheVariants.{Idle, Writing, Noted}
-use Rattle.table_rule.specs.declared.view.Part.{Part}
-use Rattle.table_rule.specs.Running.{IsPartWritten, IsSettled, KnowsPlaceable, KeepsRowsApart, LeavesRow}
-use Rattle.table_rule.specs.Steps.{IsLawfulStep, Took, Fills, IsStored, Places, tail_from, used_by, words_over, written_over}
-use Rattle.table_rule.specs.Views.{alone, Mine, seen_of, SitsAt}
+use Rattle.table_rule.proofs.Words.{Allows, Done, Entry, HasSpelling, Idle, IsLawfulStep, IsPartWritten, IsSettled, IsStored, KeepsRowsApart, KnowsPlaceable}
+use Rattle.table_rule.proofs.Words.{LeavesRow, Limits, List, Memory, Mine, None, Noted, Option, Part, Place, Reach, Record, SitsAt, Some, StepOf, Took, Writing}
+use Rattle.table_rule.proofs.Words.{add-one, alone, ap, arith, cases_lt, compact_words, dite, few_words, get_elem?, get_or, get_or-set_other, get_or-set_same}
+use Rattle.table_rule.proofs.Words.{inl, inr, keeps, knows, length, length-append, length-take-le, memory_of, one_width, refl, row_at, row_size, row_within}
+use Rattle.table_rule.proofs.Words.{same_Some, seen_of, set, some, some_words, stored, subst, suc, sym, tail_from, used_by, used_in, width_of, words_in}
+use Rattle.table_rule.proofs.Words.{words_over, written_over, zero, ℕ, ℕ_discrete, [], ⊎_elim, ◌++◌, ◌+◌, ◌<◌, ◌∙◌, ◌∷◌, ◌≡◌, ◌≢◌, ◌≤◌}
+use Rattle.std.specs.Prelude.{true, false}
+use Rattle.std.proofs.lemmas.Bool.{cases_Bool}
+use Rattle.std.proofs.lemmas.List.{get_or-take}
+use Rattle.deltas.specs.Memory.{replaced_at}
+use Rattle.table_rule.specs.Steps.{Fills, Places}
 use Rattle.table_rule.proofs.ByWord.{spells_row}
 use Rattle.table_rule.proofs.OwnRows.{may_now, no_other, other_row, others_row, part_stored, stand_with}
 use Rattle.table_rule.proofs.UsedWords.{over_few, over_large, over_small, zero_behind_in}

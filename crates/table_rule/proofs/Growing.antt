@@ -1,18 +1,8 @@
 -- The longest run only grows at its end.
-use Rattle.std.proofs.Common.{◌≡◌, ◌≢◌, ◌⊎◌, inl, inr, ℕ, Bool, true, false, List, [], ◌∷◌, ◌++◌, sym, refl, ap, ◌∙◌, subst, append_assoc}
-use Rattle.std.specs.Prelude.{if◌then◌else◌}
-use Rattle.bw_model.specs.declared.command.Command.{Command}
-use Rattle.tree_limits.specs.declared.limits.Limits.{Limits}
-use Rattle.traces.specs.declared.trace.Entry.{Entry}
-use Rattle.traces.specs.declared.trace.Entry.TheVariants.{Begin}
-use Rattle.traces.specs.discipline.Disciplined.{Extends, is_entry_of, own_entries}
-use Rattle.table_rule.specs.declared.view.Reach.{Reach}
-use Rattle.table_rule.specs.declared.view.Reach.TheVariants.{Idle, Writing, Noted}
-use Rattle.table_rule.specs.declared.view.Part.{Part}
+use Rattle.table_rule.proofs.Words.{Begin, Bool, Command, Entry, Extends, Idle, IsSeen, Limits, List, Moment, Noted, Part, PartFits, Reach, Running, StartsWith}
+use Rattle.table_rule.proofs.Words.{Writing, ap, append_assoc, false, if◌then◌else◌, inl, inr, is_entry_of, own_entries, refl, subst, sym, true, ℕ, [], ◌++◌}
+use Rattle.table_rule.proofs.Words.{◌∙◌, ◌∷◌, ◌≡◌, ◌≢◌, ◌⊎◌}
 use Rattle.table_rule.specs.Growing.{HasSat, HasSeen, HistoryGrows, KeepsRealTime}
-use Rattle.table_rule.specs.Longest.{IsSeen}
-use Rattle.table_rule.specs.Moments.{Moment}
-use Rattle.table_rule.specs.Running.{PartFits, Running, StartsWith}
 use Rattle.table_rule.proofs.Longest.{each_get, is_own, longest_seen}
 use Rattle.table_rule.proofs.Later.{sees_on, starts}
 use Rattle.table_rule.proofs.Parts.{Stands, goes_extends, starts_on}

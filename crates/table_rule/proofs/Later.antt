@@ -1,28 +1,14 @@
 -- What one operation makes of what seats know: nothing that was seen is forgotten.
-use Rattle.std.proofs.Common.{◌≡◌, ◌≢◌, ℕ, zero, suc, List, [], ◌∷◌, ◌++◌, map, length, get_or, set, sym, refl, ap, ◌∙◌, subst}
-use Rattle.std.specs.Prelude.{None, Some, slice_get}
-use mathlib.Core.Logic.{dite}
-use mathlib.Core.Option.{some}
-use native.Mathlib.Decide.{ℕ_discrete}
-use lib.ListN.{get_elem?}
-use Rattle.atomic_table.specs.Table.{carried_after, stepped}
-use Rattle.atomic_table.proofs.Lists.{set_else, set_again, at_longer, at_last}
-use Rattle.bw_model.specs.declared.step.Answer.TheVariants.{Content, Done}
-use Rattle.bw_model.specs.declared.step.Step.{Step as StepOf}
-use Rattle.bw_model.specs.declared.step.Step.TheVariants.{Row}
-use Rattle.deltas.specs.declared.record.Record.{Record}
-use Rattle.tree_limits.specs.declared.limits.Limits.{Limits}
-use Rattle.traces.specs.declared.trace.Entry.{Entry}
+use Rattle.table_rule.proofs.Words.{Content, Done, Each, Entry, ExtendsFor, Idle, IsLater, IsRefreshed, Limits, List, Mine, Moment, None, Noted, Part, Reach}
+use Rattle.table_rule.proofs.Words.{Record, Row, SitsAt, Some, StartsWith, StepOf, TakesStep, Writing, ap, at_last, at_longer, cuts, dite, first_part}
+use Rattle.table_rule.proofs.Words.{get_elem?, get_or, joins, length, map, next, notes, other_parts, part, part_note, refl, same, seen_of, set, set_else}
+use Rattle.table_rule.proofs.Words.{slice_get, some, stepped, steps, subst, suc, sym, with_run, zero, ℕ, ℕ_discrete, [], ◌++◌, ◌∙◌, ◌∷◌, ◌≡◌, ◌≢◌}
+use Rattle.atomic_table.specs.Table.{carried_after}
+use Rattle.atomic_table.proofs.Lists.{set_again}
 use Rattle.tree_words.specs.Changes.{answer_by}
-use Rattle.table_rule.specs.declared.view.Reach.{Reach}
-use Rattle.table_rule.specs.declared.view.Reach.TheVariants.{Idle, Writing, Noted}
-use Rattle.table_rule.specs.declared.view.Part.{Part}
 use Rattle.table_rule.specs.Growing.{HasSeen, SeesOn}
-use Rattle.table_rule.specs.Moments.{IsLater, Moment, Operates, AllowedOperate, OperationsTurn, TakesStep, Turns, with_views, same, next, steps}
-use Rattle.table_rule.specs.Moments.{places, sees, looks, turns, cuts, notes, joins, seats, lets_go}
-use Rattle.table_rule.specs.Running.{Each, ExtendsFor, StartsWith}
+use Rattle.table_rule.specs.Moments.{Operates, AllowedOperate, OperationsTurn, Turns, with_views, places, sees, looks, turns, seats, lets_go}
 use Rattle.table_rule.specs.Steps.{Watched}
-use Rattle.table_rule.specs.Views.{IsRefreshed, Mine, SitsAt, first_part, other_parts, part, part_note, seen_of, with_run}
 use Rattle.table_rule.proofs.Parts.{events, starts_self, starts_on, with_events}
 use Rattle.table_rule.proofs.Roster.{same_view, set_at}
 

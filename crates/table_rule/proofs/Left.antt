@@ -1,18 +1,7 @@
 -- A table that is closed with a seat in which all actors stand leaves the words of one run's memory.
-use Rattle.std.proofs.Common.{◌≡◌, ℕ, zero, suc, ◌+◌, ◌<◌, ◌≤◌, eqb, List, [], ◌∷◌, length, refl, ap, subst, arith, eq-eqb, ne_eqb}
-use mathlib.Core.Logic.{dite}
-use mathlib.Core.Option.{some}
-use native.Mathlib.Decide.{ℕ_discrete}
-use lib.ListN.{get_elem?}
-use Rattle.tree_limits.specs.declared.limits.Limits.{Limits}
-use Rattle.traces.specs.declared.trace.Entry.{Entry}
-use Rattle.traces.specs.discipline.Disciplined.{Extends}
-use Rattle.traces.specs.trace.Trace.{memory_of}
-use Rattle.tree_words.specs.Words.{AreWordsOf}
-use Rattle.table_rule.specs.declared.view.Reach.TheVariants.{Idle, Writing, Noted}
-use Rattle.table_rule.specs.declared.view.Reach.{Reach}
-use Rattle.table_rule.specs.declared.view.Part.{Part}
-use Rattle.table_rule.specs.Running.{Each, LeavesRow, IsSettled, is_at, times, PartFits, Running}
+use Rattle.table_rule.proofs.Words.{AreWordsOf, Each, Entry, Extends, Idle, IsSettled, LeavesRow, Limits, List, Noted, Part, PartFits, Reach, Running, Writing}
+use Rattle.table_rule.proofs.Words.{ap, arith, dite, eq-eqb, eqb, get_elem?, is_at, length, memory_of, ne_eqb, refl, some, subst, suc, times, zero, ℕ}
+use Rattle.table_rule.proofs.Words.{ℕ_discrete, [], ◌+◌, ◌<◌, ◌∷◌, ◌≡◌, ◌≤◌}
 use Rattle.table_rule.specs.Closing.{LeavesWords}
 use Rattle.table_rule.proofs.Parts.{IsApart, apart_ne, mark, each_map, each_zip, elsewhere, everywhere_one, spells_views}
 use Rattle.table_rule.proofs.Roster.{same_view}

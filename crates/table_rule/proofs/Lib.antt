@@ -17,3 +17,4 @@ mod Longest
 mod Later
 mod Growing
 mod Extended
+mod Words

@@ -1,18 +1,8 @@
 -- The longest run is one that a seat has seen: its last entry is an actor's, and each actor stands in a seat.
-use Rattle.std.proofs.Common.{◌≡◌, ◌≢◌, ℕ, zero, suc, ◌<◌, ◌≤◌, Bool, true, false, List, [], ◌∷◌, ◌++◌, sym, refl, ap, ◌∙◌, subst, arith, append-nil, eq-eqb}
-use Rattle.std.specs.Prelude.{if◌then◌else◌, Some, slice_get}
-use Rattle.std.proofs.lemmas.Bool.{eqb-true}
-use mathlib.Core.Option.{some}
-use lib.ListN.{get_elem?}
-use Rattle.tree_limits.specs.declared.limits.Limits.{Limits}
-use Rattle.traces.specs.declared.trace.Entry.{Entry}
-use Rattle.traces.specs.declared.trace.Entry.TheVariants.{Begin, Step}
-use Rattle.traces.specs.discipline.Disciplined.{Extends, is_entry_of, own_entries}
-use Rattle.table_rule.specs.declared.view.Reach.{Reach}
-use Rattle.table_rule.specs.declared.view.Reach.TheVariants.{Idle, Writing, Noted}
-use Rattle.table_rule.specs.declared.view.Part.{Part}
+use Rattle.table_rule.proofs.Words.{Begin, Bool, Each, Entry, Extends, Idle, Limits, List, Noted, Part, PartFits, Reach, Some, Step, Writing, ap, append-nil}
+use Rattle.table_rule.proofs.Words.{arith, entry_actor, eq-eqb, eqb-true, everywhere, false, get_elem?, if◌then◌else◌, is_at, is_entry_of, own_entries, refl}
+use Rattle.table_rule.proofs.Words.{slice_get, some, subst, suc, sym, times, true, zero, ℕ, [], ◌++◌, ◌<◌, ◌∙◌, ◌∷◌, ◌≡◌, ◌≢◌, ◌≤◌}
 use Rattle.table_rule.specs.Longest.{LongestIsSeen}
-use Rattle.table_rule.specs.Running.{Each, PartFits, entry_actor, everywhere, is_at, times}
 use Rattle.table_rule.proofs.Parts.{Stands, goes_extends, mark}
 
 -- the last entry is the actor's

@@ -1,26 +1,9 @@
 -- The look at an own row's first word, by which a record begins to be placed there, keeps the rule.
-use Rattle.std.proofs.Common.{◌≡◌, ℕ, ◌<◌, List, [], get_or, refl, ap, ◌∙◌, arith}
-use Rattle.std.proofs.lemmas.List.{set-get_or}
-use mathlib.Core.Logic.{dite}
-use mathlib.Core.Option.{some, none}
-use native.Mathlib.Decide.{ℕ_discrete}
-use lib.ListN.{get_elem?}
-use Rattle.atomic_table.specs.Table.{step, keeps, Allows}
-use Rattle.tree_limits.specs.declared.limits.Limits.{Limits}
-use Rattle.deltas.specs.Memory.{Memory}
-use Rattle.traces.specs.declared.trace.Entry.{Entry}
-use Rattle.traces.specs.discipline.Knowledge.{knows}
-use Rattle.traces.specs.trace.Trace.{memory_of}
-use Rattle.tree_words.proofs.RowWidths.{one_width, some_words}
-use Rattle.tree_words.specs.Layout.{row_at}
+use Rattle.table_rule.proofs.Words.{Allows, Entry, Idle, IsSettled, KeepsRowsApart, KnowsPlaceable, LeavesRow, Limits, List, Memory, Mine, Noted, Part}
+use Rattle.table_rule.proofs.Words.{PartFits, Reach, ReachFits, SitsAt, Writing, alone, ap, arith, dite, get_elem?, get_or, keeps, knows, memory_of, none}
+use Rattle.table_rule.proofs.Words.{one_width, refl, row_at, seen_of, set-get_or, some, some_words, step, words_in, ℕ, ℕ_discrete, [], ◌<◌, ◌∙◌, ◌≡◌}
 use Rattle.table_rule.proofs.RowPlaces.{same_row}
-use Rattle.tree_words.specs.Words.{words_in}
-use Rattle.table_rule.specs.declared.view.Reach.{Reach}
-use Rattle.table_rule.specs.declared.view.Reach.TheVariants.{Idle, Writing, Noted}
-use Rattle.table_rule.specs.declared.view.Part.{Part}
-use Rattle.table_rule.specs.Running.{IsSettled, KnowsPlaceable, KeepsRowsApart, LeavesRow, PartFits, ReachFits}
 use Rattle.table_rule.specs.Steps.{Measures}
-use Rattle.table_rule.specs.Views.{alone, Mine, seen_of, SitsAt}
 use Rattle.table_rule.proofs.OwnRows.{no_other}
 use Rattle.table_rule.proofs.UsedWords.{all_used, few_in, some_used}
 use Rattle.table_rule.proofs.Parts.{IsApart, apart_ne, each_zip, elsewhere, times_alone}

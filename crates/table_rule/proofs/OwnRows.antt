@@ -1,24 +1,9 @@
 -- A store into a row into which the seat's actor may place a record.
-use Rattle.std.proofs.Common.{◌≡◌, ◌≢◌, ℕ, ◌+◌, ◌<◌, List, [], ◌∷◌, ◌++◌, length, get_or, set, sym, refl, ◌∙◌, arith}
-use Rattle.std.proofs.Common.{length-append, get_or-set_same, get_or-set_other}
+use Rattle.table_rule.proofs.Words.{Entry, IsPartWritten, IsSettled, KeepsRowsApart, KnowsPlaceable, LeavesRow, Limits, List, Part, Reach, Writing, alone}
+use Rattle.table_rule.proofs.Words.{arith, dite, get_elem?, get_or, get_or-set_other, get_or-set_same, keeps, knows, length, length-append, memory_of, refl}
+use Rattle.table_rule.proofs.Words.{row_at, set, some, stepped, sym, used_in, width_of, words_in, ℕ, ℕ_discrete, [], ◌++◌, ◌+◌, ◌<◌, ◌∙◌, ◌∷◌, ◌≡◌, ◌≢◌}
 use Rattle.std.proofs.Math.Seq.{get_or-append_seam}
 use Rattle.std.proofs.lemmas.List.{get_or_append_left}
-use mathlib.Core.Logic.{dite}
-use mathlib.Core.Option.{some}
-use native.Mathlib.Decide.{ℕ_discrete}
-use lib.ListN.{get_elem?}
-use Rattle.atomic_table.specs.Table.{keeps, stepped}
-use Rattle.tree_limits.specs.declared.limits.Limits.{Limits}
-use Rattle.traces.specs.declared.trace.Entry.{Entry}
-use Rattle.traces.specs.discipline.Knowledge.{knows}
-use Rattle.traces.specs.trace.Trace.{memory_of}
-use Rattle.tree_words.specs.Layout.{row_at, width_of}
-use Rattle.tree_words.specs.Words.{used_in, words_in}
-use Rattle.table_rule.specs.declared.view.Reach.{Reach}
-use Rattle.table_rule.specs.declared.view.Reach.TheVariants.{Writing}
-use Rattle.table_rule.specs.declared.view.Part.{Part}
-use Rattle.table_rule.specs.Running.{IsPartWritten, IsSettled, KnowsPlaceable, KeepsRowsApart, LeavesRow}
-use Rattle.table_rule.specs.Views.{alone}
 use Rattle.table_rule.proofs.ByWord.{spells_row}
 use Rattle.table_rule.proofs.Parts.{Stands, settled_back, starts_self}
 use Rattle.table_rule.proofs.Roster.{set_at}

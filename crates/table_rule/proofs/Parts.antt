@@ -1,30 +1,12 @@
 -- Lists of parts, and runs that go on.
-use Rattle.std.proofs.Common.{◌≡◌, ◌≢◌, ℕ, zero, suc, ◌+◌, ◌<◌, ◌≤◌, eqb, Bool, false, List, [], ◌∷◌, ◌++◌, set, sym, refl, ap, ◌∙◌, arith, append_assoc, append-nil, eq-eqb, ne_eqb}
-use Rattle.std.specs.Prelude.{if◌then◌else◌, None, Some, Option, ⊤}
-use mathlib.Core.Option.{some, some-injective, some-ne-none}
-use mathlib.Core.Logic.{dite}
-use native.Mathlib.Decide.{ℕ_discrete}
-use lib.ListN.{get_elem?}
-use Rattle.atomic_table.proofs.Lists.{set_else}
-use Rattle.bw_model.specs.declared.command.Command.{Command}
-use Rattle.bw_model.specs.declared.command.Reply.{Reply}
-use Rattle.tree_limits.specs.declared.limits.Limits.{Limits}
-use Rattle.bw_model.specs.declared.step.Answer.{Answer}
-use Rattle.bw_model.specs.declared.step.Step.{Step as StepOf}
-use Rattle.deltas.specs.declared.record.Record.{Record}
-use Rattle.deltas.specs.Memory.{Memory}
-use Rattle.traces.specs.declared.trace.Entry.{Entry}
-use Rattle.traces.specs.declared.trace.Entry.TheVariants.{Begin, Step}
-use Rattle.traces.specs.discipline.Disciplined.{is_entry_of, Extends}
-use Rattle.traces.specs.trace.Steps.{memory_after}
-use Rattle.traces.specs.trace.Trace.{memory_of}
-use Rattle.tree_words.specs.Words.{SpellsWhere}
-use Rattle.table_rule.specs.declared.view.Reach.{Reach}
-use Rattle.table_rule.specs.declared.view.Reach.TheVariants.{Idle, Writing, Noted}
-use Rattle.table_rule.specs.declared.view.Part.{Part}
-use Rattle.table_rule.specs.Running.{Each, ExtendsFor, LeavesRow, IsSettled, StartsWith, GoesOnWithStep, BeginWithSteps, entry_actor, is_at, times, everywhere}
-use Rattle.table_rule.specs.Steps.{begin_before, with_step}
-use Rattle.table_rule.specs.Views.{alone}
+use Rattle.table_rule.proofs.Words.{Answer, Begin, BeginWithSteps, Bool, Command, Each, Entry, Extends, ExtendsFor, Idle, IsSettled, LeavesRow, Limits, List}
+use Rattle.table_rule.proofs.Words.{Memory, None, Noted, Option, Part, Reach, Record, Reply, Some, SpellsWhere, StartsWith, Step, StepOf, Writing, alone, ap}
+use Rattle.table_rule.proofs.Words.{append-nil, append_assoc, arith, dite, entry_actor, eq-eqb, eqb, everywhere, false, get_elem?, if◌then◌else◌, is_at}
+use Rattle.table_rule.proofs.Words.{is_entry_of, memory_after, memory_of, ne_eqb, refl, set, set_else, some, some-injective, some-ne-none, suc, sym, times}
+use Rattle.table_rule.proofs.Words.{with_step, zero, ℕ, ℕ_discrete, [], ◌++◌, ◌+◌, ◌<◌, ◌∙◌, ◌∷◌, ◌≡◌, ◌≢◌, ◌≤◌}
+use Rattle.std.specs.Prelude.{⊤}
+use Rattle.table_rule.specs.Running.{GoesOnWithStep}
+use Rattle.table_rule.specs.Steps.{begin_before}
 use Rattle.traces.proofs.OwnEntries.{AreOthers, others_append}
 use Rattle.traces.proofs.TraceLaws.{memory_of-push}
 

@@ -1,25 +1,14 @@
 -- Refreshing, splitting and joining seats keeps the rule, and so does a new seat.
-use Rattle.std.proofs.Common.{◌≡◌, ◌≢◌, ℕ, zero, suc, ◌+◌, ◌<◌, ◌≤◌, List, [], ◌∷◌, ◌++◌, map, length, set, sym, refl, ap, ◌∙◌, ⊎_elim, arith}
-use Rattle.std.proofs.lemmas.List.{set-get_or}
-use mathlib.Core.Logic.{dite}
-use mathlib.Core.Option.{none, some, some-injective, some-ne-none}
-use native.Mathlib.Decide.{ℕ_discrete}
-use lib.ListN.{get_elem?}
-use Rattle.atomic_table.specs.Table.{step, keeps, Allows, Splits, Joins, Enters as NewSeat}
-use Rattle.atomic_table.proofs.Lists.{at_set, set_else, at_snoc, at_longer, at_last}
-use Rattle.tree_limits.specs.declared.limits.Limits.{Limits}
-use Rattle.deltas.specs.Memory.{Memory}
-use Rattle.traces.specs.declared.trace.Entry.{Entry}
-use Rattle.traces.specs.trace.Trace.{memory_of}
-use Rattle.tree_words.specs.Words.{SpellsWhere}
-use Rattle.table_rule.specs.declared.view.Reach.{Reach}
-use Rattle.table_rule.specs.declared.view.Reach.TheVariants.{Idle, Writing, Noted}
-use Rattle.table_rule.specs.declared.view.Part.{Part}
-use Rattle.table_rule.specs.Running.{Each, ExtendsFor, LeavesRow, IsSettled, StartsWith, everywhere, is_at, times, PartFits, Running}
-use Rattle.table_rule.specs.Views.{Mine, IsRefreshed, Refreshes, with_run, IsBlank, first_part, part_note, other_parts}
+use Rattle.table_rule.proofs.Words.{Allows, Each, Entry, ExtendsFor, Idle, IsRefreshed, IsSettled, LeavesRow, Limits, List, Memory, Mine, Noted, Part, PartFits}
+use Rattle.table_rule.proofs.Words.{Reach, Running, SpellsWhere, StartsWith, Writing, ap, arith, at_last, at_longer, at_set, dite, everywhere, extends_self}
+use Rattle.table_rule.proofs.Words.{first_part, get_elem?, is_at, keeps, length, map, memory_of, none, other_parts, part_note, refl, set, set-get_or, set_else}
+use Rattle.table_rule.proofs.Words.{some, some-injective, some-ne-none, step, suc, sym, times, with_run, zero, ℕ, ℕ_discrete, [], ⊎_elim, ◌++◌, ◌+◌, ◌<◌, ◌∙◌}
+use Rattle.table_rule.proofs.Words.{◌∷◌, ◌≡◌, ◌≢◌, ◌≤◌}
+use Rattle.atomic_table.specs.Table.{Splits, Joins, Enters as NewSeat}
+use Rattle.atomic_table.proofs.Lists.{at_snoc}
+use Rattle.table_rule.specs.Views.{Refreshes, IsBlank}
 use Rattle.table_rule.proofs.Turns.{TableState}
 use Rattle.table_rule.proofs.Parts.{mark, each_map, each_append, extends_goes, everywhere_set, everywhere_snoc, times_append, spells_views}
-use Rattle.traces.proofs.OwnEntries.{extends_self}
 
 pub set_at : {A : Type 0} (l : List A) (i : ℕ) (v w : A) → get_elem? l i ≡ some v → get_elem? (set l i w) i ≡ some w
 set_at [] i v w e = absurd (some-ne-none v (sym e))

@@ -1,10 +1,6 @@
 -- A word of a row is of no other one.
-use Rattle.std.proofs.Common.{◌≡◌, ◌<◌, ℕ, arith}
-use mathlib.Core.Logic.{dite}
-use native.Mathlib.Decide.{ℕ_discrete}
-use Rattle.tree_limits.specs.declared.limits.Limits.{Limits}
-use Rattle.tree_words.proofs.RowWidths.{rows_apart, some_words}
-use Rattle.tree_words.specs.Layout.{row_at, width_of}
+use Rattle.table_rule.proofs.Words.{Limits, arith, dite, row_at, some_words, width_of, ℕ, ℕ_discrete, ◌<◌, ◌≡◌}
+use Rattle.tree_words.proofs.RowWidths.{rows_apart}
 
 -- two rows that have a word in common are one
 pub same_place : (limits : Limits) (row other i j : ℕ) → i < width_of limits row → j < width_of limits other → row_at limits row i ≡ row_at limits other j → row ≡ other

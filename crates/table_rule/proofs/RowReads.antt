@@ -1,29 +1,11 @@
 -- The load of a row's first word, which is the step, and looks at its words keep the rule.
-use Rattle.std.proofs.Common.{◌≡◌, ℕ, ◌<◌, List, [], ◌∷◌, get_or, sym, refl, ap, ◌∙◌, arith}
-use Rattle.std.specs.Prelude.{None, Some}
-use Rattle.std.proofs.lemmas.List.{set-get_or}
-use mathlib.Core.Option.{some, none}
-use lib.ListN.{get_elem?}
-use Rattle.atomic_table.specs.Table.{step, keeps, Allows}
-use Rattle.tree_limits.specs.declared.limits.Limits.{Limits}
-use Rattle.bw_model.specs.declared.step.Answer.TheVariants.{Content}
-use Rattle.bw_model.specs.declared.step.Step.TheVariants.{Row}
-use Rattle.deltas.specs.declared.record.Record.{Record}
-use Rattle.traces.specs.declared.trace.Entry.{Entry}
-use Rattle.traces.specs.discipline.Knowledge.{knows}
-use Rattle.traces.specs.trace.Trace.{memory_of}
-use Rattle.record_slots.specs.Layout.{row_size}
-use Rattle.record_slots.specs.Spells.{HasSpelling}
-use Rattle.tree_words.proofs.RowWidths.{some_words}
-use Rattle.tree_words.specs.Layout.{row_at, width_of}
+use Rattle.table_rule.proofs.Words.{Allows, Content, Each, Entry, HasSpelling, Idle, IsLawfulStep, IsSettled, IsSpelledRow, KeepsRowsApart, LeavesRow, Limits}
+use Rattle.table_rule.proofs.Words.{List, Mine, None, Noted, Part, PartFits, Reach, ReachFits, Record, Row, SitsAt, Some, Writing, alone, ap, arith, get_elem?}
+use Rattle.table_rule.proofs.Words.{get_or, keeps, knows, memory_of, none, refl, row_at, row_size, seen_of, set-get_or, some, some_words, step, stored, sym}
+use Rattle.table_rule.proofs.Words.{used_in, width_of, words_in, ℕ, [], ◌<◌, ◌∙◌, ◌∷◌, ◌≡◌}
 use Rattle.table_rule.proofs.RowPlaces.{same_row}
-use Rattle.tree_words.specs.Words.{stored, used_in, words_in}
-use Rattle.table_rule.specs.declared.view.Reach.TheVariants.{Idle, Writing, Noted}
-use Rattle.table_rule.specs.declared.view.Reach.{Reach}
-use Rattle.table_rule.specs.declared.view.Part.{Part}
-use Rattle.table_rule.specs.Running.{Each, IsSettled, IsSpelledRow, KnowsReadable, KeepsRowsApart, LeavesRow, PartFits, ReachFits}
-use Rattle.table_rule.specs.Steps.{HasReadRecord, IsLawfulStep, Looks, ReadsRow}
-use Rattle.table_rule.specs.Views.{alone, Mine, seen_of, SitsAt}
+use Rattle.table_rule.specs.Running.{KnowsReadable}
+use Rattle.table_rule.specs.Steps.{HasReadRecord, Looks, ReadsRow}
 use Rattle.table_rule.proofs.UsedWords.{some_used, used_few}
 use Rattle.table_rule.proofs.Turns.{TableState, Rule, extends_now, knows_now, turn, event_telling, same_actor, same_limits, spares_quiet, spells_quiet}
 

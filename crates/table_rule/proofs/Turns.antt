@@ -1,35 +1,15 @@
 -- One turn of one seat keeps the rule, and so does a step of its actor.
-use Rattle.std.proofs.Common.{◌≡◌, ◌≢◌, ℕ, ◌+◌, ◌<◌, List, [], ◌∷◌, ◌++◌, get_or, set, sym, refl, ap, ◌∙◌, subst, ⊎_elim, arith, length-set}
-use Rattle.std.specs.Prelude.{Some, Option}
-use Rattle.std.proofs.lemmas.List.{set-get_or}
-use mathlib.Core.Option.{some}
-use lib.ListN.{get_elem?}
-use Rattle.atomic_table.specs.Table.{State, keeps, stepped, Allows}
-use Rattle.atomic_table.proofs.Lists.{at_set}
-use Rattle.bw_model.specs.declared.command.Command.{Command}
-use Rattle.bw_model.specs.declared.command.Reply.{Reply}
-use Rattle.tree_limits.specs.declared.limits.Limits.{Limits}
-use Rattle.bw_model.specs.declared.step.Answer.{Answer}
-use Rattle.bw_model.specs.declared.step.Step.{Step as StepOf}
-use Rattle.deltas.specs.declared.record.Record.{Record}
-use Rattle.traces.specs.declared.trace.Entry.{Entry}
-use Rattle.traces.specs.discipline.Disciplined.{Extends}
-use Rattle.traces.specs.discipline.Knowledge.{knows}
-use Rattle.traces.specs.trace.Steps.{IsAnswer, memory_after}
-use Rattle.traces.specs.trace.Trace.{memory_of}
-use Rattle.tree_words.proofs.RowWidths.{one_width}
-use Rattle.tree_words.specs.Layout.{row_at, width_of}
-use Rattle.tree_words.specs.Words.{words_in, SpellsWhere}
-use Rattle.table_rule.specs.declared.view.Reach.{Reach}
-use Rattle.table_rule.specs.declared.view.Reach.TheVariants.{Idle, Writing, Noted}
-use Rattle.table_rule.specs.declared.view.Part.{Part}
-use Rattle.table_rule.specs.Running.{Each, ExtendsFor, StartsWith, KnowsPlaceable, IsSettled, IsSpelledRow, ReachFits, PartFits, BeginWithSteps, entry_actor, everywhere, Running}
-use Rattle.table_rule.specs.Views.{Mine, part, alone, seen_of, SitsAt}
-use Rattle.table_rule.specs.Steps.{with_step, IsLawfulStep, Took, Event}
+use Rattle.table_rule.proofs.Words.{Allows, Answer, BeginWithSteps, Command, Each, Entry, Event, Extends, ExtendsFor, Idle, IsAnswer, IsLawfulStep, IsSettled}
+use Rattle.table_rule.proofs.Words.{IsSpelledRow, KnowsPlaceable, Limits, List, Mine, Noted, Option, Part, PartFits, Reach, ReachFits, Record, Reply, Running}
+use Rattle.table_rule.proofs.Words.{SitsAt, Some, SpellsWhere, StartsWith, StepOf, Took, Writing, alone, ap, arith, at_set, entry_actor, everywhere}
+use Rattle.table_rule.proofs.Words.{extends_self, get_elem?, get_or, keeps, knows, memory_after, memory_of, one_width, part, refl, row_at, seen_of, set}
+use Rattle.table_rule.proofs.Words.{set-get_or, some, stepped, subst, sym, width_of, with_step, words_in, ℕ, [], ⊎_elim, ◌++◌, ◌+◌, ◌<◌, ◌∙◌, ◌∷◌, ◌≡◌, ◌≢◌}
+use Rattle.std.proofs.Common.{length-set}
+use Rattle.atomic_table.specs.Table.{State}
 use Rattle.table_rule.proofs.Parts.{IsApart, Stands, actors_events, apart_ne, each_append, each_zip, extends_goes, goes_extends, events, others_events}
 use Rattle.table_rule.proofs.Parts.{with_events, memory_stepped, settled_back, spells_views, starts_on, starts_self, times_alone, times_of_one, everywhere_set}
 use Rattle.table_rule.proofs.Parts.{elsewhere, begins_on, begins_events}
-use Rattle.traces.proofs.OwnEntries.{extends_self, extends_on, knows_extends, knows_on}
+use Rattle.traces.proofs.OwnEntries.{extends_on, knows_extends, knows_on}
 
 abbrev pub TableState : Type 0
 TableState = State (Unit {0}) (List Part)

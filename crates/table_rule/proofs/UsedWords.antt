@@ -1,23 +1,18 @@
 -- Which words a record uses.
-use Rattle.std.proofs.Common.{◌≡◌, ◌<◌, ◌≤◌, Bool, true, false, [], ◌∷◌, ◌+◌, ◌*◌, ◌-◌, ℕ, List, ◌++◌, drop, length, get_or, replicate, take, refl, sym, ap, ◌∙◌, ⊎_elim, arith}
-use Rattle.std.specs.Prelude.{if◌then◌else◌, Option, None, Some}
-use Rattle.tree_limits.specs.declared.limits.Limits.{Limits}
+use Rattle.table_rule.proofs.Words.{Bool, HasSpelling, IsStored, Limits, List, None, Option, Record, Some, ap, arith, cases_lt, compact_words, false, get_or}
+use Rattle.table_rule.proofs.Words.{if◌then◌else◌, length, one_width, refl, row_size, some_words, stored, sym, tail_from, take, true, used_by, used_in}
+use Rattle.table_rule.proofs.Words.{width_of, words_in, words_over, ℕ, [], ⊎_elim, ◌++◌, ◌+◌, ◌-◌, ◌<◌, ◌∙◌, ◌∷◌, ◌≡◌, ◌≤◌}
+use Rattle.std.proofs.Common.{◌*◌, drop, replicate}
 use Rattle.std.proofs.Math.Nat.{le-max_left, le-max_right}
 use Rattle.std.proofs.Math.Seq.{get_or-append_right}
-use Rattle.std.proofs.lemmas.Bool.{cases_lt}
 use Rattle.std.proofs.lemmas.List.{get_or-replicate, get_or_past, length-replicate, length-take, take-append-drop}
-use Rattle.deltas.specs.declared.record.Record.{Record}
-use Rattle.record_slots.specs.Layout.{item_size, items_at, row_size}
+use Rattle.record_slots.specs.Layout.{item_size, items_at}
 use Rattle.record_slots.specs.Parts.{items_of, row_of}
 use Rattle.record_slots.specs.Spelling.{words_left, words_of}
-use Rattle.record_slots.specs.Spells.{HasSpelling, IsSpelling}
+use Rattle.record_slots.specs.Spells.{IsSpelling}
 use Rattle.record_slots.proofs.SpellingLaws.{counts, items_fit, parts_fit, row_spelled, spelling_length}
-use Rattle.compact_rows.specs.Spelling.{compact_words}
 use Rattle.compact_rows.proofs.Parts.{count_is}
-use Rattle.tree_words.proofs.RowWidths.{one_width, some_words}
-use Rattle.tree_words.specs.Layout.{width_of}
-use Rattle.tree_words.specs.Words.{stored, used_in, words_in}
-use Rattle.table_rule.specs.Steps.{IsStored, begun_over, tail_from, used_by, used_by_either, words_over}
+use Rattle.table_rule.specs.Steps.{begun_over, used_by_either}
 
 zeros_are : (n j : ℕ) → ◌≡◌ {A = ℕ} (get_or (replicate n 0) j 0) 0
 zeros_are n j = ⊎_elim (λ below. get_or-replicate n j 0 0 below) (λ above. get_or_past (replicate n 0) j 0 (omega (arith, above, length-replicate {A = ℕ} n 0))) (cases_lt j n)

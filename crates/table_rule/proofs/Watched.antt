@@ -1,26 +1,15 @@
 -- A word is watched, which keeps the rule: the words stay, and the seat has seen the longest run.
-use Rattle.std.proofs.Common.{◌≡◌, ℕ, ◌<◌, List, [], map, get_or, refl, ap, subst, arith}
-use Rattle.std.proofs.lemmas.List.{set-get_or}
-use mathlib.Core.Option.{none}
-use Rattle.atomic_table.specs.Table.{Allows, step as made, keeps}
+use Rattle.table_rule.proofs.Words.{Allows, Entry, Idle, IsAnswer, IsOf, IsSettled, Limits, List, Memory, Mine, Part, PartFits, Place, Record, alone, ap}
+use Rattle.table_rule.proofs.Words.{arith, get_or, keeps, map, memory_of, none, part, seen_of, set-get_or, subst, with_run, ℕ, [], ◌<◌, ◌≡◌}
+use Rattle.atomic_table.specs.Table.{step as made}
 use Rattle.atomic_table.specs.Seated.{TableId}
-use Rattle.tree_limits.specs.declared.limits.Limits.{Limits}
 use Rattle.tree_limits.specs.Limits.{most_large_actors}
 use Rattle.bw_model.specs.declared.step.Answer.TheVariants.{Number}
 use Rattle.bw_model.specs.declared.step.Step.{Step}
-use Rattle.bw_model.specs.declared.step.Step.TheVariants.{Slot, Row, Epoch, Announce, PidBits, RowBits, Place, ReusePids, ReuseRows}
-use Rattle.deltas.specs.declared.record.Record.{Record}
-use Rattle.deltas.specs.Memory.{Memory}
-use Rattle.traces.specs.declared.trace.Entry.{Entry}
-use Rattle.traces.specs.trace.Steps.{IsAnswer}
-use Rattle.traces.specs.trace.Trace.{memory_of}
+use Rattle.bw_model.specs.declared.step.Step.TheVariants.{ReusePids, ReuseRows}
 use Rattle.tree_words.specs.Changes.{HasWord, SetsBits, StepsChangeOneWord, WordsStandApart, SpellsParts, changed_word, operation_of, answer_by}
 use Rattle.tree_words.specs.declared.operations.Operation.TheVariants.{Load}
-use Rattle.table_rule.specs.declared.view.Part.{Part}
-use Rattle.table_rule.specs.declared.view.Reach.TheVariants.{Idle}
-use Rattle.table_rule.specs.Running.{IsSettled, PartFits}
 use Rattle.table_rule.specs.Steps.{Watches}
-use Rattle.table_rule.specs.Views.{IsOf, Mine, alone, part, with_run, seen_of}
 use Rattle.table_rule.proofs.Parts.{spells_views}
 use Rattle.table_rule.proofs.Roster.{view_refreshed}
 use Rattle.table_rule.proofs.Turns.{TableState, Rule}
@@ -32,12 +21,6 @@ reads_none (ReuseRows word bits) is = cc
 reads_none other is = tt
 
 reads_number : (limits : Limits) (step : Step Record) (found : ℕ) → HasWord limits step → operation_of step ≡ Load → answer_by step found ≡ Number found
-reads_number limits (Slot pid) found has is = refl
-reads_number limits (Row row) found has is = refl
-reads_number limits Epoch found has is = refl
-reads_number limits (Announce actor) found has is = refl
-reads_number limits (PidBits word) found has is = refl
-reads_number limits (RowBits word) found has is = refl
 reads_number limits (Place row content) found has is = absurd has
 reads_number limits other found has is = cc
 

@@ -1,17 +1,12 @@
 -- Where the range of a page backward begins, and its pairs cut off at a lowest key.
-use Rattle.std.proofs.Common.{◌≡◌, ◌+◌, ℕ, suc, List, [], ◌∷◌, Bool, true, false, cond, drop, Option, Some, None, refl, sym, ap, subst, ◌∙◌, arith, Less}
-use Rattle.std.specs.Prelude.{IfSome, if◌then◌else◌, not}
-use Rattle.std.specs.List.{AllByRecursion, prefix_len}
+use Rattle.walks.proofs.Words.{AllByRecursion, AreKeyPairs, ArePairsOf, Bool, IsShort, Less, List, None, Option, PairsAscend, Some, after_is_above, and_both}
+use Rattle.walks.proofs.Words.{and_left, and_right, ap, arith, begin_above, below-trans, below_from, below_reach, cond, drop, either, false, is_below, is_lt}
+use Rattle.walks.proofs.Words.{itself, key_after, key_before, key_cmp, not, not_true, pairs_from, place_from, prefix_len, refl, subst, suc, sym, true, ℕ, []}
+use Rattle.walks.proofs.Words.{◌+◌, ◌∙◌, ◌∷◌, ◌≡◌}
+use Rattle.std.specs.Prelude.{IfSome}
 use Rattle.std.specs.List.Sorted.{IsStrictlySortedBy}
-use Rattle.std.specs.Ordering.{is_lt}
 use Rattle.std.proofs.lemmas.List.Kept.{IsStrictlySortedBy-filter}
-use Rattle.base_page.proofs.KeyLaws.{and_both, and_left, and_right, below_from, below-trans, below_reach, either, itself, not_true}
-use Rattle.bw_model.specs.Bytes.{IsShort, is_below, key_cmp}
-use Rattle.bw_model.specs.NextKeys.{key_after, key_before}
-use Rattle.bw_model.specs.Pairs.{ArePairsOf}
-use Rattle.bw_model.proofs.NextKeyLaws.{after_is_above, before_is_greatest, before_is_key, none_is_first}
-use Rattle.walks.specs.BackPages.{AreKeyPairs, begin_above, pairs_from, place_from}
-use Rattle.walks.specs.Walks.{PairsAscend}
+use Rattle.bw_model.proofs.NextKeyLaws.{before_is_greatest, before_is_key, none_is_first}
 use Rattle.walks.proofs.Cuts.{Pair, keys, keys_kept, kept_passes, kept_still, kept_was}
 
 pub below_trans : (a b c : List ℕ) → is_below a b ≡ true → is_below b c ≡ true → is_below a c ≡ true
@@ -53,13 +48,13 @@ module _ (low from key : List ℕ) (short : IsShort from) where
   -- and the other way round, of a key
   both_begins : IsShort key → (below : Option (List ℕ)) → key_before from ≡ below → is_below key (begin_above low (place_from low below)) ≡ false
       → (is_below key from ≡ false) × (is_below key low ≡ false)
-  both_begins short_key None e out = (subst (λ first. is_below key first ≡ false) (sym (none_is_first from e)) (none_below key), out)
+  both_begins short_key None e out = (rw (none_is_first from e) (none_below key), out)
   both_begins short_key (Some next) e out = either (is_below next low)
       (λ under.
-      let out_low : is_below key low ≡ false = subst (λ b. is_below key (begin_above low (if b then None else Some next)) ≡ false) under out in
+      let out_low : is_below key low ≡ false = rw under at out in
       (before_is_greatest from next short e key short_key ∙ ap not (below_all next low key under out_low), out_low))
       (λ over.
-      let past : is_below key (key_after next) ≡ false = subst (λ b. is_below key (begin_above low (if b then None else Some next)) ≡ false) over out in
+      let past : is_below key (key_after next) ≡ false = rw over at out in
       let above : is_below next key ≡ true = not_false (is_below next key) (sym (after_is_above next key) ∙ past) in
       (before_is_greatest from next short e key short_key ∙ ap not above, upto_trans low next key over (below_not next key above)))
 

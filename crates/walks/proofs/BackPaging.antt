@@ -1,29 +1,24 @@
 -- A page backward on a seat that is done: the page that it shows.
-use Rattle.std.proofs.Common.{◌≡◌, ℕ, List, false, Option, Some, None, refl, sym, ap, subst, ◌∙◌}
-use Rattle.std.specs.Prelude.{if◌then◌else◌}
+use Rattle.walks.proofs.Words.{BackCursor, Called, Finishes, HasShownBack, IsOneHistory, IsRunOn, IsSame, List, None, Option, PairsAscend, Reply, Seat, Some}
+use Rattle.walks.proofs.Words.{ap, back_command, false, if◌then◌else◌, pairs_from, place_from, refl, subst, sym, unfinished_command, ℕ, ◌∙◌, ◌≡◌}
 use Rattle.bw_model.specs.declared.command.Command.TheVariants as command
-use Rattle.bw_model.specs.declared.command.Reply.{Reply}
 use Rattle.bw_model.specs.declared.command.Reply.TheVariants as reply
-use Rattle.linearization.specs.Operations.{Finishes}
-use Rattle.running_tree.specs.Runs.{IsOneHistory}
-use Rattle.running_tree.specs.Seats.{IsSame, Seat, unfinished_command}
-use Rattle.running_tree.specs.declared.called.Called.{Called}
 use Rattle.running_tree.specs.declared.called.Called.TheVariants as called
 use Rattle.walks.proofs.Calling.{IsCompleted, completed}
 use Rattle.walks.proofs.BackReplying.{IsPagedBack, paged_back}
-use Rattle.walks.specs.BackCursors.{BackCursor, HasShownBack, back_command, page_upto}
-use Rattle.walks.specs.BackPages.{pairs_from, place_from}
-use Rattle.walks.specs.Cursors.{IsRunOn}
-use Rattle.walks.specs.Walks.{PairsAscend}
+use Rattle.walks.specs.BackCursors.{page_upto}
 
-module _ (old : BackCursor) (seat later : Seat) (upto : List ℕ) (budget : ℕ) (came : Called) (answered : Reply) (at : old.at ≡ Some upto)
+module _ (old shown : BackCursor) (is : shown ≡ old) (seat later : Seat) (upto : List ℕ) (budget : ℕ) (came : Called) (answered : Reply) (has : shown.at ≡ Some upto)
     (same : IsSame seat later)
     (ready : unfinished_command seat ≡ back_command old)
-    (runs : IsRunOn old.asked seat (command.Back upto) budget came later) (is_done : came ≡ called.Done answered)
+    (runs : IsRunOn shown.asked seat (command.Back upto) budget came later) (is_done : came ≡ called.Done answered)
     (history : IsOneHistory later.limits later.seen) where
+  abbrev at : old.at ≡ Some upto
+  at = rw is at has
+
   abbrev done : IsCompleted old.asked seat (command.Back upto) budget answered later
   done = completed old.asked seat later (command.Back upto) budget came answered same
-      (ready ∙ ap (λ key. if old.asked then page_upto key else None) at) runs is_done history
+      (ready ∙ ap (λ key. if old.asked then page_upto key else None) at) (rw is at runs) is_done history
 
   -- the reply is a page backward
   pub is_paged_back : IsPagedBack later.seen history.linearized.points

@@ -1,27 +1,12 @@
 -- What a page backward has replied.
-use Rattle.std.proofs.Common.{◌≡◌, ℕ, List, Bool, true, false, Option, Some, IsTrue, inl, inr, refl, sym, ap, subst, ◌∙◌}
-use Rattle.std.specs.Prelude.{IfSome, not}
-use Rattle.base_page.proofs.KeyLaws.{and_left, not_true}
-use Rattle.bw_model.specs.Bytes.{IsShort, is_below, is_under}
-use Rattle.bw_model.specs.Log.{logged_value}
-use Rattle.bw_model.specs.NextKeys.{key_after, key_before}
-use Rattle.bw_model.specs.Pairs.{IsPairsOf}
-use Rattle.bw_model.specs.Replies.{command_key, is_writer, reply_of}
+use Rattle.walks.proofs.Words.{AreKeyPairs, BackPage, Bool, Entry, IsBackOf, IsBackShown, IsLinearized, IsOwnStep, IsPairsOf, IsPoint, IsShort, IsTrue, Limits}
+use Rattle.walks.proofs.Words.{List, LivePage, Operation, Option, Reply, Some, Turn, and_left, ap, back_operation, begin_above, covers, false, high_in, inl}
+use Rattle.walks.proofs.Words.{inr, is_below, is_under, key_after, key_before, log_at, logged_value, low_in, memory_at, not, not_true, own_before, pairs_from}
+use Rattle.walks.proofs.Words.{place_from, refl, subst, sym, ℕ, ◌∙◌, ◌≡◌}
+use Rattle.bw_model.specs.Replies.{command_key, reply_of}
 use Rattle.bw_model.specs.declared.command.Command.TheVariants as command
-use Rattle.bw_model.specs.declared.command.Reply.{Reply}
 use Rattle.bw_model.specs.declared.command.Reply.TheVariants as reply
-use Rattle.tree_limits.specs.declared.limits.Limits.{Limits}
-use Rattle.traces.specs.chain.Chains.{covers, high_in, low_in}
-use Rattle.traces.specs.chain.SideChain.{LivePage}
-use Rattle.traces.specs.declared.trace.Entry.{Entry}
-use Rattle.traces.specs.declared.trace.Turn.{Turn}
-use Rattle.traces.specs.trace.Trace.{memory_at}
 use Rattle.linearization.specs.Answered.{FindsTidy, IsTrueReply, RepliesAtPoint, ShowsBack}
-use Rattle.linearization.specs.Linearized.{IsLinearized}
-use Rattle.linearization.specs.Operations.{IsOwnStep, Operation}
-use Rattle.linearization.specs.Points.{IsPoint, log_at}
-use Rattle.map_laws.proofs.Ending.{own_before}
-use Rattle.walks.specs.BackPages.{AreKeyPairs, BackPage, IsBackOf, IsBackShown, back_operation, begin_above, pairs_from, place_from}
 use Rattle.walks.proofs.BackCuts.{cut_from, goes_below}
 
 -- a page backward with these pairs, at a point
@@ -53,8 +38,8 @@ module _ (limits : Limits) (run : List Entry) (points : List Bool) (operation : 
         from = low_in leaf.chain;
         short = page.page.short;
         goes_on = page.page.goes_on;
-        reached = subst (λ key. is_below key (low_in leaf.chain) ≡ false) same (covered page.upto leaf page.page.stands.covers);
-        pairs = subst (λ key. IsPairsOf (log_at run points n) (low_in leaf.chain) (Some (key_after key)) page.items) same page.page.pairs;
+        reached = rw same at (covered page.upto leaf page.page.stands.covers);
+        pairs = rw same at page.page.pairs;
       }
     where
       upto_same : {a b : List ℕ} → command.Back a ≡ command.Back b → a ≡ b
@@ -76,7 +61,7 @@ module _ (limits : Limits) (run : List Entry) (points : List Bool) (operation : 
 
   -- a true reply to a page backward is a page backward
   pub paged_back : (answer : Reply) → IsTrueReply limits run points operation answer → IsPagedBack run points operation upto answer
-  paged_back reply.Full is = absurd (let never = subst (λ c. IsTrue (is_writer c)) asks is.0 in cc)
+  paged_back reply.Full is = absurd (let never = rw asks at is.0 in cc)
   paged_back reply.Tidied is = absurd (not_tidy is)
   paged_back other is = at_point other is
 
@@ -97,8 +82,7 @@ back_is_shown limits turns run low page linear is =
       own = p.own;
       within = own_before limits run linear.run.run (back_operation page) page.done (reply.BackPage is.items is.below) is.ends p.step p.own;
       point = p.point;
-      ahead = subst (λ at. IfSome at (λ key. IsTrue (is_below key page.upto))) (sym next)
-          (goes_below low p.from page.upto p.short p.reached (key_before p.from) refl);
+      ahead = rw next (goes_below low p.from page.upto p.short p.reached (key_before p.from) refl);
       pairs = subst
           (λ (z : Option (List ℕ) × List (List ℕ × List ℕ)). AreKeyPairs (logged_value (log_at run linear.points p.step)) (begin_above low z.0)
           (Some (key_after page.upto)) z.1)

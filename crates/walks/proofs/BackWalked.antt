@@ -1,15 +1,11 @@
 -- What a cursor that goes down has walked on a seat.
-use Rattle.std.proofs.Common.{◌≡◌, ◌+◌, ◌++◌, ℕ, List, [], ◌∷◌, length, reverse, Some, refl, sym, ap, subst, ◌∙◌, arith, append_assoc}
-use Rattle.std.proofs.lemmas.List.{append-nil, length-append, reverse-append}
+use Rattle.walks.proofs.Words.{BackCursor, HasShownBack, HasToldBack, HasWalkedBack, IsSame, List, Seat, Some, StartsWith, Walk, added_back, ap, append-nil}
+use Rattle.walks.proofs.Words.{append_assoc, arith, commands_in, length, length-append, refl, reverse, starts_on, sym, ℕ, [], ◌++◌, ◌+◌, ◌∙◌, ◌∷◌, ◌≡◌}
+use Rattle.std.proofs.lemmas.List.{reverse-append}
 use Rattle.bw_model.specs.declared.command.Command.TheVariants as command
-use Rattle.running_tree.specs.Runs.{StartsWith}
-use Rattle.running_tree.specs.Seats.{IsSame, Seat}
 use Rattle.running_tree.specs.declared.called.Called.TheVariants as called
-use Rattle.running_tree.proofs.Going.{starts_on}
-use Rattle.walks.specs.BackCursors.{BackCursor, CallsBackPages, HasShownBack, HasToldBack, HasWalkedBack, IsNextBack, IsSpentBackAt, added_back}
+use Rattle.walks.specs.BackCursors.{CallsBackPages, IsNextBack, IsSpentBackAt}
 use Rattle.walks.specs.BackWalks.{IsBackWalk, pairs_upward}
-use Rattle.walks.specs.Cursors.{commands_in}
-use Rattle.walks.specs.declared.cursor.Walk.{Walk}
 use Rattle.walks.specs.declared.cursor.Walk.TheVariants as walk
 use Rattle.walks.proofs.Calls.{calls_alone, calls_on, done_idle, idle_still, no_call, spent_grows}
 use Rattle.walks.proofs.BackReplying.{back_is_shown}
@@ -67,7 +63,7 @@ walked_back_on first mid last seat between later before middle after one more = 
         idle,
         back_walk_on later.seen first.low first.at (length early) one.pages mid.at (length early') more.pages last.at (length late)
             (back_walk_stays between.seen later.seen first.low first.at (length early) one.pages mid.at (length early') more.grows walk)
-            (subst (λ low. IsBackWalk later.seen low mid.at (length early') more.pages last.at (length late)) one.low walk'),
+            (rw one.low at walk'),
       );
   low = more.low ∙ one.low;
   grows = starts_on seat.seen between.seen later.seen one.grows more.grows;
@@ -80,7 +76,7 @@ module _ (first mid last : BackCursor) (seat between later : Seat) (budget : ℕ
     (adds : after ≡ middle ++ added_back answered last) where
   pub walked_back_more : HasWalkedBack first seat before middle mid between → HasWalkedBack first seat before after last later
   walked_back_more walked = walked_back_on first mid last seat between later before middle after walked
-      (subst (λ pairs. HasWalkedBack mid between middle pairs last later) (sym adds) (walked_back_next mid last between later budget answered middle same next))
+      (rw adds (walked_back_next mid last between later budget answered middle same next))
 
   pub back_spent_on : answered ≡ walk.Spent → HasWalkedBack first seat before middle mid between → IsSpentBackAt seat budget last later
   back_spent_on is walked = record {
@@ -88,21 +84,20 @@ module _ (first mid last : BackCursor) (seat between later : Seat) (budget : ℕ
     seat = between;
     same = same;
     grows = walked.grows;
-    asked = subst (λ one. IsNextBack mid between budget one last later) is next;
+    asked = rw is at next;
   }
 
   pub walked_back_counted : answered ≡ walk.Page → (n : ℕ) → (walked : HasWalkedBack first seat before middle mid between) × (length walked.pages ≡ n)
       → (walked : HasWalkedBack first seat before after last later) × (length walked.pages ≡ n + 1)
   unfolding walked_back_on walked_back_page
   walked_back_counted is n (walked, count) =
-      let shows : HasShownBack mid between budget last later = subst (λ one. IsNextBack mid between budget one last later) is next in
+      let shows : HasShownBack mid between budget last later = rw is at next in
       let more : HasWalkedBack mid between middle (middle ++ reverse last.pairs) last later =
       walked_back_page mid last between later budget middle same shows in
       let whole : HasWalkedBack first seat before (middle ++ reverse last.pairs) last later =
       walked_back_on first mid last seat between later before middle (middle ++ reverse last.pairs) walked more in
       let is_after : middle ++ reverse last.pairs ≡ after = sym (adds ∙ ap (λ one. middle ++ added_back one last) is) in
-      subst (λ pairs. (walked : HasWalkedBack first seat before pairs last later) × (length walked.pages ≡ n + 1)) is_after
-      (whole, let long = length-append walked.pages (shows.page ∷ []) in omega arith)
+      rw (← is_after) (whole, let long = length-append walked.pages (shows.page ∷ []) in omega arith)
 
 -- nothing walked yet
 pub walked_back_nothing : (cursor : BackCursor) (seat : Seat) (pairs : List (List ℕ × List ℕ))
@@ -127,8 +122,7 @@ back_has_told old seat before after new later w = record {
   added = w.shown;
   tells = λ upto early at idle.
       let (late, was, walk) = w.walk early idle in
-      let walk_upto : IsBackWalk later.seen old.low (Some upto) (length early) w.pages new.at (length late) = subst
-      (λ at. IsBackWalk later.seen old.low at (length early) w.pages new.at (length late)) at walk in (
+      let walk_upto : IsBackWalk later.seen old.low (Some upto) (length early) w.pages new.at (length late) = rw at at walk in (
         late,
         was,
         λ limits turns linear. back_tells later.seen linear.points old.low (λ page is. back_is_shown limits turns later.seen old.low page linear is) upto

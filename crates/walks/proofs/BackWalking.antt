@@ -1,19 +1,12 @@
 -- Walks down the keys that go on, and what they show.
-use Rattle.std.proofs.Common.{◌≡◌, ◌≤◌, ◌+◌, ◌++◌, ℕ, List, [], ◌∷◌, Bool, true, false, Option, Some, None, inl, inr, refl, sym, ap, subst}
-use Rattle.std.proofs.Common.{◌∙◌, arith, append_assoc}
-use Rattle.std.specs.Prelude.{if◌then◌else◌, IfSome, IsTrue, not}
+use Rattle.walks.proofs.Words.{BackPage, Bool, Contains-append_cases, Contains-append_left, Contains-append_right, Entry, IsBackOf, IsBackShown, List, None}
+use Rattle.walks.proofs.Words.{Option, Some, StartsWith, after_is_above, and_both, and_left, and_right, ap, append-nil, append_assoc, arith, back_operation}
+use Rattle.walks.proofs.Words.{begin_above, below_from, below_reach, either, false, inl, inr, is_below, is_lt, is_under, itself, key_after, not, not_true}
+use Rattle.walks.proofs.Words.{place_from, refl, subst, sym, true, ℕ, [], ◌++◌, ◌+◌, ◌∙◌, ◌∷◌, ◌≡◌, ◌≤◌}
+use Rattle.std.specs.Prelude.{IsTrue}
 use Rattle.std.specs.List.Sorted.{IsStrictlySortedBy}
-use Rattle.std.specs.Ordering.{is_lt}
-use Rattle.std.proofs.lemmas.List.{append-nil}
-use Rattle.std.proofs.lemmas.List.Elements.{Contains-append_cases, Contains-append_left, Contains-append_right}
-use Rattle.base_page.proofs.KeyLaws.{and_both, and_left, and_right, below_from, below_reach, either, itself, not_true}
-use Rattle.bw_model.specs.Bytes.{is_below, is_in_range, is_under}
-use Rattle.bw_model.specs.NextKeys.{key_after}
-use Rattle.bw_model.proofs.NextKeyLaws.{after_is_above}
-use Rattle.traces.specs.declared.trace.Entry.{Entry}
+use Rattle.bw_model.specs.Bytes.{is_in_range}
 use Rattle.traces.proofs.Pushes.{slice_get_kept}
-use Rattle.running_tree.specs.Runs.{StartsWith}
-use Rattle.walks.specs.BackPages.{BackPage, IsBackOf, IsBackShown, back_operation, begin_above, place_from}
 use Rattle.walks.specs.BackWalks.{IsBackWalk, TellKeys, pairs_upward}
 use Rattle.walks.proofs.BackCuts.{below_all, below_not, below_trans, upto_trans}
 use Rattle.walks.proofs.Cuts.{Pair}
@@ -21,7 +14,7 @@ use Rattle.walks.proofs.Walking.{finish_stays, none_in, sorted_on}
 
 -- a page of a run is one of each longer run
 back_stays : (run later : List Entry) (low : List ℕ) (page : BackPage) → StartsWith later run → IsBackOf run low page → IsBackOf later low page
-back_stays run later low page (rest, more) is = subst (λ es. IsBackOf es low page) (sym more) (record {
+back_stays run later low page (rest, more) is = rw more (record {
   begins = slice_get_kept run rest page.begun _ is.begins;
   items = is.items;
   below = is.below;
@@ -54,7 +47,7 @@ pub back_walk_on : (run : List Entry) (low : List ℕ) (at : Option (List ℕ)) 
     (more : List BackPage) (to : Option (List ℕ)) (till : ℕ) → IsBackWalk run low at since pages mid then' → IsBackWalk run low mid then' more to till
     → IsBackWalk run low at since (pages ++ more) to till
 back_walk_on run low at since [] mid then' more to till walk rest =
-    back_walk_from run low at since then' more to till walk.1 (subst (λ key. IsBackWalk run low key then' more to till) walk.0 rest)
+    back_walk_from run low at since then' more to till walk.1 (rw walk.0 at rest)
 back_walk_on run low at since (page ∷ pages) mid then' more to till walk rest =
     (walk.0, walk.1, walk.2, back_walk_on run low page.next (page.done + 1) pages mid then' more to till walk.3 rest)
 
@@ -160,19 +153,18 @@ module _ (run : List Entry) (points : List Bool) where
         by_below : (below : Option (List ℕ)) → place_from low below ≡ Some next → is_below next low ≡ false
         by_below None e = cc
         by_below (Some key) e = either (is_below key low)
-            (λ under. let none : None ≡ Some next = subst (λ b. (if b then None else Some key) ≡ Some next) under e in absurd (cc))
-            (λ over. let some : Some key ≡ Some next = subst (λ b. (if b then None else Some key) ≡ Some next) over e in let same : key ≡ next = cc in
-            subst (λ at. is_below at low ≡ false) same over)
+            (λ under. let none : None ≡ Some next = rw under at e in absurd (cc))
+            (λ over. let some : Some key ≡ Some next = rw over at e in let same : key ≡ next = cc in
+            rw same at over)
 
     goes_ahead : (page : BackPage) (next : List ℕ) → IsBackOf run low page → page.next ≡ Some next → is_below next page.upto ≡ true
-    goes_ahead page next is goes = subst (λ at. IfSome at (λ key. IsTrue (is_below key page.upto))) goes (shown page is).ahead
+    goes_ahead page next is goes = rw goes at (shown page is).ahead
 
     -- where the walk comes to begins at or below what follows the key at which it stands
     begins_below : (at : List ℕ) (since : ℕ) (pages : List BackPage) (to : Option (List ℕ)) (till : ℕ) → is_below at low ≡ false
         → IsBackWalk run low (Some at) since pages to till
         → is_below (key_after at) (begin_above low to) ≡ false
-    begins_below at since [] to till over walk = subst (λ end. is_below (key_after at) (begin_above low end) ≡ false) (sym walk.0)
-        (ap is_lt (itself (key_after at)))
+    begins_below at since [] to till over walk = rw walk.0 (ap is_lt (itself (key_after at)))
     begins_below at since (page ∷ pages) to till over walk = go page.next refl (λ next up rest. begins_below next (page.done + 1) pages to till up rest)
       where
         same : page.upto ≡ at
@@ -183,21 +175,20 @@ module _ (run : List Entry) (points : List Bool) where
             → is_below (key_after next) (begin_above low to) ≡ false)
             → is_below (key_after at) (begin_above low to) ≡ false
         go None goes more =
-            let none = ended (page.done + 1) pages to till (subst (λ at. IsBackWalk run low at (page.done + 1) pages to till) goes walk.3) in
-            subst (λ end. is_below (key_after at) (begin_above low end) ≡ false) (sym none.1)
-            (upto_trans low at (key_after at) over (below_not at (key_after at) (after_itself at)))
+            let none = ended (page.done + 1) pages to till (rw goes at walk.3) in
+            rw none.1 (upto_trans low at (key_after at) over (below_not at (key_after at) (after_itself at)))
         go (Some next) goes more =
-            let ahead : is_below next at ≡ true = subst (λ key. is_below next key ≡ true) same (goes_ahead page next walk.2 goes) in
+            let ahead : is_below next at ≡ true = rw same at (goes_ahead page next walk.2 goes) in
             let past : is_below (key_after at) (key_after next) ≡ false = after_is_above next (key_after at)
             ∙ ap not (below_trans next at (key_after at) ahead (after_itself at)) in
             upto_trans (begin_above low to) (key_after next) (key_after at)
-            (more next (next_over page next walk.2 goes) (subst (λ at. IsBackWalk run low at (page.done + 1) pages to till) goes walk.3)) past
+            (more next (next_over page next walk.2 goes) (rw goes at walk.3)) past
 
     -- a walk tells of the map from where it stands up to where it began
     pub back_tells : (upto : List ℕ) (since : ℕ) (pages : List BackPage) (to : Option (List ℕ)) (till : ℕ) → IsBackWalk run low (Some upto) since pages to till
         → TellKeys run points since till (begin_above low to) (Some (key_after upto)) (pairs_upward pages)
     back_tells upto since [] to till walk =
-        subst (λ end. TellKeys run points since till (begin_above low end) (Some (key_after upto)) []) (sym walk.0) (tell_none (key_after upto) since till)
+        rw walk.0 (tell_none (key_after upto) since till)
     back_tells upto since (page ∷ pages) to till walk = go page.next refl (λ next rest. back_tells next (page.done + 1) pages to till rest)
       where
         same : page.upto ≡ upto
@@ -207,23 +198,22 @@ module _ (run : List Entry) (points : List Bool) where
         lasts = back_walk_lasts run low page.next (page.done + 1) pages to till walk.3
 
         one : TellKeys run points since till (begin_above low page.next) (Some (key_after upto)) page.pairs
-        one = subst (λ key. TellKeys run points since till (begin_above low page.next) (Some (key_after key)) page.pairs) same
-            (one_tells page since till walk.2 walk.1 lasts)
+        one = rw same at (one_tells page since till walk.2 walk.1 lasts)
 
         go : (next : Option (List ℕ)) → page.next ≡ next
             → ((next : List ℕ) → IsBackWalk run low (Some next) (page.done + 1) pages to till
             → TellKeys run points (page.done + 1) till (begin_above low to) (Some (key_after next)) (pairs_upward pages))
             → TellKeys run points since till (begin_above low to) (Some (key_after upto)) (pairs_upward pages ++ page.pairs)
         go None goes more =
-            let none = ended (page.done + 1) pages to till (subst (λ at. IsBackWalk run low at (page.done + 1) pages to till) goes walk.3) in
+            let none = ended (page.done + 1) pages to till (rw goes at walk.3) in
             let here : TellKeys run points since till (begin_above low to) (Some (key_after upto)) page.pairs =
-            subst (λ end. TellKeys run points since till (begin_above low end) (Some (key_after upto)) page.pairs) (goes ∙ sym none.1) one in
+            rw (goes ∙ sym none.1) at one in
             subst (TellKeys run points since till (begin_above low to) (Some (key_after upto))) (sym (ap (λ ps. pairs_upward ps ++ page.pairs) none.0)) here
         go (Some next) goes more =
-            let rest = subst (λ at. IsBackWalk run low at (page.done + 1) pages to till) goes walk.3 in
+            let rest = rw goes at walk.3 in
             let here : TellKeys run points since till (key_after next) (Some (key_after upto)) page.pairs =
-            subst (λ at. TellKeys run points since till (begin_above low at) (Some (key_after upto)) page.pairs) goes one in
-            let ahead : is_below next upto ≡ true = subst (λ key. is_below next key ≡ true) same (goes_ahead page next walk.2 goes) in
+            rw goes at one in
+            let ahead : is_below next upto ≡ true = rw same at (goes_ahead page next walk.2 goes) in
             let early = walk.1 in let begun = walk.2.ends.2.begun in
             joined since till (begin_above low to) (key_after next) (Some (key_after upto)) (pairs_upward pages) page.pairs
             (begins_below next (page.done + 1) pages to till (next_over page next walk.2 goes) rest)

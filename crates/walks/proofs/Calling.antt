@@ -1,24 +1,16 @@
 -- A command on a seat that is done: its operation.
-use Rattle.std.proofs.Common.{◌≡◌, ◌≤◌, ◌+◌, ℕ, List, [], ◌∷◌, ◌++◌, length, Bool, true, false, Some, None, inl, inr, sym, ap, subst, ◌∙◌, arith, append_assoc}
-use Rattle.std.specs.Prelude.{if◌then◌else◌}
-use Rattle.std.proofs.lemmas.List.{length-append, append-nil}
-use Rattle.bw_model.specs.declared.command.Command.{Command}
-use Rattle.bw_model.specs.declared.command.Reply.{Reply}
-use Rattle.traces.specs.declared.trace.Entry.{Entry}
+use Rattle.walks.proofs.Words.{Bool, Called, Command, Entry, Finishes, IsOneHistory, IsRunOn, IsSame, List, None, Operation, Reply, Seat, Some, StartsWith}
+use Rattle.walks.proofs.Words.{WasIdle, ap, append-nil, append_assoc, arith, false, if◌then◌else◌, inl, inr, length, length-append, sym, true}
+use Rattle.walks.proofs.Words.{unfinished_command, ℕ, [], ◌++◌, ◌+◌, ◌∙◌, ◌∷◌, ◌≡◌, ◌≤◌}
 use Rattle.bw_model.specs.declared.step.Answer.TheVariants as answer
 use Rattle.bw_model.specs.declared.step.Step.TheVariants.{Leave}
 use Rattle.traces.specs.declared.trace.Entry.TheVariants.{Step}
 use Rattle.traces.specs.discipline.Disciplined.{own_entries}
-use Rattle.traces.specs.trace.Trace.{command_of}
-use Rattle.linearization.specs.Operations.{Finishes, IsOperation, Operation}
+use Rattle.linearization.specs.Operations.{IsOperation}
 use Rattle.running_tree.specs.Calls.{EndsWith, answered_last, calls_in, calls_of}
-use Rattle.running_tree.specs.Runs.{IsOneHistory, StartsWith}
-use Rattle.running_tree.specs.Seats.{IsSame, Seat, unfinished_command}
-use Rattle.running_tree.specs.declared.called.Called.{Called}
 use Rattle.running_tree.specs.declared.called.Called.TheVariants as called
 use Rattle.running_tree.proofs.Going.{answered_snoc}
 use Rattle.map_laws.proofs.Asking.{Calls, finishes, fronts, is_operation, last_unanswered, operation, since}
-use Rattle.walks.specs.Cursors.{IsRunOn, WasIdle}
 
 -- the seat has seen more, and this ends with the reply to its last call
 record IsReplied (seat : Seat) (asked : Command) (answered : Reply) (later : Seat) : Type 0 where
@@ -67,7 +59,7 @@ module _ (asked : Bool) (seat later : Seat) (wanted : Command) (budget : ℕ) (c
     (ready : unfinished_command seat ≡ (if asked then Some wanted else None)) (runs : IsRunOn asked seat wanted budget came later)
     (is_done : came ≡ called.Done answered) (history : IsOneHistory later.limits later.seen) where
   abbrev done : IsRunOn asked seat wanted budget (called.Done answered) later
-  done = subst (λ z. IsRunOn asked seat wanted budget z later) is_done runs
+  done = rw (← is_done) runs
 
   abbrev r : IsReplied seat wanted answered later
   r = replied asked seat later wanted budget answered same ready done
@@ -83,7 +75,7 @@ module _ (asked : Bool) (seat later : Seat) (wanted : Command) (budget : ℕ) (c
   begun_after early idle = elim (fronts early (idle.0.0 ++ r.grows.0) front (Step later.actor Leave answer.Done (Some answered)) whole) [
     | inl none ↦ absurd (r.more (r.grows.1 ∙ ap (λ rest. seat.seen ++ rest) (both_none idle.0.0 r.grows.0 none) ∙ append-nil seat.seen))
     | inr rest ↦ since later.limits later.seen front later.actor wanted answered r.calls history.linearized.run.run r.ends.1 r.last early rest.0
-        rest.1 (subst (λ actor. command_of early actor ≡ None) (sym same.actor) idle.1)
+        rest.1 (rw same.actor idle.1)
   ]
     where
       both_none : {X : Type 0} (xs ys : List X) → xs ++ ys ≡ [] → ys ≡ []

@@ -1,17 +1,9 @@
 -- What a walk calls on a seat.
-use Rattle.std.proofs.Common.{◌≡◌, ◌++◌, ℕ, List, [], ◌∷◌, map, Bool, true, false, Option, None, Some, refl, sym, ap, subst, ◌∙◌, append_assoc}
-use Rattle.std.proofs.lemmas.List.{append-nil, map-append}
-use Rattle.bw_model.specs.declared.command.Command.{Command}
-use Rattle.bw_model.specs.declared.command.Reply.{Reply}
-use Rattle.traces.specs.trace.Trace.{command_of}
-use Rattle.traces.specs.declared.trace.Entry.{Entry}
+use Rattle.walks.proofs.Words.{Bool, Called, Command, Entry, IsRunOn, IsSame, List, None, Option, Reply, Seat, Some, StartsWith, WasIdle, ap, append-nil}
+use Rattle.walks.proofs.Words.{append_assoc, commands_in, false, map, refl, starts_on, sym, true, unfinished_command, ℕ, [], ◌++◌, ◌∙◌, ◌∷◌, ◌≡◌}
+use Rattle.std.proofs.lemmas.List.{map-append}
 use Rattle.running_tree.specs.Calls.{answered_last, calls_in}
-use Rattle.running_tree.specs.Runs.{StartsWith}
-use Rattle.running_tree.specs.Seats.{IsSame, Seat, unfinished_command}
-use Rattle.running_tree.specs.declared.called.Called.{Called}
 use Rattle.running_tree.specs.declared.called.Called.TheVariants as called
-use Rattle.running_tree.proofs.Going.{starts_on}
-use Rattle.walks.specs.Cursors.{IsRunOn, WasIdle, commands_in}
 
 pub done_idle : (asked : Bool) (seat later : Seat) (wanted : Command) (budget : ℕ) (reply : Reply)
     → IsRunOn asked seat wanted budget (called.Done reply) later → (StartsWith later.seen seat.seen) × (unfinished_command later ≡ None)
@@ -59,4 +51,4 @@ module _ (make : List ℕ → Command) where
 -- a seat that has seen more was idle when it was idle
 pub idle_still : (seat later : Seat) (early : List Entry) → IsSame seat later → StartsWith later.seen seat.seen → WasIdle seat early → WasIdle later early
 idle_still seat later early same grows idle =
-    (starts_on early seat.seen later.seen idle.0 grows, subst (λ actor. command_of early actor ≡ None) (sym same.actor) idle.1)
+    (starts_on early seat.seen later.seen idle.0 grows, rw same.actor idle.1)

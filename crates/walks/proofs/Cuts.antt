@@ -1,18 +1,14 @@
 -- Pairs in the order of their keys, cut off at a bound.
-use Rattle.std.proofs.Common.{◌≡◌, ℕ, zero, suc, List, [], ◌∷◌, length, map, Bool, true, false, cond, Option, Some, None, refl, sym, ap, subst, ◌∙◌, arith, Less}
-use Rattle.std.specs.Prelude.{◌==◌, Contains, filter, not, if◌then◌else◌}
-use Rattle.std.specs.List.{AllByRecursion, take_while}
+use Rattle.walks.proofs.Words.{AllByRecursion, ArePairsOf, Bool, Contains, Contains-append_right, Less, List, None, Option, PairsAscend, Some, and_both}
+use Rattle.walks.proofs.Words.{and_left, and_right, ap, arith, below-trans, below_from, below_reach, cond, either, end_under, false, is_below, is_lt, is_under}
+use Rattle.walks.proofs.Words.{key_cmp, length, map, not, pairs_under, place_under, refl, subst, suc, sym, true, zero, ℕ, [], ◌∙◌, ◌∷◌, ◌≡◌}
+use Rattle.std.specs.Prelude.{◌==◌, filter}
+use Rattle.std.specs.List.{take_while}
 use Rattle.std.specs.List.Sorted.{IsStrictlySortedBy}
-use Rattle.std.specs.Ordering.{is_lt}
 use Rattle.std.proofs.lemmas.Bool.{eqb-true}
-use Rattle.std.proofs.lemmas.List.Elements.{All-contains, All-contains_itself, All-filter, Contains-append_right, filter_passes}
+use Rattle.std.proofs.lemmas.List.Elements.{All-contains, All-contains_itself, All-filter, filter_passes}
 use Rattle.std.proofs.lemmas.List.Kept.{IsStrictlySortedBy-filter}
 use Rattle.std.proofs.lemmas.List.Sums.{take_while-cons}
-use Rattle.bw_model.specs.Bytes.{is_below, is_under, key_cmp}
-use Rattle.bw_model.specs.Pairs.{ArePairsOf}
-use Rattle.base_page.proofs.KeyLaws.{and_both, and_left, and_right, below_from, below-trans, below_reach, either}
-use Rattle.walks.specs.Pages.{end_under, pairs_under, place_under}
-use Rattle.walks.specs.Walks.{PairsAscend}
 
 abbrev pub Pair : Type 0
 Pair = List ℕ × List ℕ
@@ -62,11 +58,11 @@ module _ {X : Type 0} (p : X → Bool) where
   kept_still [] x (k, within, is) passes = absurd (omega arith)
   kept_still (y ∷ xs) x (zero, within, is) passes =
       let here : p y ≡ true = ap p is ∙ passes in
-      subst (λ zs. Contains zs x) (sym (ap (λ b. cond b (y ∷ filter p xs) (filter p xs)) here)) (zero, omega arith, is)
+      rw (ap (λ b. cond b (y ∷ filter p xs) (filter p xs)) here) (zero, omega arith, is)
   kept_still (y ∷ xs) x (suc k, within, is) passes =
       let rest : Contains (filter p xs) x = kept_still xs x (k, omega arith, is) passes in either (p y)
-      (λ inn. subst (λ zs. Contains zs x) (sym (ap (λ b. cond b (y ∷ filter p xs) (filter p xs)) inn)) (Contains-append_right (y ∷ []) (filter p xs) x rest))
-      (λ out. subst (λ zs. Contains zs x) (sym (ap (λ b. cond b (y ∷ filter p xs) (filter p xs)) out)) rest)
+      (λ inn. rw (ap (λ b. cond b (y ∷ filter p xs) (filter p xs)) inn) (Contains-append_right (y ∷ []) (filter p xs) x rest))
+      (λ out. rw (ap (λ b. cond b (y ∷ filter p xs) (filter p xs)) out) rest)
 
 pub keys_kept : (p : List ℕ → Bool) (pairs : List Pair) → keys (filter (λ (pair : Pair). p pair.0) pairs) ≡ filter p (keys pairs)
 keys_kept p [] = refl
@@ -91,8 +87,8 @@ module _ (bound : Option (List ℕ)) (key : List ℕ) where
   pub both_ends : (high : Option (List ℕ)) → is_under key (end_under bound (place_under bound high)) ≡ true → (is_under key high ≡ true) × (is_under key bound ≡ true)
   both_ends None h = (refl, h)
   both_ends (Some high) h = either (is_under high bound)
-      (λ inn. let low : is_below key high ≡ true = subst (λ b. is_under key (end_under bound (if b then Some high else None)) ≡ true) inn h in (low, below_bound bound high inn low))
-      (λ out. let up : is_under key bound ≡ true = subst (λ b. is_under key (end_under bound (if b then Some high else None)) ≡ true) out h in (below_high bound high out up, up))
+      (λ inn. let low : is_below key high ≡ true = rw inn at h in (low, below_bound bound high inn low))
+      (λ out. let up : is_under key bound ≡ true = rw out at h in (below_high bound high out up, up))
 
 -- the pairs of a range, cut off
 pub cut_pairs : (value_at : List ℕ → Option (List ℕ)) (from : List ℕ) (high bound : Option (List ℕ)) (pairs : List Pair) → ArePairsOf value_at from high pairs

@@ -1,17 +1,13 @@
 -- The least key above a key splits the keys: those above the key are at or above it.
-use Rattle.std.proofs.Common.{◌≡◌, ◌<◌, ◌≤◌, ◌+◌, ◌-◌, ℕ, zero, suc, List, [], ◌∷◌, length, true, false, Option, Some, None, refl, sym, ap, ◌∙◌, arith}
-use Rattle.std.specs.Prelude.{nat_lt, not}
-use Rattle.std.specs.List.{AllByRecursion}
+use Rattle.walks.proofs.Words.{AllByRecursion, IsShort, List, None, Option, Some, above_in, above_rest, ap, arith, either, false, is_below, is_lt, key_above}
+use Rattle.walks.proofs.Words.{length, longest, lt-ltb, nat_lt, not, refl, suc, sym, true, zero, ℕ, [], ◌+◌, ◌-◌, ◌<◌, ◌∙◌, ◌∷◌, ◌≡◌, ◌≤◌}
 use Rattle.std.specs.declared.cmp.Ordering.{Ordering}
 use Rattle.std.specs.declared.cmp.Ordering.TheVariants.{Less, Equal, Greater}
-use Rattle.std.specs.Ordering.{nat_cmp, is_lt, ordering_then}
+use Rattle.std.specs.Ordering.{nat_cmp, ordering_then}
 use Rattle.std.specs.Cmp.Lexicographic.{slice_cmp}
 use Rattle.std.specs.Cmp.{nat_cmp_is, ranked}
-use Rattle.std.proofs.lemmas.Bool.{lt-ltb}
-use Rattle.base_page.proofs.KeyLaws.{either}
-use Rattle.bw_model.specs.Bytes.{IsShort, is_below, longest}
 use Rattle.bw_model.specs.NextKeys.{filled}
-use Rattle.walks.specs.Neighbours.{IsSplitBy, above_in, above_rest, key_above}
+use Rattle.walks.specs.Neighbours.{IsSplitBy}
 use Rattle.walks.proofs.BackCuts.{none_below}
 
 by_nat : {G : Type 0} (x y : ℕ) → (x < y → G) → (x ≡ y → G) → (y < x → G) → G

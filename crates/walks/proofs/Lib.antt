@@ -13,3 +13,4 @@ pub mod Paging
 pub mod Replying
 pub mod Walked
 pub mod Walking
+pub mod Words

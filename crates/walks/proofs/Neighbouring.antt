@@ -1,39 +1,7 @@
 -- The least key above a key: what its bytes are.
-use Rattle.std.proofs.Common.{
-  ◌≡◌,
-  ◌<◌,
-  ◌≤◌,
-  ◌+◌,
-  ◌-◌,
-  ℕ,
-  zero,
-  suc,
-  List,
-  [],
-  ◌∷◌,
-  ◌++◌,
-  length,
-  take,
-  drop,
-  get_or,
-  slice_set,
-  Bool,
-  true,
-  false,
-  Some,
-  None,
-  refl,
-  sym,
-  ap,
-  subst,
-  ◌∙◌,
-  arith,
-}
-use Rattle.std.specs.Prelude.{if◌then◌else◌, nat_lt}
-use Rattle.std.proofs.lemmas.Bool.{lt-ltb}
-use Rattle.std.proofs.lemmas.List.{append-nil}
-use Rattle.bw_model.specs.Bytes.{longest}
-use Rattle.walks.specs.Neighbours.{above_in, above_rest, key_above}
+use Rattle.walks.proofs.Words.{Bool, List, None, Some, above_in, above_rest, ap, append-nil, arith, drop, false, if◌then◌else◌, key_above, length, longest}
+use Rattle.walks.proofs.Words.{lt-ltb, nat_lt, refl, subst, suc, sym, take, true, zero, ℕ, [], ◌++◌, ◌+◌, ◌-◌, ◌<◌, ◌∙◌, ◌∷◌, ◌≡◌, ◌≤◌}
+use Rattle.std.proofs.Common.{get_or, slice_set}
 
 -- where there is room for a byte more
 pub above_short : (room : ℕ) (key : List ℕ) → length key < room → above_in room key ≡ Some (key ++ 0 ∷ [])

@@ -1,24 +1,17 @@
 -- What a walk tells of the first pair that it shows.
-use Rattle.std.proofs.Common.{◌≡◌, ◌++◌, ℕ, zero, suc, List, [], ◌∷◌, Bool, true, false, Option, None, Some, inl, inr, refl, sym, ap, subst, ◌∙◌, arith, Less}
-use Rattle.std.specs.Prelude.{Contains, not}
-use Rattle.std.specs.List.{AllByRecursion}
+use Rattle.walks.proofs.Words.{AllByRecursion, Bool, Contains, Contains-append_cases, Contains-append_right, Entry, Less, List, None, Option, PairsAscend, Some}
+use Rattle.walks.proofs.Words.{TellMap, after_is_above, and_both, and_left, and_right, ap, arith, false, inl, inr, is_below, is_lt, is_under, key_after}
+use Rattle.walks.proofs.Words.{key_cmp, not, not_true, refl, suc, sym, true, zero, ℕ, [], ◌++◌, ◌∙◌, ◌∷◌, ◌≡◌}
 use Rattle.std.specs.List.Sorted.{IsStrictlySortedBy}
-use Rattle.std.specs.Ordering.{is_lt}
-use Rattle.std.proofs.lemmas.List.Elements.{Contains-append_cases, Contains-append_right}
-use Rattle.base_page.proofs.KeyLaws.{and_both, and_left, and_right, not_true}
-use Rattle.bw_model.specs.Bytes.{is_below, is_under, key_cmp}
-use Rattle.bw_model.specs.NextKeys.{key_after}
-use Rattle.bw_model.proofs.NextKeyLaws.{after_is_above}
-use Rattle.traces.specs.declared.trace.Entry.{Entry}
 use Rattle.walks.specs.BackWalks.{TellKeys, TellNextBack}
-use Rattle.walks.specs.Walks.{PairsAscend, TellMap, TellNext}
+use Rattle.walks.specs.Walks.{TellNext}
 use Rattle.walks.proofs.BackCuts.{below_not, below_trans, not_false, upto_trans}
 use Rattle.walks.proofs.Cuts.{Pair, keys}
 use Rattle.walks.proofs.Walking.{none_in}
 
 all_of : (P : List ℕ → Type 0) (pairs : List Pair) → AllByRecursion P (keys pairs) → (key value : List ℕ) → Contains pairs (key, value) → P key
 all_of P [] all key value among = absurd (none_in (key, value) among)
-all_of P (pair ∷ pairs) all key value (zero, within, is) = subst (λ (p : Pair). P p.0) is all.0
+all_of P (pair ∷ pairs) all key value (zero, within, is) = rw is at all.0
 all_of P (pair ∷ pairs) all key value (suc n, within, is) = all_of P pairs all.1 key value (n, omega arith, is)
 
 -- a key below itself
@@ -30,7 +23,7 @@ first_of : (key value : List ℕ) (pairs : List Pair) → PairsAscend ((key, val
     → Contains ((key, value) ∷ pairs) (other, held) → is_below other key ≡ true → ⊥
 unfolding IsStrictlySortedBy
 first_of key value pairs ascend other held among below = elim (Contains-append_cases ((key, value) ∷ []) pairs (other, held) among) [
-  | inl here ↦ never other (subst (λ k. is_below other k ≡ true) (all_of (λ k. key ≡ k) ((key, value) ∷ []) (refl, tt) other held here) below)
+  | inl here ↦ never other (rw (all_of (λ k. key ≡ k) ((key, value) ∷ []) (refl, tt) other held here) at below)
   | inr later ↦ never other (below_trans other key other below (ap is_lt (all_of (λ k. key_cmp key k ≡ Less) pairs ascend.0 other held later)))
 ]
 
@@ -40,14 +33,13 @@ last_of : (key value : List ℕ) (pairs : List Pair) → PairsAscend (pairs ++ (
 unfolding IsStrictlySortedBy
 last_of key value pairs ascend other held among above = elim (Contains-append_cases pairs ((key, value) ∷ []) (other, held) among) [
   | inl before ↦ never other (below_trans other key other (below_last pairs ascend before) above)
-  | inr here ↦ never other (subst (λ k. is_below k other ≡ true) (all_of (λ k. key ≡ k) ((key, value) ∷ []) (refl, tt) other held here) above)
+  | inr here ↦ never other (rw (all_of (λ k. key ≡ k) ((key, value) ∷ []) (refl, tt) other held here) at above)
 ]
   where
     below_last : (pairs : List Pair) → PairsAscend (pairs ++ (key, value) ∷ []) → Contains pairs (other, held) → is_below other key ≡ true
     below_last [] ascend among = absurd (none_in (other, held) among)
     below_last (pair ∷ pairs) ascend (zero, within, is) =
-        subst (λ (p : Pair). is_below p.0 key ≡ true) is
-        (ap is_lt (all_of (λ k. key_cmp pair.0 k ≡ Less) (pairs ++ (key, value) ∷ []) ascend.0 key value
+        rw is at (ap is_lt (all_of (λ k. key_cmp pair.0 k ≡ Less) (pairs ++ (key, value) ∷ []) ascend.0 key value
         (Contains-append_right pairs ((key, value) ∷ []) (key, value) (0, omega arith, refl))))
     below_last (pair ∷ pairs) ascend (suc n, within, is) = below_last pairs ascend.1 (n, omega arith, is)
 

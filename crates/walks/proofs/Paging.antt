@@ -1,27 +1,24 @@
 -- A cursor page on a seat that is done: the page that it shows.
-use Rattle.std.proofs.Common.{◌≡◌, ℕ, List, false, Option, Some, None, refl, sym, ap, subst, ◌∙◌}
-use Rattle.std.specs.Prelude.{if◌then◌else◌}
+use Rattle.walks.proofs.Words.{Called, Cursor, Finishes, HasShown, IsOneHistory, IsRunOn, IsSame, List, None, Option, PairsAscend, Reply, Seat, Some, ap}
+use Rattle.walks.proofs.Words.{cursor_command, false, if◌then◌else◌, pairs_under, place_under, refl, subst, sym, unfinished_command, ℕ, ◌∙◌, ◌≡◌}
 use Rattle.bw_model.specs.declared.command.Command.TheVariants as command
-use Rattle.bw_model.specs.declared.command.Reply.{Reply}
 use Rattle.bw_model.specs.declared.command.Reply.TheVariants as reply
-use Rattle.linearization.specs.Operations.{Finishes}
-use Rattle.running_tree.specs.Runs.{IsOneHistory}
-use Rattle.running_tree.specs.Seats.{IsSame, Seat, unfinished_command}
-use Rattle.running_tree.specs.declared.called.Called.{Called}
 use Rattle.running_tree.specs.declared.called.Called.TheVariants as called
 use Rattle.walks.proofs.Calling.{IsCompleted, completed}
 use Rattle.walks.proofs.Replying.{IsPaged, paged}
-use Rattle.walks.specs.Cursors.{Cursor, HasShown, IsRunOn, cursor_command, page_from}
-use Rattle.walks.specs.Pages.{pairs_under, place_under}
-use Rattle.walks.specs.Walks.{PairsAscend}
+use Rattle.walks.specs.Cursors.{page_from}
 
-module _ (old : Cursor) (seat later : Seat) (from : List ℕ) (budget : ℕ) (came : Called) (answered : Reply) (at : old.at ≡ Some from) (same : IsSame seat later)
+module _ (old shown : Cursor) (is : shown ≡ old) (seat later : Seat) (from : List ℕ) (budget : ℕ) (came : Called) (answered : Reply) (has : shown.at ≡ Some from)
+    (same : IsSame seat later)
     (ready : unfinished_command seat ≡ cursor_command old)
-    (runs : IsRunOn old.asked seat (command.Page from) budget came later) (is_done : came ≡ called.Done answered)
+    (runs : IsRunOn shown.asked seat (command.Page from) budget came later) (is_done : came ≡ called.Done answered)
     (history : IsOneHistory later.limits later.seen) where
+  abbrev at : old.at ≡ Some from
+  at = rw is at has
+
   abbrev done : IsCompleted old.asked seat (command.Page from) budget answered later
   done = completed old.asked seat later (command.Page from) budget came answered same
-      (ready ∙ ap (λ key. if old.asked then page_from key else None) at) runs is_done history
+      (ready ∙ ap (λ key. if old.asked then page_from key else None) at) (rw is at runs) is_done history
 
   -- the reply is a cursor page
   pub is_paged : IsPaged later.seen history.linearized.points (record { start = done.begun; actor = later.actor; command = command.Page from }) from answered

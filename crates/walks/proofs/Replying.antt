@@ -1,26 +1,11 @@
 -- What a cursor page has replied.
-use Rattle.std.proofs.Common.{◌≡◌, ℕ, List, Bool, true, Option, Some, None, IsTrue, inl, inr, refl, sym, ap, subst, ◌∙◌}
-use Rattle.std.specs.Prelude.{not}
-use Rattle.bw_model.specs.Log.{logged_value}
-use Rattle.bw_model.specs.Replies.{command_key, is_writer, reply_of}
-use Rattle.bw_model.specs.Pairs.{IsPairsOf}
+use Rattle.walks.proofs.Words.{Bool, Entry, IsLinearized, IsOwnStep, IsPageOf, IsPageShown, IsPairsOf, IsPoint, IsTrue, Limits, List, LivePage, None, Operation}
+use Rattle.walks.proofs.Words.{Option, Reply, Some, Turn, WalkedPage, and_right, ap, covers, either, end_under, high_in, inl, inr, is_below, is_under, log_at}
+use Rattle.walks.proofs.Words.{logged_value, low_in, memory_at, not, own_before, page_operation, pairs_under, place_under, refl, subst, sym, true, ℕ, ◌∙◌, ◌≡◌}
+use Rattle.bw_model.specs.Replies.{command_key, reply_of}
 use Rattle.bw_model.specs.declared.command.Command.TheVariants as command
-use Rattle.bw_model.specs.declared.command.Reply.{Reply}
 use Rattle.bw_model.specs.declared.command.Reply.TheVariants as reply
-use Rattle.tree_limits.specs.declared.limits.Limits.{Limits}
-use Rattle.traces.specs.declared.trace.Entry.{Entry}
-use Rattle.traces.specs.declared.trace.Turn.{Turn}
-use Rattle.traces.specs.trace.Trace.{memory_at}
 use Rattle.linearization.specs.Answered.{FindsTidy, IsTrueReply, RepliesAtPoint, ShowsPage}
-use Rattle.linearization.specs.Linearized.{IsLinearized}
-use Rattle.linearization.specs.Operations.{IsOwnStep, Operation}
-use Rattle.linearization.specs.Points.{IsPoint, log_at}
-use Rattle.base_page.proofs.KeyLaws.{and_right, either}
-use Rattle.bw_model.specs.Bytes.{is_below, is_under}
-use Rattle.traces.specs.chain.Chains.{covers, high_in, low_in}
-use Rattle.traces.specs.chain.SideChain.{LivePage}
-use Rattle.map_laws.proofs.Ending.{own_before}
-use Rattle.walks.specs.Pages.{end_under, place_under, pairs_under, IsPageOf, IsPageShown, WalkedPage, page_operation}
 use Rattle.walks.proofs.Cuts.{cut_pairs}
 
 -- a cursor page with these pairs, at a point
@@ -45,8 +30,8 @@ module _ (limits : Limits) (run : List Entry) (points : List Bool) (operation : 
         step = n;
         own = own;
         point = point;
-        ahead = subst (λ key. is_under key page.next ≡ true) same (covered page.from page.next page.page.leaf page.page.ends page.page.stands.covers);
-        pairs = subst (λ key. IsPairsOf (log_at run points n) key page.next page.items) same page.page.pairs;
+        ahead = rw same at (covered page.from page.next page.page.leaf page.page.ends page.page.stands.covers);
+        pairs = rw same at page.page.pairs;
       }
     where
       from_same : {a b : List ℕ} → command.Page a ≡ command.Page b → a ≡ b
@@ -54,7 +39,7 @@ module _ (limits : Limits) (run : List Entry) (points : List Bool) (operation : 
 
       -- the leaf that has the key ends above it
       covered : (key : List ℕ) (high : Option (List ℕ)) (leaf : LivePage) → high_in leaf.chain ≡ high → IsTrue (covers leaf.chain key) → is_under key high ≡ true
-      covered key high leaf ends has = subst (λ end. is_under key end ≡ true) ends (and_right (not (is_below key (low_in leaf.chain))) (is_under key (high_in leaf.chain)) has)
+      covered key high leaf ends has = rw ends at (and_right (not (is_below key (low_in leaf.chain))) (is_under key (high_in leaf.chain)) has)
 
   at_point : (answer : Reply) → RepliesAtPoint limits run points operation answer → IsPaged run points operation from answer
   at_point answer (n, own, point, inl by_value) = absurd (let none = sym (ap (λ c. reply_of c (logged_value (log_at run points n) (command_key operation.command))) asks) ∙ by_value in cc)
@@ -66,7 +51,7 @@ module _ (limits : Limits) (run : List Entry) (points : List Bool) (operation : 
 
   -- a true reply to a cursor page is a cursor page
   pub paged : (answer : Reply) → IsTrueReply limits run points operation answer → IsPaged run points operation from answer
-  paged reply.Full is = absurd (let never = subst (λ c. IsTrue (is_writer c)) asks is.0 in cc)
+  paged reply.Full is = absurd (let never = rw asks at is.0 in cc)
   paged reply.Tidied is = absurd (not_tidy is)
   paged other is = at_point other is
 
@@ -85,7 +70,7 @@ page_is_shown limits turns run bound page linear is =
       own = p.own;
       within = own_before limits run linear.run.run (page_operation page) page.done (reply.Page is.items is.high) is.ends p.step p.own;
       point = p.point;
-      ahead = subst (λ next. is_under page.from next ≡ true) (sym (is.next ∙ ap (place_under bound) same_high)) (goes_ahead p.high p.ahead);
+      ahead = rw (is.next ∙ ap (place_under bound) same_high) (goes_ahead p.high p.ahead);
       pairs = subst (λ (z : Option (List ℕ) × List (List ℕ × List ℕ)). IsPairsOf (log_at run linear.points p.step) page.from (end_under bound z.0) z.1)
           (λ i. (sym (is.next ∙ ap (place_under bound) same_high) i, sym (is.pairs ∙ ap (pairs_under bound) same_items) i)) cut;
     }

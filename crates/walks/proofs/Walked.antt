@@ -1,14 +1,9 @@
 -- What a cursor has walked on a seat.
-use Rattle.std.proofs.Common.{◌≡◌, ◌+◌, ◌++◌, ℕ, List, [], ◌∷◌, length, Some, refl, sym, ap, subst, ◌∙◌, arith, append_assoc}
-use Rattle.std.proofs.lemmas.List.{append-nil, length-append}
+use Rattle.walks.proofs.Words.{Cursor, HasShown, HasTold, HasWalked, IsSame, IsWalk, List, Seat, Some, StartsWith, Walk, added_by, ap, append-nil, append_assoc}
+use Rattle.walks.proofs.Words.{arith, commands_in, length, length-append, pairs_shown, refl, starts_on, sym, ℕ, [], ◌++◌, ◌+◌, ◌∙◌, ◌∷◌, ◌≡◌}
 use Rattle.bw_model.specs.declared.command.Command.TheVariants as command
-use Rattle.running_tree.specs.Runs.{StartsWith}
-use Rattle.running_tree.specs.Seats.{IsSame, Seat}
 use Rattle.running_tree.specs.declared.called.Called.TheVariants as called
-use Rattle.running_tree.proofs.Going.{starts_on}
-use Rattle.walks.specs.Cursors.{CallsPages, Cursor, HasShown, HasTold, HasWalked, IsNextOf, IsSpentAt, added_by, commands_in}
-use Rattle.walks.specs.Walks.{IsWalk, pairs_shown}
-use Rattle.walks.specs.declared.cursor.Walk.{Walk}
+use Rattle.walks.specs.Cursors.{CallsPages, IsNextOf, IsSpentAt}
 use Rattle.walks.specs.declared.cursor.Walk.TheVariants as walk
 use Rattle.walks.proofs.Calls.{calls_alone, calls_on, done_idle, idle_still, no_call, spent_grows}
 use Rattle.walks.proofs.Replying.{page_is_shown}
@@ -62,7 +57,7 @@ walked_on first mid last seat between later before middle after one more = recor
         idle,
         walk_on later.seen first.bound first.at (length early) one.pages mid.at (length early') more.pages last.at (length late)
             (walk_stays between.seen later.seen first.bound first.at (length early) one.pages mid.at (length early') more.grows walk)
-            (subst (λ bound. IsWalk later.seen bound mid.at (length early') more.pages last.at (length late)) one.bound walk'),
+            (rw one.bound at walk'),
       );
   bound = more.bound ∙ one.bound;
   grows = starts_on seat.seen between.seen later.seen one.grows more.grows;
@@ -75,21 +70,20 @@ module _ (first mid last : Cursor) (seat between later : Seat) (budget : ℕ) (a
     (adds : after ≡ middle ++ added_by answered last) where
   pub walked_more : HasWalked first seat before middle mid between → HasWalked first seat before after last later
   walked_more walked = walked_on first mid last seat between later before middle after walked
-      (subst (λ pairs. HasWalked mid between middle pairs last later) (sym adds) (walked_next mid last between later budget answered middle same next))
+      (rw adds (walked_next mid last between later budget answered middle same next))
 
   pub spent_on : answered ≡ walk.Spent → HasWalked first seat before middle mid between → IsSpentAt seat budget last later
-  spent_on is walked = record { old = mid; seat = between; same = same; grows = walked.grows; asked = subst (λ one. IsNextOf mid between budget one last later) is next }
+  spent_on is walked = record { old = mid; seat = between; same = same; grows = walked.grows; asked = rw is at next }
 
   pub walked_counted : answered ≡ walk.Page → (n : ℕ) → (walked : HasWalked first seat before middle mid between) × (length walked.pages ≡ n)
       → (walked : HasWalked first seat before after last later) × (length walked.pages ≡ n + 1)
   unfolding walked_on walked_page
   walked_counted is n (walked, count) =
-      let shows : HasShown mid between budget last later = subst (λ one. IsNextOf mid between budget one last later) is next in
+      let shows : HasShown mid between budget last later = rw is at next in
       let more : HasWalked mid between middle (middle ++ last.pairs) last later = walked_page mid last between later budget middle same shows in
       let whole : HasWalked first seat before (middle ++ last.pairs) last later = walked_on first mid last seat between later before middle (middle ++ last.pairs) walked more in
       let is_after : middle ++ last.pairs ≡ after = sym (adds ∙ ap (λ one. middle ++ added_by one last) is) in
-      subst (λ pairs. (walked : HasWalked first seat before pairs last later) × (length walked.pages ≡ n + 1)) is_after
-      (whole, let long = length-append walked.pages (shows.page ∷ []) in omega arith)
+      rw (← is_after) (whole, let long = length-append walked.pages (shows.page ∷ []) in omega arith)
 
 -- nothing walked yet
 pub walked_nothing : (cursor : Cursor) (seat : Seat) (pairs : List (List ℕ × List ℕ)) → (walked : HasWalked cursor seat pairs pairs cursor seat) × (length walked.pages ≡ 0)
@@ -112,8 +106,7 @@ has_told old seat before after new later w = record {
   added = w.shown;
   tells = λ from early at idle.
       let (late, was, walk) = w.walk early idle in
-      let walk_from : IsWalk later.seen old.bound (Some from) (length early) w.pages new.at (length late) = subst
-      (λ at. IsWalk later.seen old.bound at (length early) w.pages new.at (length late)) at walk in (
+      let walk_from : IsWalk later.seen old.bound (Some from) (length early) w.pages new.at (length late) = rw at at walk in (
         late,
         was,
         λ limits turns linear. walk_tells later.seen linear.points old.bound (λ page is. page_is_shown limits turns later.seen old.bound page linear is) from

@@ -1,20 +1,11 @@
 -- Walks that go on, and what they show.
-use Rattle.std.proofs.Common.{◌≡◌, ◌≤◌, ◌<◌, ◌+◌, ℕ, List, [], ◌∷◌, ◌++◌, length, Bool, true, false, Option, Some, None, inl, inr, refl, sym, ap, subst, ◌∙◌, arith, append_assoc, Less}
-use Rattle.std.specs.Prelude.{if◌then◌else◌, Contains, not}
-use Rattle.std.specs.List.{AllByRecursion}
+use Rattle.walks.proofs.Words.{AllByRecursion, Bool, Contains, Contains-append_cases, Contains-append_left, Contains-append_right, Entry, Finishes, IsPageOf}
+use Rattle.walks.proofs.Words.{IsPageShown, IsWalk, Less, List, None, Operation, Option, PairsAscend, Reply, Some, StartsWith, TellMap, WalkedPage, and_both}
+use Rattle.walks.proofs.Words.{and_left, and_right, ap, append-nil, append_assoc, arith, below-trans, below_from, below_reach, either, end_under, false, inl}
+use Rattle.walks.proofs.Words.{inr, is_below, is_lt, is_under, key_cmp, length, not, not_true, page_operation, pairs_shown, place_under, refl, subst, sym, true}
+use Rattle.walks.proofs.Words.{ℕ, [], ◌++◌, ◌+◌, ◌<◌, ◌∙◌, ◌∷◌, ◌≡◌, ◌≤◌}
 use Rattle.std.specs.List.Sorted.{IsStrictlySortedBy}
-use Rattle.std.specs.Ordering.{is_lt}
-use Rattle.std.proofs.lemmas.List.{append-nil}
-use Rattle.std.proofs.lemmas.List.Elements.{Contains-append_cases, Contains-append_left, Contains-append_right}
-use Rattle.bw_model.specs.Bytes.{is_below, is_under, key_cmp}
-use Rattle.bw_model.specs.declared.command.Reply.{Reply}
-use Rattle.base_page.proofs.KeyLaws.{and_both, and_left, and_right, below_from, below-trans, below_reach, either, not_true}
-use Rattle.traces.specs.declared.trace.Entry.{Entry}
 use Rattle.traces.proofs.Pushes.{slice_get-append_left, slice_get_below, slice_get_kept}
-use Rattle.linearization.specs.Operations.{Finishes, Operation}
-use Rattle.running_tree.specs.Runs.{StartsWith}
-use Rattle.walks.specs.Pages.{IsPageOf, IsPageShown, WalkedPage, end_under, page_operation, place_under}
-use Rattle.walks.specs.Walks.{PairsAscend, IsWalk, TellMap, pairs_shown}
 use Rattle.walks.proofs.Cuts.{Pair, below_bound, keys}
 
 -- a page of a run is one of each longer run
@@ -32,7 +23,7 @@ finish_stays run rest operation n answered (step, told, own) = (
 )
 
 pub page_stays : (run later : List Entry) (bound : Option (List ℕ)) (page : WalkedPage) → StartsWith later run → IsPageOf run bound page → IsPageOf later bound page
-page_stays run later bound page (rest, more) is = subst (λ es. IsPageOf es bound page) (sym more) (record {
+page_stays run later bound page (rest, more) is = rw more (record {
   begins = slice_get_kept run rest page.begun _ is.begins;
   items = is.items;
   high = is.high;
@@ -61,7 +52,7 @@ walk_from run bound at early since (page ∷ pages) to till le walk = let then' 
 -- a walk that goes on
 pub walk_on : (run : List Entry) (bound at : Option (List ℕ)) (since : ℕ) (pages : List WalkedPage) (mid : Option (List ℕ)) (then' : ℕ) (more : List WalkedPage) (to : Option (List ℕ)) (till : ℕ)
     → IsWalk run bound at since pages mid then' → IsWalk run bound mid then' more to till → IsWalk run bound at since (pages ++ more) to till
-walk_on run bound at since [] mid then' more to till walk rest = walk_from run bound at since then' more to till walk.1 (subst (λ key. IsWalk run bound key then' more to till) walk.0 rest)
+walk_on run bound at since [] mid then' more to till walk rest = walk_from run bound at since then' more to till walk.1 (rw walk.0 at rest)
 walk_on run bound at since (page ∷ pages) mid then' more to till walk rest = (walk.0, walk.1, walk.2, walk_on run bound page.next (page.done + 1) pages mid then' more to till walk.3 rest)
 
 pub shown_on : (pages more : List WalkedPage) → pairs_shown (pages ++ more) ≡ pairs_shown pages ++ pairs_shown more
@@ -148,17 +139,17 @@ module _ (run : List Entry) (points : List Bool) where
         by_high : (high : Option (List ℕ)) → place_under bound high ≡ Some next → is_under next bound ≡ true
         by_high None e = cc
         by_high (Some high) e = either (is_under high bound)
-            (λ within. let some : Some high ≡ Some next = subst (λ b. (if b then Some high else None) ≡ Some next) within e in let same : high ≡ next = cc in
-            subst (λ key. is_under key bound ≡ true) same within)
-            (λ past. let none : None ≡ Some next = subst (λ b. (if b then Some high else None) ≡ Some next) past e in absurd (cc))
+            (λ within. let some : Some high ≡ Some next = rw within at e in let same : high ≡ next = cc in
+            rw same at within)
+            (λ past. let none : None ≡ Some next = rw past at e in absurd (cc))
 
     goes_ahead : (page : WalkedPage) (next : List ℕ) → IsPageOf run bound page → page.next ≡ Some next → is_below page.from next ≡ true
-    goes_ahead page next is goes = subst (λ end. is_under page.from end ≡ true) goes (shown page is).ahead
+    goes_ahead page next is goes = rw goes at (shown page is).ahead
 
     -- a key below where the walk stands is below where it goes
     below_end : (from : List ℕ) (since : ℕ) (pages : List WalkedPage) (to : Option (List ℕ)) (till : ℕ) → is_under from bound ≡ true → IsWalk run bound (Some from) since pages to till
         → (key : List ℕ) → is_below key from ≡ true → is_under key (end_under bound to) ≡ true
-    below_end from since [] to till under walk key below = subst (λ end. is_under key (end_under bound end) ≡ true) (sym walk.0) below
+    below_end from since [] to till under walk key below = rw walk.0 below
     below_end from since (page ∷ pages) to till under walk key below = go page.next refl (λ next up rest. below_end next (page.done + 1) pages to till up rest key)
       where
         same : from ≡ page.from
@@ -168,11 +159,11 @@ module _ (run : List Entry) (points : List Bool) where
             → ((next : List ℕ) → is_under next bound ≡ true → IsWalk run bound (Some next) (page.done + 1) pages to till → is_below key next ≡ true → is_under key (end_under bound to) ≡ true)
             → is_under key (end_under bound to) ≡ true
         go None goes more =
-            let none = ended (page.done + 1) pages to till (subst (λ at. IsWalk run bound at (page.done + 1) pages to till) goes walk.3) in
-            subst (λ end. is_under key (end_under bound end) ≡ true) (sym none.1) (below_bound bound key bound from under below)
+            let none = ended (page.done + 1) pages to till (rw goes at walk.3) in
+            rw none.1 (below_bound bound key bound from under below)
         go (Some next) goes more =
-            let ahead : is_below from next ≡ true = subst (λ key. is_below key next ≡ true) (sym same) (goes_ahead page next walk.2 goes) in
-            more next (next_under page next walk.2 goes) (subst (λ at. IsWalk run bound at (page.done + 1) pages to till) goes walk.3)
+            let ahead : is_below from next ≡ true = rw same (goes_ahead page next walk.2 goes) in
+            more next (next_under page next walk.2 goes) (rw goes at walk.3)
             (ap is_lt (below-trans key from next (below_from key from below) (below_from from next ahead)))
 
     tell_none : (from : List ℕ) (since till : ℕ) → TellMap run points since till from (Some from) []
@@ -192,7 +183,7 @@ module _ (run : List Entry) (points : List Bool) where
     -- a walk tells of the map from where it began to where it stands
     pub walk_tells : (from : List ℕ) (since : ℕ) (pages : List WalkedPage) (to : Option (List ℕ)) (till : ℕ) → IsWalk run bound (Some from) since pages to till
         → TellMap run points since till from (end_under bound to) (pairs_shown pages)
-    walk_tells from since [] to till walk = subst (λ end. TellMap run points since till from (end_under bound end) []) (sym walk.0) (tell_none from since till)
+    walk_tells from since [] to till walk = rw walk.0 (tell_none from since till)
     walk_tells from since (page ∷ pages) to till walk = go page.next refl (λ next rest. walk_tells next (page.done + 1) pages to till rest)
       where
         same : page.from ≡ from
@@ -202,20 +193,19 @@ module _ (run : List Entry) (points : List Bool) where
         lasts = walk_lasts run bound page.next (page.done + 1) pages to till walk.3
 
         one : TellMap run points since till from (end_under bound page.next) page.pairs
-        one = subst (λ key. TellMap run points since till key (end_under bound page.next) page.pairs) same (one_tells page since till walk.2 walk.1 lasts)
+        one = rw same at (one_tells page since till walk.2 walk.1 lasts)
 
         go : (next : Option (List ℕ)) → page.next ≡ next
             → ((next : List ℕ) → IsWalk run bound (Some next) (page.done + 1) pages to till → TellMap run points (page.done + 1) till next (end_under bound to) (pairs_shown pages))
             → TellMap run points since till from (end_under bound to) (page.pairs ++ pairs_shown pages)
         go None goes more =
-            let none = ended (page.done + 1) pages to till (subst (λ at. IsWalk run bound at (page.done + 1) pages to till) goes walk.3) in
-            let here : TellMap run points since till from (end_under bound to) page.pairs = subst
-            (λ end. TellMap run points since till from (end_under bound end) page.pairs) (goes ∙ sym none.1) one in
+            let none = ended (page.done + 1) pages to till (rw goes at walk.3) in
+            let here : TellMap run points since till from (end_under bound to) page.pairs = rw (goes ∙ sym none.1) at one in
             subst (TellMap run points since till from (end_under bound to)) (sym (ap (λ ps. page.pairs ++ pairs_shown ps) none.0 ∙ append-nil page.pairs)) here
         go (Some next) goes more =
-            let rest = subst (λ at. IsWalk run bound at (page.done + 1) pages to till) goes walk.3 in
-            let here : TellMap run points since till from (Some next) page.pairs = subst (λ end. TellMap run points since till from (end_under bound end) page.pairs) goes one in
+            let rest = rw goes at walk.3 in
+            let here : TellMap run points since till from (Some next) page.pairs = rw goes at one in
             let early = walk.1 in let begun = walk.2.ends.2.begun in
             join_tells since (page.done + 1) till from next (end_under bound to) page.pairs (pairs_shown pages) (omega arith)
-            (subst (λ key. is_below key next ≡ true) same (goes_ahead page next walk.2 goes))
+            (rw same at (goes_ahead page next walk.2 goes))
             (below_end next (page.done + 1) pages to till (next_under page next walk.2 goes) rest) here (more next rest)

@@ -1,11 +1,7 @@
 -- Jobs in order of their numbers.
-use Rattle.std.proofs.Common.{◌≡◌, ◌<◌, ◌≤◌, ◌+◌, ℕ, zero, suc, List, [], ◌∷◌, sym, ap, ◌∙◌, arith, length, map}
-use Rattle.std.specs.Prelude.{slice_index, slice_index_or}
-use mathlib.Core.Logic.{dite}
-use native.Mathlib.Decide.{ℕ_discrete}
-use Rattle.workers.specs.declared.job.Job.{Job}
+use Rattle.workers.proofs.Words.{Job, List, ap, arith, dite, length, length-map, map, slice_index, slice_index_or, suc, sym, zero, ℕ, ℕ_discrete, [], ◌+◌, ◌<◌}
+use Rattle.workers.proofs.Words.{◌∙◌, ◌∷◌, ◌≡◌, ◌≤◌}
 use Rattle.workers.specs.Jobs.{AreAscending}
-use Rattle.std.proofs.lemmas.List.{length-map}
 
 abbrev pub number_of : Job → ℕ
 number_of job = job.number

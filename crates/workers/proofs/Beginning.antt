@@ -1,16 +1,12 @@
 -- Workers are begun, and come back.
-use Rattle.std.proofs.Common.{◌≡◌, ℕ, zero, suc, inl, inr, List, [], ◌∷◌, ◌++◌, Some, refl, sym, ap, subst, ◌∙◌, arith, All, length}
-use Rattle.std.specs.Prelude.{◌⊎◌, Bool, slice_get}
-use Rattle.std.proofs.lemmas.List.{length-append}
-use Rattle.std.proofs.lemmas.Option.{same_Some}
+use Rattle.workers.proofs.Words.{All, AreBegun, Bool, HaveComeBack, HaveJoined, IsToldBy, List, Some, Worker, ap, arith, index_is, length, length-append, refl}
+use Rattle.workers.proofs.Words.{same_Some, slice_get, slice_get_below, subst, suc, sym, there, zero, ℕ, [], ◌++◌, ◌∙◌, ◌∷◌, ◌≡◌}
+use Rattle.std.proofs.Common.{inl, inr}
+use Rattle.std.specs.Prelude.{◌⊎◌}
 use Rattle.workers.specs.declared.begun.Back.{Back}
 use Rattle.workers.specs.declared.begun.Begun.{Begun}
 use Rattle.workers.specs.declared.begun.Begun.TheVariants as begun
-use Rattle.workers.specs.declared.worker.Worker.{Worker}
-use Rattle.traces.proofs.Pushes.{slice_get_below}
-use Rattle.seats.proofs.Gathering.{there}
-use Rattle.seats.proofs.Seeing.{index_is}
-use Rattle.workers.specs.Begun.{AreBegun, ComesBack, HasJoined, HaveComeBack, HaveJoined, IsBack, IsBegun, IsToldBy}
+use Rattle.workers.specs.Begun.{HasJoined, IsBack, IsBegun}
 
 -- what stands in a longer list stands in the list, or is the last
 at_more : {X : Type 0} (xs : List X) (x z : X) (n : ℕ) → slice_get (xs ++ x ∷ []) n ≡ Some z → (slice_get xs n ≡ Some z) ⊎ ((n ≡ length xs) × (x ≡ z))
@@ -31,7 +27,7 @@ each_more R xs ys x y count each one n a b at_a at_b = elim (at_more xs x a n at
   ]
   | inr end ↦ elim (at_more ys y b n at_b) [
     | inl there ↦ let below = slice_get_below ys n b there in let e = end.0 in absurd (omega (arith, below, e, count))
-    | inr last ↦ subst (λ k. R k a b) (sym last.0) (subst (λ z. R (length ys) z b) end.1 (subst (R (length ys) x) last.1 one))
+    | inr last ↦ rw last.0 (rw (← end.1) (subst (R (length ys) x) last.1 one))
   ]
 ]
 
@@ -47,7 +43,7 @@ pub begun_more : {A : Type 0} (limit id place : ℕ) (olds : List (Worker A)) (o
     → AreBegun limit id olds ones → place ≡ length ones → news ≡ ones ++ one ∷ [] → IsBegun limit id place old one → AreBegun limit id (olds ++ old ∷ []) news
 begun_more limit id place olds ones news old one before at longer is = subst (AreBegun limit id (olds ++ old ∷ [])) (sym longer) record {
   count = count_more olds ones old one before.count;
-  each = each_more (IsBegun limit id) olds ones old one before.count before.each (subst (λ k. IsBegun limit id k old one) at is);
+  each = each_more (IsBegun limit id) olds ones old one before.count before.each (rw (← at) is);
 }
 
 -- no worker came back yet
@@ -76,7 +72,7 @@ all_told limit id olds ones is k d below =
 -- what was begun and has joined came back
 pub came_back : {A : Type 0} (told same : Bool) (limit id : ℕ) (olds news : List (Worker A)) (ones : List (Begun A)) → AreBegun limit id olds ones
     → HaveJoined told ones news → same ≡ told → HaveComeBack same limit olds news
-came_back told same limit id olds news ones is joined says = subst (λ z. HaveComeBack z limit olds news) (sym says) record {
+came_back told same limit id olds news ones is joined says = rw says record {
   count = joined.count ∙ is.count;
   each = λ place old new at_old at_new.
       let below = slice_get_below olds place old at_old in
@@ -92,9 +88,6 @@ EndsAs (begun.Back it) back = back ≡ it
 -- what has ended has joined
 pub has_joined : {A : Type 0} (told : Bool) (one : Begun A) (back : Back A) → EndsAs one back → back.told.value ≡ told → HasJoined told one back.worker
 has_joined told (begun.Standing handle) back ends says = λ limit id place old is.
-    subst (λ z. ComesBack z limit place old back.worker) says
-    (subst (λ w. ComesBack back.told.value limit place w back.worker) is.3
-    (subst (λ l. ComesBack back.told.value l place handle.promise.worker.value back.worker) is.2
-    (subst (λ p. ComesBack back.told.value handle.promise.limit p handle.promise.worker.value back.worker) is.1 ends.comes)))
+    rw (← says) (rw (← is.3) (rw (← is.2) (rw (← is.1) ends.comes)))
 has_joined told (begun.Back it) back ends says = λ limit id place old is.
-    subst (λ z. ComesBack z limit place old back.worker) says (subst (λ b. ComesBack b.told.value limit place old b.worker) (sym ends) is.comes)
+    rw (← says) (rw ends is.comes)

@@ -1,9 +1,7 @@
 -- Lists behind which stand what is taken of another one's elements.
-use Rattle.std.proofs.Common.{◌≡◌, ◌++◌, ◌∷◌, [], ◌∙◌, List, Some, ap, arith, length, refl, suc, ℕ}
-use Rattle.std.specs.Prelude.{slice_get}
-use Rattle.running_tree.specs.Seats.{Seat}
-use Rattle.running_tree.specs.Trees.{AreSeatsOf, IsSeatOf, Tree}
-use Rattle.workers.specs.Works.{AreEachDone, with_each_behind}
+use Rattle.workers.proofs.Words.{AreSeatsOf, IsSeatOf, List, Seat, Some, Tree, ap, arith, length, refl, slice_get, suc, with_each_behind, ℕ, [], ◌++◌, ◌∙◌, ◌∷◌}
+use Rattle.workers.proofs.Words.{◌≡◌}
+use Rattle.workers.specs.Works.{AreEachDone}
 use Rattle.seats.proofs.Pushed.{all_pushed}
 
 -- one element goes over from one list to the other

@@ -1,13 +1,10 @@
 -- Calls of a seat, one after another.
-use Rattle.std.proofs.Common.{◌≡◌, ◌+◌, ◌<◌, ℕ, List, [], ◌∷◌, ◌++◌, Option, Some, None, refl, sym, ap, subst, ◌∙◌, arith, length, map}
-use Rattle.std.specs.Prelude.{slice_index_or, take, zip}
-use Rattle.std.proofs.lemmas.List.{append_assoc, append-nil, length-take, take_more}
-use Rattle.bw_model.specs.declared.command.Command.{Command}
-use Rattle.bw_model.specs.declared.command.Reply.{Reply}
+use Rattle.workers.proofs.Words.{Command, GoesOn, List, None, Reply, Seat, Some, ap, append-nil, append_assoc, arith, length, map, refl, same_on}
+use Rattle.workers.proofs.Words.{slice_index_or, starts_on, sym, unfinished_command, zip, ℕ, [], ◌++◌, ◌+◌, ◌<◌, ◌∙◌, ◌∷◌, ◌≡◌}
+use Rattle.std.proofs.Common.{Option}
+use Rattle.std.specs.Prelude.{take}
+use Rattle.std.proofs.lemmas.List.{length-take, take_more}
 use Rattle.running_tree.specs.Calls.{calls_in}
-use Rattle.running_tree.specs.Seats.{Seat, unfinished_command}
-use Rattle.workers.specs.Worked.{GoesOn}
-use Rattle.running_tree.proofs.Going.{same_on, starts_on}
 
 -- a seat that has made no call
 pub stays : (seat : Seat) → unfinished_command seat ≡ None → GoesOn seat [] seat
@@ -43,4 +40,4 @@ ran first mid new commands i item command replies news reply before now same bel
     let long : length replies ≡ length (take i commands) = omega (arith, count, length-take i commands, below) in
     let zip_is : zip (take (i + 1) commands) (map Some news) ≡ zip (take i commands) (map Some replies) ++ (command, Some reply) ∷ [] =
     ap (λ z. zip z (map Some news)) more ∙ ap (λ z. zip (take i commands ++ command ∷ []) (map Some z)) grown ∙ zipped (take i commands) replies command reply long in
-    subst (λ z. GoesOn first z new) (sym zip_is) (goes_on first mid new (zip (take i commands) (map Some replies)) ((command, Some reply) ∷ []) before now)
+    rw zip_is (goes_on first mid new (zip (take i commands) (map Some replies)) ((command, Some reply) ∷ []) before now)

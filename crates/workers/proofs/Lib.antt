@@ -7,3 +7,4 @@ mod Looked
 mod Named
 mod Parting
 pub mod UnderWay
+pub mod Words

@@ -1,13 +1,6 @@
 -- Results that were looked at, one after another.
-use Rattle.std.proofs.Common.{◌≡◌, ◌<◌, ◌+◌, ℕ, List, Some, sym, ap, subst, ◌∙◌, arith, length}
-use Rattle.std.specs.Prelude.{slice_get, slice_index_or}
-use mathlib.Core.Logic.{dite}
-use native.Mathlib.Decide.{ℕ_discrete}
-use Rattle.workers.specs.declared.job.Job.{Job}
-use Rattle.workers.specs.declared.job.JobResult.{JobResult}
-use Rattle.seats.proofs.Gathering.{there}
-use Rattle.seats.proofs.Seeing.{index_is}
-use Rattle.workers.specs.Jobs.{AreResultsOf, IsResultOf}
+use Rattle.workers.proofs.Words.{AreResultsOf, IsResultOf, Job, JobResult, List, Some, ap, arith, dite, index_is, length, slice_get, slice_index_or, subst, sym}
+use Rattle.workers.proofs.Words.{there, ℕ, ℕ_discrete, ◌+◌, ◌<◌, ◌∙◌, ◌≡◌}
 
 -- the results below a place are the jobs'
 abbrev pub AreLooked : {A : Type 0} → List Job → List (JobResult A) → ℕ → Type 0
@@ -20,7 +13,7 @@ one_looked jobs results place one other is is_other right before n job given bel
     (λ same.
     let is_job : one ≡ job = is ∙ ap (λ k. slice_index_or jobs k one) (sym same) ∙ index_is jobs n job one at in
     let is_given : other ≡ given = is_other ∙ ap (λ k. slice_index_or results k other) (sym same) ∙ index_is results n given other at_given in
-    subst (λ z. IsResultOf z given) is_job (subst (IsResultOf one) is_given right))
+    rw (← is_job) (subst (IsResultOf one) is_given right))
     (λ apart. before n job given (omega (arith, below, apart)) at at_given)
 
 -- results are not the jobs' where one is not its job's
@@ -32,4 +25,4 @@ one_wrong jobs results place one other is is_other below wrong all =
     let given = there results place (omega (arith, below, all.count)) in
     let is_job : one ≡ job.0 = is ∙ index_is jobs place job.0 one job.1 in
     let is_given : other ≡ given.0 = is_other ∙ index_is results place given.0 other given.1 in
-    wrong (subst (λ z. IsResultOf z other) (sym is_job) (subst (IsResultOf job.0) (sym is_given) (all.each place job.0 given.0 job.1 given.1)))
+    wrong (rw is_job (subst (IsResultOf job.0) (sym is_given) (all.each place job.0 given.0 job.1 given.1)))

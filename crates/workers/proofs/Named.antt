@@ -1,12 +1,9 @@
 -- The results of workers, each of which names its worker's place.
-use Rattle.std.proofs.Common.{◌≡◌, ◌<◌, ◌≤◌, ◌+◌, ℕ, zero, suc, List, [], ◌∷◌, ◌++◌, Some, refl, subst, arith, All, flat_map, length}
-use Rattle.std.specs.Prelude.{slice_get, IsPermutation}
-use Rattle.std.proofs.lemmas.List.{append_assoc}
-use Rattle.std.proofs.lemmas.List.Elements.{All-nil, All-append, All-weaker}
-use Rattle.std.proofs.lemmas.List.Sorted.{IsPermutation-refl, IsPermutation-sym, IsPermutation-trans, IsPermutation-append_left, IsPermutation-append_right, IsPermutation-append_comm}
-use Rattle.std.proofs.lemmas.Option.{same_Some}
-use Rattle.workers.specs.declared.job.JobResult.{JobResult}
-use Rattle.workers.specs.declared.worker.Worker.{Worker}
+use Rattle.workers.proofs.Words.{All, All-nil, All-weaker, IsPermutation, JobResult, List, Some, Worker, append_assoc, arith, flat_map, length, refl, same_Some}
+use Rattle.workers.proofs.Words.{slice_get, subst, suc, zero, ℕ, [], ◌++◌, ◌+◌, ◌<◌, ◌∷◌, ◌≡◌, ◌≤◌}
+use Rattle.std.proofs.lemmas.List.Elements.{All-append}
+use Rattle.std.proofs.lemmas.List.Sorted.{IsPermutation-refl, IsPermutation-sym, IsPermutation-trans, IsPermutation-append_left, IsPermutation-append_right}
+use Rattle.std.proofs.lemmas.List.Sorted.{IsPermutation-append_comm}
 use Rattle.workers.specs.Worked.{AreNamed}
 
 abbrev pub done_by : {A : Type 0} → Worker A → List (JobResult A)
@@ -37,14 +34,15 @@ all_within count base (worker ∷ workers) few placed =
 
 between : {A : Type 0} (xs order others : List (JobResult A)) → IsPermutation (xs ++ (order ++ others)) (order ++ (xs ++ others))
 between xs order others =
-    subst (λ z. IsPermutation z (order ++ (xs ++ others))) (append_assoc xs order others)
-    (subst (IsPermutation ((xs ++ order) ++ others)) (append_assoc order xs others) (IsPermutation-append_left others (xs ++ order) (order ++ xs) (IsPermutation-append_comm xs order)))
+    rw (← append_assoc xs order others)
+    (subst (IsPermutation ((xs ++ order) ++ others)) (append_assoc order xs others)
+    (IsPermutation-append_left others (xs ++ order) (order ++ xs) (IsPermutation-append_comm xs order)))
 
 -- the results that name a place are those of the worker there
 pub named : {A : Type 0} (base : ℕ) (workers : List (Worker A)) → ArePlaced base workers → (n : ℕ) (worker : Worker A) → slice_get workers n ≡ Some worker
     → AreNamed (base + n) (flat_map done_by workers) (done_by worker)
 named base [] placed n worker at = cc
-named base (first ∷ workers) placed zero worker at = subst (λ w. AreNamed (base + 0) (flat_map done_by (first ∷ workers)) (done_by w)) (same_Some first worker at) record {
+named base (first ∷ workers) placed zero worker at = rw (← (same_Some first worker at)) record {
   others = flat_map done_by workers;
   all = IsPermutation-refl (done_by first ++ flat_map done_by workers);
   named = placed 0 first refl;

@@ -1,30 +1,19 @@
 -- Workers are made of seats, and parted from them again.
-use Rattle.std.proofs.Common.{◌≡◌, ◌<◌, ◌≤◌, ◌+◌, ◌*◌, ℕ, zero, suc, List, [], ◌∷◌, Some, refl, sym, ap, subst, ◌++◌, ◌∙◌, arith, All, Vec, false, flat_map, length, map, true}
-use Rattle.std.specs.Prelude.{Bool, IsPermutation, MatchBool, Option, slice_get, vec_len}
+use Rattle.workers.specs.Worked.{AreNamed}
+use Rattle.workers.proofs.Words.{All, All-weaker, AreIdle, AreResultsOf, AreSeatsOf, Bool, Command, GoesOn, HaveComeBack, IsPermutation, Job, JobResult, List}
+use Rattle.workers.proofs.Words.{Reply, Seat, Some, Tree, Worker, ap, append-nil, arith, calls_told, false, flat_map, flat_map-append, index_is, length}
+use Rattle.workers.proofs.Words.{length-map, map, map-append, refl, same_Some, same_on, slice_get, slice_get_below, starts_on, subst, suc, sym, there, true}
+use Rattle.workers.proofs.Words.{vec_len, zero, ℕ, [], ◌*◌, ◌++◌, ◌+◌, ◌<◌, ◌∙◌, ◌∷◌, ◌≡◌, ◌≤◌}
+use Rattle.std.proofs.Common.{Vec}
+use Rattle.std.specs.Prelude.{MatchBool, Option}
 use Rattle.std.specs.List.Sorted.{IsNonDecreasingBy}
 use Rattle.std.proofs.Math.Nat.{mul-le-mul_right}
-use Rattle.std.proofs.lemmas.Grind.{flat_map-append}
-use Rattle.std.proofs.lemmas.List.{append-nil, length-map, map-append}
-use Rattle.std.proofs.lemmas.List.Elements.{All-weaker}
 use Rattle.std.proofs.lemmas.List.Sorted.{All-permutation}
-use Rattle.std.proofs.lemmas.Option.{same_Some}
-use Rattle.bw_model.specs.declared.command.Command.{Command}
-use Rattle.bw_model.specs.declared.command.Reply.{Reply}
-use Rattle.running_tree.specs.Seats.{Seat}
-use Rattle.running_tree.specs.Trees.{AreSeatsOf, Tree}
-use Rattle.workers.specs.declared.job.JobResult.{JobResult}
-use Rattle.workers.specs.declared.worker.Worker.{Worker}
-use Rattle.workers.specs.declared.job.Job.{Job}
 use Rattle.workers.specs.declared.job.JobsRefusal.{JobsRefusal}
 use Rattle.workers.specs.declared.job.JobsRefusal.TheVariants.{NotRun, Results}
-use Rattle.traces.proofs.Pushes.{slice_get_below}
-use Rattle.running_tree.proofs.Going.{same_on, starts_on}
-use Rattle.seats.proofs.Gathering.{there}
-use Rattle.seats.proofs.Seeing.{index_is}
 use Rattle.seats.specs.Gathered.{HaveGathered, SeesOn}
-use Rattle.workers.specs.Jobs.{AreResultsOf, calls_told}
-use Rattle.workers.specs.Worked.{AreIdle, AreNamed, GoesOn, HasWorked, HaveOneHistory, HaveStopped, HaveWorked}
-use Rattle.workers.specs.Begun.{ComesBack, HaveComeBack}
+use Rattle.workers.specs.Worked.{HasWorked, HaveOneHistory, HaveStopped, HaveWorked}
+use Rattle.workers.specs.Begun.{ComesBack}
 use Rattle.workers.proofs.Named.{ArePlaced, all_within, done_by, named, reordered}
 
 abbrev pub seat_of : {A : Type 0} → Worker A → Seat
@@ -85,20 +74,20 @@ same_list (x ∷ xs) (y ∷ ys) count each =
 -- where no job might be run all workers are as they were
 pub all_same : {A : Type 0} (told : Bool) (limit : ℕ) (olds news : List (Worker A)) → HaveComeBack told limit olds news → told ≡ false → news ≡ olds
 all_same told limit olds news back is =
-    let same = subst (λ z. HaveComeBack z limit olds news) is back in
+    let same = rw is at back in
     same_list olds news same.count same.each
 
 few_of : {A : Type 0} (told : Bool) (limit place : ℕ) (old new : Worker A) → vec_len old.done ≤ limit → ComesBack told limit place old new → vec_len new.done ≤ limit
 few_of true limit place old new few comes = comes.0.few
-few_of false limit place old new few same = subst (λ w. vec_len w.done ≤ limit) (sym same) few
+few_of false limit place old new few same = rw same few
 
 -- no worker has more results than there are jobs
 pub all_few : {A : Type 0} (told : Bool) (limit : ℕ) (olds news : List (Worker A)) → All (λ w. vec_len w.done ≤ limit) olds → HaveComeBack told limit olds news → All (λ w. vec_len w.done ≤ limit) news
 all_few told limit olds news few back k d below =
     let new = there news k below in
     let old = there olds k (omega (arith, below, back.count)) in
-    let before = subst (λ w. vec_len w.done ≤ limit) (index_is olds k old.0 d old.1) (few k d (omega (arith, below, back.count))) in
-    subst (λ w. vec_len w.done ≤ limit) (sym (index_is news k new.0 d new.1)) (few_of told limit k old.0 new.0 before (back.each k old.0 new.0 old.1 new.1))
+    let before = rw (index_is olds k old.0 d old.1) at (few k d (omega (arith, below, back.count))) in
+    rw (index_is news k new.0 d new.1) (few_of told limit k old.0 new.0 before (back.each k old.0 new.0 old.1 new.1))
 
 placed : {A : Type 0} (limit : ℕ) (olds news : List (Worker A)) → HaveComeBack true limit olds news → ArePlaced 0 news
 placed limit olds news back n worker at =
@@ -158,8 +147,7 @@ idle_after results olds news worked place after at =
 pub worked_as : {A : Type 0} (results others : List (JobResult A)) (olds before news after : List Seat) → HaveWorked results olds news → others ≡ results
     → before ≡ olds → after ≡ news → HaveWorked others before after
 worked_as results others olds before news after worked same_results same_olds same_news =
-    subst (λ z. HaveWorked z before after) (sym same_results)
-    (subst (λ z. HaveWorked results z after) (sym same_olds) (subst (HaveWorked results olds) (sym same_news) worked))
+    rw same_results (rw same_olds (subst (HaveWorked results olds) (sym same_news) worked))
 
 -- and when they see what all have seen
 goes_on_seen : (old mid new : Seat) (made : List (Command × Option Reply)) → GoesOn old made mid → SeesOn mid new → GoesOn old made new
@@ -195,14 +183,13 @@ pub stopped : {A : Type 0} (jobs : List Job) (refusal : JobsRefusal) (results gi
     → given ≡ results → backs ≡ news → HaveWorked results olds news → HaveOneHistory news
     → IsNonDecreasingBy (λ result. result.job) results → (AreResultsOf jobs results → ⊥) → HaveStopped jobs refusal given olds backs
 stopped jobs refusal results given olds news backs is same_results same worked one order other =
-    subst (λ z. HaveStopped jobs z given olds backs) (sym is)
-    (subst (λ z. HaveStopped jobs Results z olds backs) (sym same_results) (subst (HaveStopped jobs Results results olds) (sym same) (worked, one, order, other)))
+    rw is (rw same_results (subst (HaveStopped jobs Results results olds) (sym same) (worked, one, order, other)))
 
 -- where no job was run the seats are as they were
 pub not_run : {A : Type 0} (jobs : List Job) (refusal : JobsRefusal) (results : List (JobResult A)) (olds backs : List Seat) → refusal ≡ NotRun → backs ≡ olds
     → results ≡ [] → HaveStopped jobs refusal results olds backs
-not_run jobs refusal results olds backs is same none = subst (λ z. HaveStopped jobs z results olds backs) (sym is) (same, none)
+not_run jobs refusal results olds backs is same none = rw is (same, none)
 
 -- what is so where a test is false
 pub where_false : (P Q : Type 0) (test : Bool) → test ≡ false → MatchBool test P Q → Q
-where_false P Q test is h = subst (λ z. MatchBool z P Q) is h
+where_false P Q test is h = rw is at h

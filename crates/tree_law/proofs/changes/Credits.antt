@@ -11,7 +11,7 @@ use Rattle.tree_law.proofs.trace.Names.{learn_command}
 pub credit_most : (command : Option Command) (linked : Option (Option ℕ)) → credit_of command linked ≤ 8
 credit_most None linked = omega arith
 credit_most (Some command) None = omega arith
-credit_most (Some command) (Some over) = omega arith
+credit_most command linked = omega arith
 
 pub linked_pays_none : (command : Option Command) (linked : Option (Option ℕ)) → IsSome linked → credit_of command linked ≡ 0
 linked_pays_none None linked some = refl

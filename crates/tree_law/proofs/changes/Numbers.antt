@@ -158,18 +158,13 @@ module _ (limits : Limits) where
     IsOther s = Unit {0}
 
     same_own : (s : StepOf Record) (x : Answer Record) → IsOther s → (learn k s x).own ≡ k.own
-    same_own (Slot zero) (Number n) other = refl
     same_own (Slot (suc p)) (Number zero) other = refl
-    same_own (Slot (suc p)) (Number (suc n)) other = refl
-    same_own (Row row) (Content content) other = refl
-    same_own Epoch (Number n) other = refl
-    same_own (Announce actor) (Number n) other = refl
-    same_own (PidBits word) (Number n) other = refl
-    same_own (RowBits word) (Number n) other = refl
     same_own (TakePid page) x other = absurd other
     same_own (TakeRow row) x other = absurd other
     same_own (Place row content) x other = absurd other
     same_own (Exchange slot from to) x other = absurd other
+    same_own s (Number n) other = refl
+    same_own s (Content content) other = refl
     same_own s x other = refl
 
     took_none : (s : StepOf Record) (x : Answer Record) → IsOther s → took (Step a s x r) ≡ 0

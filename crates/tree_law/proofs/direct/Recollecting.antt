@@ -1,6 +1,7 @@
 -- What an actor recalls of its last operation, that operation has read.
 use Rattle.tree_law.proofs.Words.{◌⊎◌, [], ap, cond, Option, suc, None, List, inl, ◌≢◌, length, ◌++◌, inr, ◌∷◌, sym, ℕ, ◌≡◌, ◌∙◌, arith, Some, eqb_tells, Reply, Limits, Answer, Content, Number}
-use Rattle.tree_law.proofs.Words.{StepOf, TakePid, Row, TakeRow, Slot, PidBits, Exchange, RowBits, replaced_at, Record, recall, Recalled, blank, Entry, Step, IsExchangeOf, IsTake, Operation, IsLast}
+use Rattle.tree_law.proofs.Words.{StepOf, TakePid, TakeRow, Slot, PidBits, Exchange, RowBits, replaced_at, Record, recall, Recalled, blank, Entry, Step}
+use Rattle.tree_law.proofs.Words.{IsExchangeOf, IsTake, Operation, IsLast}
 use Rattle.tree_law.proofs.Words.{Recollects}
 use Rattle.tree_law.specs.Direct.{HasReadSince}
 use Rattle.tree_law.proofs.trace.Owned.{pushed_length}
@@ -27,9 +28,8 @@ heads_cases r (Exchange p old new) x slot row e = elim (at_cases p None r.heads 
   | inl at ↦ absurd (let none : ◌≡◌ {A = Option ℕ} None (Some row) = at.1 in cc)
   | inr kept ↦ inr (kept.1, λ same. kept.0 (sym same))
 ]
-heads_cases r (PidBits w) (Number n) slot row e = inr (e, λ h. h)
-heads_cases r (RowBits w) (Number n) slot row e = inr (e, λ h. h)
-heads_cases r (Row q) (Content w) slot row e = inr (e, λ h. h)
+heads_cases r s (Number n) slot row e = inr (e, λ h. h)
+heads_cases r s (Content w) slot row e = inr (e, λ h. h)
 heads_cases r s x slot row e = inr (e, λ h. h)
 
 pids_cases : (r : Recalled) (s : StepOf Record) (x : Answer Record) (word bits : ℕ) → (recall r s x).pids word ≡ Some bits → Cases s x r.pids word bits PidBits IsTake
@@ -39,9 +39,8 @@ pids_cases r (PidBits w) (Number n) word bits e = elim (at_cases w (Some n) r.pi
 ]
 pids_cases r (TakePid p) x word bits e = absurd (cc)
 pids_cases r (TakeRow q) x word bits e = absurd (cc)
-pids_cases r (Slot p) (Number n) word bits e = inr (e, λ h. h)
-pids_cases r (RowBits w) (Number n) word bits e = inr (e, λ h. h)
-pids_cases r (Row q) (Content w) word bits e = inr (e, λ h. h)
+pids_cases r s (Number n) word bits e = inr (e, λ h. h)
+pids_cases r s (Content w) word bits e = inr (e, λ h. h)
 pids_cases r s x word bits e = inr (e, λ h. h)
 
 rows_cases : (r : Recalled) (s : StepOf Record) (x : Answer Record) (word bits : ℕ) → (recall r s x).rows word ≡ Some bits → Cases s x r.rows word bits RowBits IsTake
@@ -51,9 +50,8 @@ rows_cases r (RowBits w) (Number n) word bits e = elim (at_cases w (Some n) r.ro
 ]
 rows_cases r (TakePid p) x word bits e = absurd (cc)
 rows_cases r (TakeRow q) x word bits e = absurd (cc)
-rows_cases r (Slot p) (Number n) word bits e = inr (e, λ h. h)
-rows_cases r (PidBits w) (Number n) word bits e = inr (e, λ h. h)
-rows_cases r (Row q) (Content w) word bits e = inr (e, λ h. h)
+rows_cases r s (Number n) word bits e = inr (e, λ h. h)
+rows_cases r s (Content w) word bits e = inr (e, λ h. h)
 rows_cases r s x word bits e = inr (e, λ h. h)
 
 module _ (limits : Limits) (entries : List Entry) (last : Entry) (op : Operation) where

@@ -1,6 +1,7 @@
 -- What an actor recalls of its reads since it last read slot 0, its last operation has read since then.
 use Rattle.tree_law.proofs.Words.{false, ap, refl, Option, suc, List, true, inl, ◌≢◌, length, ◌++◌, inr, ◌∷◌, subst, sym, ℕ, ◌≡◌, Bool, zero, ◌∙◌, ◌<◌, arith, Some, ◌||◌, Reply, Limits, Answer}
-use Rattle.tree_law.proofs.Words.{Content, Number, StepOf, Leave, Row, Slot, PidBits, RowBits, Memory, replaced_at, Record, Knowledge, learn, recall, Recalled, is_removal, IsAnswer, Entry}
+use Rattle.tree_law.proofs.Words.{Content, Number, StepOf, Leave, Row, Slot, Memory, replaced_at, Record, Knowledge, learn, recall, Recalled, is_removal}
+use Rattle.tree_law.proofs.Words.{IsAnswer, Entry}
 use Rattle.tree_law.proofs.Words.{Step, TakesNone, IsTheStep, Operation, TakesOwnStep, IsLast, Walks, [], ◌&&◌, not, if◌then◌else◌, ltb-true}
 use Rattle.std.specs.Prelude.{◌≤◌, ltb}
 use Rattle.std.proofs.lemmas.Bool.{ltb-false, or_parts}
@@ -44,8 +45,7 @@ walk_kept : (r : Recalled) (s : StepOf Record) (x : Answer Record) → IsStill s
 walk_kept r (Slot page) x h = absurd h
 walk_kept r (Row row) x h = absurd h
 walk_kept r Leave x h = absurd h
-walk_kept r (PidBits w) (Number n) h = refl
-walk_kept r (RowBits w) (Number n) h = refl
+walk_kept r s (Number n) h = refl
 walk_kept r s x h = refl
 
 -- the level of the last cause is at or below that of the record, and of those before it

@@ -1,6 +1,6 @@
 -- What a step makes of its actor's limbos.
 use Rattle.tree_law.proofs.Words.{false, ◌⊎◌, ap, refl, cond, Option, suc, None, List, true, inl, inr, ◌∷◌, sym, ℕ, ◌≡◌, Bool, zero, ◌∙◌, arith, Some, same_Some, Contains, MatchOption, unwrap_or}
-use Rattle.tree_law.proofs.Words.{is_among, Answer, Whether, Content, Number, StepOf, ReuseRows, ReusePids, TakePid, Row, TakeRow, Slot, Epoch, PidBits, Exchange, RowBits, Announce, next_row, Record}
+use Rattle.tree_law.proofs.Words.{is_among, Answer, Whether, Content, Number, StepOf, ReuseRows, ReusePids, Slot, Epoch, Exchange, Announce, next_row, Record}
 use Rattle.tree_law.proofs.Words.{chain_rows, IsChainFrom, Knowledge, learn, Other, Gone, after_exchange, Unstamped, is_on_walk, LimboMark, Absent, passed_by}
 use Rattle.tree_law.proofs.Words.{with_stamp, taken_out, next_seen, Limbos, []}
 use Rattle.tree_law.proofs.shape.Puts.{by_equal, decided}
@@ -90,14 +90,10 @@ module _ (k : Knowledge) where
   limbo_case false (Exchange p old new) (Whether true) item = won_rows p old new item
   limbo_case true (ReusePids word bits) x item = word_case (ReusePids word bits) x (is_among word bits item) (k.limbo.pids item) _ _ (word, bits, refl)
   limbo_case false (ReuseRows word bits) x item = word_case (ReuseRows word bits) x (is_among word bits item) (k.limbo.rows item) _ _ (word, bits, refl)
-  limbo_case pages (Slot zero) (Number n) item = as_it_was refl
   limbo_case pages (Slot (suc p)) (Number zero) item = as_it_was refl
-  limbo_case pages (Row q) (Content w) item = as_it_was refl
-  limbo_case pages (PidBits w) (Number n) item = as_it_was refl
-  limbo_case pages (RowBits w) (Number n) item = as_it_was refl
-  limbo_case pages (TakePid p) (Whether true) item = as_it_was refl
-  limbo_case pages (TakeRow r) (Whether true) item = as_it_was refl
-  limbo_case pages (Exchange p old new) (Whether false) item = as_it_was refl
+  limbo_case pages s (Number n) item = as_it_was refl
+  limbo_case pages s (Content w) item = as_it_was refl
+  limbo_case pages s (Whether true) item = as_it_was refl
   limbo_case pages s x item = as_it_was refl
 
 -- a row on the walk from a chain's first row is on the chain

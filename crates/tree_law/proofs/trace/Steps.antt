@@ -1,6 +1,7 @@
 -- A step keeps a state, and a state is linearized.
 use Rattle.tree_law.proofs.Words.{false, ◌⊎◌, ap, refl, cond, Option, suc, None, List, true, inl, ◌≢◌, length, ◌++◌, inr, ◌∷◌, sym, ℕ, ◌≡◌, Bool, ◌∙◌, ◌<◌, arith, Some, same_Some, slice_get}
-use Rattle.tree_law.proofs.Words.{IsSome, IfSome, IsFalse, if◌then◌else◌, IsTrue, ◌↔◌, bytes_eq, Update, logged_value, command_key, reply_of, Command, Swap, Upsert, Insert, Reply, Limits, Answer}
+use Rattle.tree_law.proofs.Words.{IsSome, IfSome, IsFalse, if◌then◌else◌, IsTrue, ◌↔◌, bytes_eq, Update, logged_value, command_key, reply_of, Command, Swap}
+use Rattle.tree_law.proofs.Words.{Reply, Limits, Answer}
 use Rattle.tree_law.proofs.Words.{Number, StepOf, ReuseRows, ReusePids, Leave, Slot, Memory, Record, slice_get_kept, slice_get-push_cases, IsRun-push, memory_of-push, command_of-push, MayReply}
 use Rattle.tree_law.proofs.Words.{IsAllowed, knows, Knowledge, after_reply, learn, IsAnswer, memory_after, command_of, memory_of, commands_after, Entry, Begin, Step, same_operation, log_of-push}
 use Rattle.tree_law.proofs.Words.{RepliesAt, IsOperation, Operation, IsOwnStep, IsInPhase, MovesPhase, Phase, log_of, IsPoint, LinksUpdate, IsFirst, IsReuse}
@@ -8,7 +9,7 @@ use Rattle.tree_law.proofs.Words.{After, IsDue, Indexed, Linked, Phased, put, sh
 use Rattle.tree_law.proofs.Words.{slot_in, IsReadyPage, Tells, operation_from, IsSearch, IsState, phase_of, IsInTree, IsUnended, IsAnsweredBy, HasFound}
 use Rattle.tree_law.proofs.Words.{HaveStood, Times, Timed, times_after, IsTree, []}
 use Rattle.std.specs.Option.{option_to_list}
-use Rattle.bw_model.specs.declared.command.Command.TheVariants.{Add, Back, Get, Delete, DeleteIf, Page, Tidy}
+use Rattle.bw_model.specs.declared.command.Command.TheVariants.{Add, Back, DeleteIf, Page, Tidy}
 use Rattle.bw_model.specs.declared.command.Reply.TheVariants as reply
 use Rattle.bw_model.specs.Numbers.{is_number}
 use Rattle.linearization.specs.Answered.{IsTrueReply}
@@ -337,16 +338,13 @@ chosen_points false x y h k = k
 
 -- a reply by a value has a point, and so has a cursor page of either direction
 value_points : (c : Command) (v : Option (List ℕ)) → IfSome (reply_of c v) (λ r. has_point r ≡ true)
-value_points (Get k) None = refl
-value_points (Insert k w) None = refl
-value_points (Upsert k w) None = refl
-value_points (Delete k) None = refl
 value_points (DeleteIf k x) (Some o) = chosen_points (bytes_eq o x) (reply.Deleted o) (reply.Differs o) refl refl
 value_points (Swap k x w) (Some o) = chosen_points (bytes_eq o x) reply.Swapped (reply.Differs o) refl refl
 value_points (Add k n) (Some o) = chosen_points (is_number o) (reply.Replaced o) (reply.Differs o) refl refl
 value_points (Page k) v = tt
 value_points (Back k) v = tt
 value_points (Tidy k) v = tt
+value_points c None = refl
 value_points c v = refl
 
 points_at : (memory : Memory) (log : List Update) (c : Command) (r : Reply) → RepliesAt memory log c r → has_point r ≡ true

@@ -1,6 +1,5 @@
-use Rattle.map_laws.proofs.Words.{◌≡◌, ◌<◌, ◌≤◌, ℕ, zero, suc, Some, refl, arith, slice_get, Command, Get, Leave, Begin}
+use Rattle.map_laws.proofs.Words.{Begin, Command, Done, Get, Leave, Some, arith, refl, slice_get, suc, zero, ℕ, ◌<◌, ◌≡◌, ◌≤◌}
 use Rattle.std.proofs.Common.{codes}
-use Rattle.bw_model.specs.declared.step.Answer.TheVariants.{Done}
 use Rattle.running_tree.specs.Examples.{two_actors}
 use Rattle.map_laws.proofs.examples.calls_stand_in_order.Goals as goal
 

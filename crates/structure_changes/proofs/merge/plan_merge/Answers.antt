@@ -31,7 +31,8 @@ returns-clause-plan g c =
     let gone : is_removed removed ≡ true = sym (ap is_removed (same_records c.chain-gone.ensures)) ∙ sym c.is_removed-2.ensures ∙ c.if-not-is_removed.false in
     let unheld : held_count merged.items ≡ 0 = (let count = c.held_count.ensures ∙ ap held_count (c.as_slice.ensures.items ∙ c.items.ensures) in let none =
     c.if-held_count-gt0.false in omega (arith, count, none)) in
-    let roomy : length made.items ≤ 16 = (let a = c.item_count.ensures.count made.items (rw c.chain-chain.ensures makes.items) in let d = c.if-item_count-gt-MERGE_ITEMS.false in omega (arith, a, d)) in
+    let roomy : length made.items ≤ 16 = (let a = c.item_count.ensures.count made.items (rw c.chain-chain.ensures makes.items) in
+    let d = c.if-item_count-gt-MERGE_ITEMS.false in omega (arith, a, d)) in
     let level : level_in removed ≡ level_in left = rw (← same_records c.chain-chain.ensures, ← same_records c.chain-gone.ensures)
     (let a = c.level.ensures in let b = c.level-2.ensures in let same = c.if-level.false in omega (arith, a, b, same)) in
     planned c.args.left.now c.args.removed.now made merged fitted_removed makes (ruled left made fitted makes) makes_merged

@@ -1,15 +1,7 @@
-use Rattle.std.proofs.Common.{◌≡◌, ℕ, zero, suc, List, [], ◌∷◌, ◌∙◌, ap, refl, sym}
-use Rattle.std.specs.Prelude.{Some, slice_get}
-use mathlib.Core.Option.{some, some-injective, some-ne-none}
-use lib.ListN.{get_elem?}
-use Rattle.tree_limits.specs.declared.limits.Limits.{Limits}
-use Rattle.traces.specs.declared.trace.Entry.{Entry}
-use Rattle.table_rule.specs.declared.view.Part.{Part}
-use Rattle.table_rule.specs.declared.view.Reach.TheVariants.{Idle, Noted}
+use Rattle.table_rule.proofs.Words.{Entry, Idle, IsLater, Limits, List, Noted, Part, Some, alone, ap, cuts, get_elem?, joins, next, notes, part, refl, same}
+use Rattle.table_rule.proofs.Words.{slice_get, some, some-injective, some-ne-none, suc, sym, zero, ℕ, [], ◌∙◌, ◌∷◌, ◌≡◌}
 use Rattle.table_rule.specs.Examples.{apart, heeded, moment, noted, together}
 use Rattle.table_rule.specs.Growing.{HasSeen}
-use Rattle.table_rule.specs.Moments.{IsLater, cuts, joins, next, notes, same}
-use Rattle.table_rule.specs.Views.{alone, part}
 use Rattle.table_rule.proofs.Later.{only, sees_on}
 use Rattle.table_rule.proofs.examples.moments_are_told.Goals as goal
 

@@ -1,5 +1,4 @@
-use Rattle.std.proofs.Common.{arith, sym, ◌∙◌}
-use Rattle.tree_words.proofs.RowWidths.{row_few, row_within}
+use Rattle.table_rule.proofs.Words.{arith, row_few, row_within, sym, ◌∙◌}
 use Rattle.table_rule.proofs.Begun.{begins_at}
 use Rattle.table_rule.proofs.Measured.{measures_at}
 use Rattle.table_rule.proofs.UsedWords.{begun_none, begun_two, stored_two}

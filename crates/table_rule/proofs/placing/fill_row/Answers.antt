@@ -1,9 +1,6 @@
-use Rattle.std.proofs.Common.{◌≡◌, ℕ, ◌+◌, List, [], ◌∷◌, ◌++◌, length, take, get_or, ◌∙◌, arith, add-one}
-use Rattle.std.proofs.lemmas.List.{length-take-le}
+use Rattle.table_rule.proofs.Words.{List, add-one, arith, few_words, get_or, length, length-take-le, row_few, row_within, seen_of, tail_from, take, ℕ, [], ◌++◌}
+use Rattle.table_rule.proofs.Words.{◌+◌, ◌∙◌, ◌∷◌, ◌≡◌}
 use Rattle.std.proofs.Math.Seq.{take-suc}
-use Rattle.table_rule.specs.Steps.{tail_from}
-use Rattle.table_rule.specs.Views.{seen_of}
-use Rattle.tree_words.proofs.RowWidths.{few_words, row_few, row_within}
 use Rattle.table_rule.proofs.UsedWords.{over_few, stored_some, tail_length}
 use Rattle.table_rule.proofs.Filled.{fills_at, next_in_tail}
 use Rattle.table_rule.proofs.placing.fill_row.Goals as goal

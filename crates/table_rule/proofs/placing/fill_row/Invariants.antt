@@ -1,7 +1,4 @@
-use Rattle.std.proofs.Common.{◌≡◌, ◌≤◌, ◌-◌, take}
-use Rattle.table_rule.specs.declared.view.Reach.TheVariants.{Writing}
-use Rattle.table_rule.specs.Steps.{tail_from}
-use Rattle.table_rule.specs.Views.{seen_of, SitsAt}
+use Rattle.table_rule.proofs.Words.{SitsAt, Writing, seen_of, tail_from, take, ◌-◌, ◌≡◌, ◌≤◌}
 use Rattle.table_rule.proofs.placing.fill_row.Given as goal
 
 abbrev pub invariant-loop-i : goal.invariant-loop-i

@@ -1,7 +1,4 @@
-use Rattle.std.proofs.Common.{refl, arith}
-use Rattle.tree_words.proofs.RowWidths.{row_within}
-use Rattle.table_rule.specs.Steps.{written_over}
-use Rattle.table_rule.specs.Views.{seen_of}
+use Rattle.table_rule.proofs.Words.{arith, refl, row_within, seen_of, written_over}
 use Rattle.table_rule.proofs.Filled.{places_at, enough_written}
 use Rattle.table_rule.proofs.placing.place_header.Goals as goal
 

@@ -1,5 +1,4 @@
-use Rattle.std.specs.Prelude.{None}
-use Rattle.bw_model.specs.declared.step.Step.TheVariants.{Place}
+use Rattle.table_rule.proofs.Words.{None, Place}
 use Rattle.table_rule.proofs.placing.place_row.Given as goal
 
 abbrev pub ghosts-place_header : goal.ghosts-place_header

@@ -1,5 +1,4 @@
-use Rattle.std.proofs.Common.{arith}
-use Rattle.tree_words.proofs.RowWidths.{row_few, row_within}
+use Rattle.table_rule.proofs.Words.{arith, row_few, row_within}
 use Rattle.table_rule.proofs.RowReads.{looks_at}
 use Rattle.table_rule.proofs.reading.look_at.Goals as goal
 

@@ -1,7 +1,4 @@
-use Rattle.std.proofs.Common.{ap, arith, subst, sym, ◌∙◌}
-use Rattle.tree_words.proofs.RowWidths.{row_within}
-use Rattle.table_rule.specs.Views.{SitsAt}
-use Rattle.table_rule.specs.declared.view.Reach.TheVariants.{Idle}
+use Rattle.table_rule.proofs.Words.{Idle, SitsAt, ap, arith, row_within, subst, sym, ◌∙◌}
 use Rattle.table_rule.proofs.RowReads.{reads_at}
 use Rattle.table_rule.proofs.reading.read_first.Goals as goal
 

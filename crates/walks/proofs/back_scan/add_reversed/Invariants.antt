@@ -1,5 +1,4 @@
-use Rattle.std.proofs.Common.{◌≡◌, ◌+◌, ◌++◌, drop, length, reverse}
-use Rattle.std.specs.Vec.{vec_capacity}
+use Rattle.walks.proofs.Words.{drop, length, reverse, vec_capacity, ◌++◌, ◌+◌, ◌≡◌}
 use Rattle.walks.proofs.back_scan.add_reversed.Given as goal
 
 abbrev pub invariant-loop-place : goal.invariant-loop-place

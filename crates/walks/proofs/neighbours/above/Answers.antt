@@ -1,5 +1,4 @@
-use Rattle.std.proofs.Common.{arith, ap, length, sym, ◌∙◌, ◌≡◌}
-use Rattle.bw_model.specs.Bytes.{longest}
+use Rattle.walks.proofs.Words.{ap, arith, length, longest, sym, ◌∙◌, ◌≡◌}
 use Rattle.walks.proofs.Neighbouring.{full_is, none_behind, raised_is, short_is}
 use Rattle.walks.proofs.neighbours.above.Goals as goal
 

@@ -1,5 +1,4 @@
-use Rattle.std.proofs.Common.{◌≡◌, ◌-◌, None, drop}
-use Rattle.walks.specs.Neighbours.{above_in}
+use Rattle.walks.proofs.Words.{None, above_in, drop, ◌-◌, ◌≡◌}
 use Rattle.walks.proofs.neighbours.above.Given as goal
 
 abbrev pub invariant-loop-place : goal.invariant-loop-place

@@ -1,5 +1,4 @@
-use Rattle.std.proofs.Common.{◌≡◌, ◌+◌, ◌++◌, length, take}
-use Rattle.std.specs.Vec.{vec_capacity}
+use Rattle.walks.proofs.Words.{length, take, vec_capacity, ◌++◌, ◌+◌, ◌≡◌}
 use Rattle.walks.proofs.scan.add.Given as goal
 
 abbrev pub invariant-loop-key : goal.invariant-loop-key

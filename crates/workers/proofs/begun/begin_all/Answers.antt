@@ -1,11 +1,5 @@
-use Rattle.std.proofs.Common.{◌≡◌, ℕ, None, ◌∙◌, arith, subst}
-use Rattle.running_tree.specs.Seats.{unfinished_command}
-use Rattle.running_tree.specs.Trees.{IsSeatOf, Tree}
-use Rattle.workers.specs.declared.worker.Worker.{Worker}
-use Rattle.workers.specs.Begun.{AreBegun}
-use Rattle.workers.specs.Working.{HasRoom}
+use Rattle.workers.proofs.Words.{HasRoom, IsSeatOf, None, Tree, Worker, all_here, all_yielded, arith, one_yielded, unfinished_command, ℕ, ◌∙◌, ◌≡◌}
 use Rattle.workers.proofs.Beginning.{begun_more, none_begun}
-use Rattle.seats.proofs.Yielded.{all_here, all_yielded, one_yielded}
 use Rattle.workers.proofs.begun.begin_all.Goals as goal
 
 abbrev IsOwn : {A : Type 0} → Tree → Worker A → Type 0
@@ -70,4 +64,4 @@ returns g c =
     let made = c.into_iter-worker-iterator.ensures.into_iter_gives in
     let all = all_yielded c.args.workers c.into_iter-worker-iterator.result c.loop-worker.worker-iterator c.next.new.self c.loop-worker.yielded c.next.result
     made.0 made.1 c.loop-worker.yielded_by c.in-None.is c.next.ensures.steps in
-    subst (λ olds. AreBegun c.args.shared.now.limit c.args.shared.now.may_run.id olds c.loop-worker.begun.items) all c.loop-worker.invariant.begun
+    rw (← all) c.loop-worker.invariant.begun

@@ -1,7 +1,4 @@
-use Rattle.std.proofs.Common.{◌≤◌}
-use Rattle.std.specs.Prelude.{vec_len}
-use Rattle.std.specs.Vec.{vec_capacity}
-use Rattle.workers.specs.Begun.{AreBegun}
+use Rattle.workers.proofs.Words.{AreBegun, vec_capacity, vec_len, ◌≤◌}
 use Rattle.workers.proofs.begun.begin_all.Given as goal
 
 abbrev pub invariant-loop-worker : goal.invariant-loop-worker

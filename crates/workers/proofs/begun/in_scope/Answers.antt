@@ -1,12 +1,9 @@
-use Rattle.std.proofs.Common.{sym, subst, All}
-use Rattle.workers.specs.Begun.{IsToldBy}
 use Rattle.workers.proofs.Beginning.{all_told, came_back}
 use Rattle.workers.proofs.begun.in_scope.Goals as goal
 
 pub join_all-back-requires-clause-told : goal.join_all-back-requires-clause-told
 join_all-back-requires-clause-told g c =
-    subst (λ id. All (IsToldBy id) c.begin_all-begun.result.items) (sym c.init-told.ensures)
-    (all_told c.args.shared.now.limit c.args.shared.now.may_run.id c.args.workers.items c.begin_all-begun.result.items c.begin_all-begun.ensures)
+    rw c.init-told.ensures (all_told c.args.shared.now.limit c.args.shared.now.may_run.id c.args.workers.items c.begin_all-begun.result.items c.begin_all-begun.ensures)
 
 pub returns : goal.returns
 returns g c =

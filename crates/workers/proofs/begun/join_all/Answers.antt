@@ -1,7 +1,5 @@
-use Rattle.std.proofs.Common.{arith, subst}
-use Rattle.workers.specs.Begun.{HaveJoined, IsToldBy}
+use Rattle.workers.proofs.Words.{IsToldBy, all_here, all_yielded, arith, one_yielded}
 use Rattle.workers.proofs.Beginning.{joined_more, none_joined}
-use Rattle.seats.proofs.Yielded.{all_here, all_yielded, one_yielded}
 use Rattle.workers.proofs.begun.join_all.Goals as goal
 
 pub loop-thread-preserved : goal.loop-thread-preserved
@@ -18,7 +16,7 @@ returns g c =
     let made = c.into_iter-thread-iterator.ensures.into_iter_gives in
     let all = all_yielded c.args.begun c.into_iter-thread-iterator.result c.loop-thread.thread-iterator c.next.new.self c.loop-thread.yielded c.next.result
     made.0 made.1 c.loop-thread.yielded_by c.in-None.is c.next.ensures.steps in
-    subst (λ ones. HaveJoined c.args.told.now.value ones c.loop-thread.workers.items) all c.loop-thread.invariant.joined
+    rw (← all) c.loop-thread.invariant.joined
 
 pub loop-thread-init : goal.loop-thread-init
 loop-thread-init g c = record {

@@ -1,7 +1,4 @@
-use Rattle.std.proofs.Common.{◌≤◌}
-use Rattle.std.specs.Prelude.{vec_len}
-use Rattle.std.specs.Vec.{vec_capacity}
-use Rattle.workers.specs.Begun.{HaveJoined}
+use Rattle.workers.proofs.Words.{HaveJoined, vec_capacity, vec_len, ◌≤◌}
 use Rattle.workers.proofs.begun.join_all.Given as goal
 
 abbrev pub invariant-loop-thread : goal.invariant-loop-thread

@@ -1,5 +1,4 @@
-use Rattle.std.proofs.Common.{◌<◌, ◌+◌, ℕ, map}
-use Rattle.std.specs.Prelude.{slice_index}
+use Rattle.workers.proofs.Words.{map, slice_index, ℕ, ◌+◌, ◌<◌}
 use Rattle.workers.proofs.check.are_ascending.Given as goal
 
 abbrev pub invariant-loop-place : goal.invariant-loop-place

@@ -1,6 +1,5 @@
-use Rattle.std.proofs.Common.{arith, sym}
+use Rattle.workers.proofs.Words.{arith, slice_get_below, sym}
 use Rattle.workers.proofs.Looked.{one_looked, one_wrong}
-use Rattle.traces.proofs.Pushes.{slice_get_below}
 use Rattle.workers.proofs.check.are_results.Goals as goal
 
 pub returns-then-jobs-results : goal.returns-then-jobs-results

@@ -1,8 +1,4 @@
-use Rattle.std.proofs.Common.{◌≡◌, ◌<◌, ℕ, Some}
-use Rattle.std.specs.Prelude.{slice_get}
-use Rattle.workers.specs.declared.job.Job.{Job}
-use Rattle.workers.specs.declared.job.JobResult.{JobResult}
-use Rattle.workers.specs.Jobs.{IsResultOf}
+use Rattle.workers.proofs.Words.{IsResultOf, Job, JobResult, Some, slice_get, ℕ, ◌<◌, ◌≡◌}
 use Rattle.workers.proofs.check.are_results.Given as goal
 
 abbrev pub invariant-loop-place : goal.invariant-loop-place

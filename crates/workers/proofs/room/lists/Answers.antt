@@ -1,6 +1,4 @@
-use Rattle.std.proofs.Common.{All, arith, subst, sym}
-use Rattle.std.proofs.lemmas.List.Elements.{All-nil, All-push}
-use Rattle.workers.specs.Working.{HasRoom}
+use Rattle.workers.proofs.Words.{All, All-nil, All-push, HasRoom, arith, subst, sym}
 use Rattle.workers.proofs.room.lists.Goals as goal
 
 pub loop-init : goal.loop-init

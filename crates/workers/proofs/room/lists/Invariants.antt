@@ -1,6 +1,4 @@
-use Rattle.std.proofs.Common.{◌≡◌, All}
-use Rattle.std.specs.Prelude.{vec_len}
-use Rattle.workers.specs.Working.{HasRoom}
+use Rattle.workers.proofs.Words.{All, HasRoom, vec_len, ◌≡◌}
 use Rattle.workers.proofs.room.lists.Given as goal
 
 abbrev pub invariant-loop : goal.invariant-loop

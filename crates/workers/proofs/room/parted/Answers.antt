@@ -1,11 +1,7 @@
-use Rattle.std.proofs.Common.{◌≤◌, [], ◌∷◌, ◌∙◌, ℕ, ap, arith, flat_map, length, map}
-use Rattle.std.specs.Prelude.{vec_len}
-use Rattle.std.specs.Vec.{vec_capacity}
-use Rattle.std.proofs.lemmas.List.{length-append}
-use Rattle.workers.specs.declared.worker.Worker.{Worker}
+use Rattle.workers.proofs.Words.{Worker, all_here, all_yielded, ap, arith, flat_map, length, length-append, map, one_yielded, vec_capacity, vec_len, ℕ, [], ◌∙◌}
+use Rattle.workers.proofs.Words.{◌∷◌, ◌≤◌}
 use Rattle.workers.proofs.Named.{done_by}
 use Rattle.workers.proofs.Parting.{few_more, has_room, results_more, seat_of, seats_more}
-use Rattle.seats.proofs.Yielded.{all_here, all_yielded, one_yielded}
 use Rattle.workers.proofs.room.parted.Goals as goal
 
 abbrev IsFew : {A : Type 0} → ℕ → Worker A → Type 0

@@ -1,6 +1,4 @@
-use Rattle.std.proofs.Common.{◌≡◌, ◌≤◌, ◌*◌, flat_map, length, map}
-use Rattle.std.specs.Prelude.{vec_len}
-use Rattle.std.specs.Vec.{vec_capacity}
+use Rattle.workers.proofs.Words.{flat_map, length, map, vec_capacity, vec_len, ◌*◌, ◌≡◌, ◌≤◌}
 use Rattle.workers.proofs.room.parted.Given as goal
 
 abbrev pub invariant-loop-worker : goal.invariant-loop-worker

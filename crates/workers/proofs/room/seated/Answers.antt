@@ -1,11 +1,7 @@
-use Rattle.std.proofs.Common.{[], ◌∷◌, ◌++◌, ◌∙◌, All, ap, arith, length, map, subst, sym}
-use Rattle.std.specs.Prelude.{IfSome}
-use Rattle.std.proofs.lemmas.List.{length-append, map-append}
-use Rattle.std.proofs.lemmas.List.Elements.{All-nil, All-pop, All-push}
-use Rattle.workers.specs.declared.worker.Worker.{Worker}
-use Rattle.workers.specs.Working.{HasRoom}
+use Rattle.workers.proofs.Words.{All, All-nil, All-push, HasRoom, Worker, all_yielded, ap, arith, length, length-append, map, map-append, one_yielded, subst}
+use Rattle.workers.proofs.Words.{sym, [], ◌++◌, ◌∙◌, ◌∷◌}
+use Rattle.std.proofs.lemmas.List.Elements.{All-pop}
 use Rattle.workers.proofs.Parting.{seat_of}
-use Rattle.seats.proofs.Yielded.{all_yielded, one_yielded}
 use Rattle.workers.proofs.room.seated.Goals as goal
 
 pub loop-seat-init : goal.loop-seat-init
@@ -25,7 +21,7 @@ loop-seat-preserved g c =
     let before = c.loop-seat.invariant in
     let worker : Worker _ = record { seat = c.in-Some.seat; done = c.in-Some-pop.done } in
     let popped = All-pop (HasRoom c.args.limit) c.loop-seat.lists.items c.pop.new.self.items c.pop.result c.pop.ensures.items before.each in
-    let given : HasRoom c.args.limit c.in-Some-pop.done = subst (λ r. IfSome r (HasRoom c.args.limit)) c.in-Some-pop.is popped.1 in
+    let given : HasRoom c.args.limit c.in-Some-pop.done = rw c.in-Some-pop.is at popped.1 in
     let yielded = length-append c.loop-seat.yielded (c.in-Some.seat ∷ []) in
     let fewer = c.in-Some-pop.ensures.len in
     let longer = c.push_reserved.ensures.len in

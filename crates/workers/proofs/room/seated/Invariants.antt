@@ -1,7 +1,4 @@
-use Rattle.std.proofs.Common.{◌≡◌, ◌≤◌, ◌+◌, All, length, map}
-use Rattle.std.specs.Prelude.{vec_len}
-use Rattle.std.specs.Vec.{vec_capacity}
-use Rattle.workers.specs.Working.{HasRoom}
+use Rattle.workers.proofs.Words.{All, HasRoom, length, map, vec_capacity, vec_len, ◌+◌, ◌≡◌, ◌≤◌}
 use Rattle.workers.proofs.room.seated.Given as goal
 
 abbrev pub invariant-loop-seat : goal.invariant-loop-seat

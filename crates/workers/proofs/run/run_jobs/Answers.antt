@@ -1,7 +1,4 @@
-use Rattle.std.proofs.Common.{◌∙◌, arith, subst, sym}
-use Rattle.workers.specs.Jobs.{AreResultsOf}
-use Rattle.running_tree.specs.Trees.{AreSeatsOf}
-use Rattle.workers.specs.Worked.{AreIdle}
+use Rattle.workers.proofs.Words.{AreIdle, AreResultsOf, AreSeatsOf, arith, subst, sym, ◌∙◌}
 use Rattle.workers.proofs.Parting.{gathered, idle_after, not_run, one_history, own_after, stopped, where_false, worked_reordered}
 use Rattle.workers.proofs.run.run_jobs.Goals as goal
 
@@ -45,7 +42,7 @@ returns-clause-refused g c =
     (worked_reordered c.in-Ok-worked.done.0.items c.sorted-results.result.items c.args.seats.items c.gather.new.seats.items c.sorted-results.ensures.permutation worked)
     (one_history c.in-Ok-worked.done.1.items c.gather.new.seats.items c.gather.ensures.gathered)
     c.sorted-results.ensures.order
-    (λ is. other (subst (λ z. AreResultsOf z c.as_slice-3.result.now) (sym c.as_slice-2.ensures.value) (subst (AreResultsOf c.args.jobs.items) (sym c.as_slice-3.ensures.value) is)))
+    (λ is. other (rw c.as_slice-2.ensures.value (subst (AreResultsOf c.args.jobs.items) (sym c.as_slice-3.ensures.value) is)))
 
 pub returns-clause-left : goal.returns-clause-left
 returns-clause-left g c =

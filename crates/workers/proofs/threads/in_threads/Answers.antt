@@ -11,5 +11,5 @@ returns g c = record {
       let h = (c.for_each_mut.ensures n old below).1 in
       let first : h.argument.now ≡ old = h.argument_is ∙ index_is c.args.jobs.now n old old at in
       let last : h.after_call.now ≡ new = h.left ∙ index_is c.for_each_mut.new.s n new old at_new in
-      subst (λ z. IsWorkDone g.W.Work.does z new) first (subst (IsWorkDone g.W.Work.does h.argument.now) last h.call);
+      rw (← first) (subst (IsWorkDone g.W.Work.does h.argument.now) last h.call);
 }

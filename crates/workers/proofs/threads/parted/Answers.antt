@@ -1,6 +1,4 @@
-use Rattle.std.proofs.Common.{◌∙◌, ap, arith, sym}
-use Rattle.running_tree.specs.Seats.{Seat}
-use Rattle.workers.specs.Works.{with_each_behind}
+use Rattle.workers.proofs.Words.{Seat, ap, arith, sym, with_each_behind, ◌∙◌}
 use Rattle.workers.proofs.Behind.{behind_none, behind_push}
 use Rattle.workers.proofs.threads.parted.Goals as goal
 

@@ -1,6 +1,5 @@
-use Rattle.std.proofs.Common.{◌≡◌, ◌≤◌, ◌+◌, length, vec_len}
-use Rattle.std.specs.Vec.{vec_capacity}
-use Rattle.workers.specs.Works.{with_each_behind}
+use Rattle.workers.proofs.Words.{length, vec_capacity, with_each_behind, ◌+◌, ◌≡◌, ◌≤◌}
+use Rattle.std.proofs.Common.{vec_len}
 use Rattle.workers.proofs.threads.parted.Given as goal
 
 abbrev pub invariant-loop-seat : goal.invariant-loop-seat

@@ -1,7 +1,4 @@
-use Rattle.std.proofs.Common.{◌∷◌, ◌∙◌, [], Some, ap, arith, subst, sym}
-use Rattle.std.proofs.lemmas.List.Elements.{All-push}
-use Rattle.running_tree.specs.Trees.{AreSeatsOf, IsSeatOf}
-use Rattle.workers.specs.Works.{with_each_behind}
+use Rattle.workers.proofs.Words.{All-push, AreSeatsOf, IsSeatOf, Some, ap, arith, subst, sym, with_each_behind, [], ◌∙◌, ◌∷◌}
 use Rattle.workers.proofs.Behind.{behind_push}
 use Rattle.seats.proofs.Pushed.{all_before, last_of}
 use Rattle.workers.proofs.threads.seated.Goals as goal

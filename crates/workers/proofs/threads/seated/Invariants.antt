@@ -1,7 +1,5 @@
-use Rattle.std.proofs.Common.{◌≡◌, ◌≤◌, ◌+◌, All, length, vec_len}
-use Rattle.std.specs.Vec.{vec_capacity}
-use Rattle.running_tree.specs.Trees.{AreSeatsOf, IsSeatOf}
-use Rattle.workers.specs.Works.{with_each_behind}
+use Rattle.workers.proofs.Words.{All, AreSeatsOf, IsSeatOf, length, vec_capacity, with_each_behind, ◌+◌, ◌≡◌, ◌≤◌}
+use Rattle.std.proofs.Common.{vec_len}
 use Rattle.workers.proofs.threads.seated.Given as goal
 
 abbrev pub invariant-loop-work : goal.invariant-loop-work

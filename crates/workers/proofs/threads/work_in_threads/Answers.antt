@@ -1,6 +1,4 @@
-use Rattle.std.proofs.Common.{◌∙◌, ap, arith, subst, sym}
-use Rattle.running_tree.specs.Trees.{AreSeatsOf, IsSeatOf}
-use Rattle.workers.specs.Works.{AreEachDone, with_each_behind}
+use Rattle.workers.proofs.Words.{AreSeatsOf, IsSeatOf, ap, arith, subst, sym, with_each_behind, ◌∙◌}
 use Rattle.workers.proofs.Behind.{own_behind}
 use Rattle.seats.proofs.Pushed.{all_at, written}
 use Rattle.workers.proofs.threads.work_in_threads.Goals as goal
@@ -10,7 +8,7 @@ returns-clause-own g c =
     let jobs = c.seated-jobs.result.items in
     let back = c.in_threads.new.jobs in
     let lent = c.as_mut_slice.ensures.value in
-    let each = subst (λ z. AreEachDone g.W.Work.does z back) lent c.in_threads.ensures in
+    let each = rw lent at c.in_threads.ensures in
     let count = each.count in
     let long = c.seated-jobs.result.ok.0 in
     let same = written c.seated-jobs.result.len back jobs (omega (arith, count, long)) in
@@ -22,7 +20,7 @@ returns-clause-done g c =
     let jobs = c.seated-jobs.result.items in
     let back = c.in_threads.new.jobs in
     let lent = c.as_mut_slice.ensures.value in
-    let each = subst (λ z. AreEachDone g.W.Work.does z back) lent c.in_threads.ensures in
+    let each = rw lent at c.in_threads.ensures in
     let count = each.count in
     let long = c.seated-jobs.result.ok.0 in
     let same = written c.seated-jobs.result.len back jobs (omega (arith, count, long)) in record {

@@ -1,7 +1,5 @@
-use Rattle.std.proofs.Common.{◌≡◌, ◌≤◌, Some, length, map, take}
-use Rattle.std.specs.Prelude.{zip}
-use Rattle.std.specs.Vec.{vec_capacity}
-use Rattle.workers.specs.Worked.{GoesOn}
+use Rattle.workers.proofs.Words.{GoesOn, Some, length, map, vec_capacity, zip, ◌≡◌, ◌≤◌}
+use Rattle.std.proofs.Common.{take}
 use Rattle.workers.proofs.worker.run_all.Given as goal
 
 abbrev pub invariant-loop-command : goal.invariant-loop-command

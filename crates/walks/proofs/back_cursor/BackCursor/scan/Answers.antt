@@ -1,5 +1,4 @@
-use Rattle.std.proofs.Common.{inl, inr, refl, arith}
-use Rattle.running_tree.proofs.Going.{same_on}
+use Rattle.walks.proofs.Words.{arith, inl, inr, refl, same_on}
 use Rattle.walks.proofs.BackWalked.{back_has_told, back_spent_on, walked_back_counted, walked_back_more, walked_back_nothing}
 use Rattle.walks.proofs.back_cursor.BackCursor.scan.Goals as goal
 

@@ -1,6 +1,4 @@
-use Rattle.std.proofs.Common.{◌≡◌, ◌∙◌, [], ap, arith, inl, inr, refl, sym, reverse}
-use Rattle.running_tree.proofs.Going.{same_on}
-use Rattle.walks.specs.BackCursors.{added_back}
+use Rattle.walks.proofs.Words.{added_back, ap, arith, inl, inr, refl, reverse, same_on, sym, [], ◌∙◌, ◌≡◌}
 use Rattle.walks.proofs.BackWalked.{back_has_told, back_spent_on, walked_back_counted, walked_back_more, walked_back_nothing}
 use Rattle.walks.proofs.Cuts.{no_item}
 use Rattle.walks.proofs.back_cursor.BackCursor.seek.Goals as goal

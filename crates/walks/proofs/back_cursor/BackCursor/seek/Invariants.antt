@@ -1,6 +1,4 @@
-use Rattle.std.proofs.Common.{◌≡◌, [], length}
-use Rattle.running_tree.specs.Seats.{IsSame, unfinished_command}
-use Rattle.walks.specs.BackCursors.{HasWalkedBack, back_command}
+use Rattle.walks.proofs.Words.{HasWalkedBack, IsSame, back_command, length, unfinished_command, [], ◌≡◌}
 use Rattle.walks.proofs.back_cursor.BackCursor.seek.Given as goal
 
 abbrev pub invariant-loop : goal.invariant-loop

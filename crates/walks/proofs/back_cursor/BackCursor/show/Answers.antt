@@ -1,7 +1,4 @@
-use Rattle.std.proofs.Common.{◌∙◌, ap, drop, false}
-use Rattle.std.specs.List.{prefix_len}
-use Rattle.bw_model.specs.Bytes.{is_below}
-use Rattle.walks.specs.BackPages.{pairs_from, place_from}
+use Rattle.walks.proofs.Words.{ap, drop, false, is_below, pairs_from, place_from, prefix_len, ◌∙◌}
 use Rattle.walks.proofs.BackCuts.{rest_is}
 use Rattle.walks.proofs.Cuts.{Pair}
 use Rattle.walks.proofs.back_cursor.BackCursor.show.Goals as goal

@@ -1,5 +1,4 @@
-use Rattle.std.proofs.Common.{inl, inr, refl, arith}
-use Rattle.running_tree.proofs.Going.{same_on}
+use Rattle.walks.proofs.Words.{arith, inl, inr, refl, same_on}
 use Rattle.walks.proofs.Walked.{has_told, spent_on, walked_counted, walked_more, walked_nothing}
 use Rattle.walks.proofs.cursor.Cursor.scan.Goals as goal
 

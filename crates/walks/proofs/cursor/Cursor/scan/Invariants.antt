@@ -1,6 +1,4 @@
-use Rattle.std.proofs.Common.{◌≡◌, length}
-use Rattle.running_tree.specs.Seats.{IsSame, unfinished_command}
-use Rattle.walks.specs.Cursors.{HasTold, HasWalked, cursor_command}
+use Rattle.walks.proofs.Words.{HasTold, HasWalked, IsSame, cursor_command, length, unfinished_command, ◌≡◌}
 use Rattle.walks.proofs.cursor.Cursor.scan.Given as goal
 
 abbrev pub invariant-loop : goal.invariant-loop

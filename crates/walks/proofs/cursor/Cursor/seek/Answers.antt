@@ -1,6 +1,4 @@
-use Rattle.std.proofs.Common.{◌≡◌, ◌∙◌, [], ap, arith, inl, inr, refl, sym}
-use Rattle.running_tree.proofs.Going.{same_on}
-use Rattle.walks.specs.Cursors.{added_by}
+use Rattle.walks.proofs.Words.{added_by, ap, arith, inl, inr, refl, same_on, sym, [], ◌∙◌, ◌≡◌}
 use Rattle.walks.proofs.Walked.{has_told, spent_on, walked_counted, walked_more, walked_nothing}
 use Rattle.walks.proofs.Cuts.{no_item}
 use Rattle.walks.proofs.cursor.Cursor.seek.Goals as goal

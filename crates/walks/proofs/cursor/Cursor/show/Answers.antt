@@ -1,7 +1,4 @@
-use Rattle.std.proofs.Common.{◌∙◌, ap, false, take}
-use Rattle.std.specs.List.{prefix_len}
-use Rattle.bw_model.specs.Bytes.{is_under}
-use Rattle.walks.specs.Pages.{pairs_under, place_under}
+use Rattle.walks.proofs.Words.{ap, false, is_under, pairs_under, place_under, prefix_len, take, ◌∙◌}
 use Rattle.walks.proofs.Cuts.{Pair, cut_is}
 use Rattle.walks.proofs.cursor.Cursor.show.Goals as goal
 

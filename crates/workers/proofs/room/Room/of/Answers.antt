@@ -1,5 +1,3 @@
-use Rattle.std.proofs.Common.{◌≤◌, subst}
-use Rattle.std.specs.Vec.{vec_capacity}
 use Rattle.workers.proofs.room.Room.of.Goals as goal
 
 pub returns : goal.returns
@@ -17,5 +15,5 @@ returns g c =
       seats = seats.items;
       seats_room = seats.capacity;
       results = results.items;
-      results_room = subst (λ n. n ≤ vec_capacity c.in_ok-with_capacity-4.field-0) c.in-Some.ensures.1 results.capacity;
+      results_room = rw (← c.in-Some.ensures.1) results.capacity;
     }

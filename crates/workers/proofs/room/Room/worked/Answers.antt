@@ -1,12 +1,7 @@
-use Rattle.std.proofs.Common.{◌≡◌, ◌≤◌, ◌*◌, None, ap, arith, flat_map, length, map, subst, sym, ◌∙◌}
-use Rattle.std.specs.Prelude.{vec_len}
+use Rattle.std.proofs.Common.{◌*◌}
 use Rattle.std.specs.Vec.{vec_capacity}
-use Rattle.std.proofs.lemmas.List.{length-map}
-use Rattle.std.proofs.lemmas.List.Elements.{All-weaker}
-use Rattle.running_tree.specs.Seats.{unfinished_command}
-use Rattle.running_tree.specs.Trees.{AreSeatsOf, IsSeatOf}
-use Rattle.workers.specs.Worked.{AreIdle}
-use Rattle.workers.specs.Working.{HasRoom}
+use Rattle.workers.proofs.Words.{All-weaker, AreIdle, AreSeatsOf, HasRoom, IsSeatOf, None, ap, arith, flat_map, length, length-map, map, subst, sym}
+use Rattle.workers.proofs.Words.{unfinished_command, vec_len, ◌∙◌, ◌≡◌, ◌≤◌}
 use Rattle.workers.proofs.Named.{done_by}
 use Rattle.workers.proofs.Parting.{all_few, all_same, all_seats, have_worked, seat_of, worked_as}
 use Rattle.workers.proofs.room.Room.worked.Goals as goal

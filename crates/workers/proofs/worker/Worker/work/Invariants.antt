@@ -1,6 +1,4 @@
-use Rattle.std.proofs.Common.{◌≤◌}
-use Rattle.std.specs.Vec.{vec_capacity}
-use Rattle.workers.specs.Working.{HasDone}
+use Rattle.workers.proofs.Words.{HasDone, vec_capacity, ◌≤◌}
 use Rattle.workers.proofs.worker.Worker.work.Given as goal
 
 abbrev pub invariant-loop : goal.invariant-loop
