@@ -39,7 +39,11 @@ child_before row fit spells passes are count cut some child is =
     let greatest = wins row [] spells passes are count cut None (λ key pass. refl) count (λ i d from to. absurd (omega (arith, from, to))) none some (omega arith) refl refl in
     child_found (row ∷ []) fit passes _ _ child greatest (is none)
 
-pub if_some : (row : Record) (passes : List ℕ → Bool) (child : Option ℕ) → MatchOption child (HasNoChild (content_in (row ∷ [])) passes) (IsGreatestChild (content_in (row ∷ [])) passes)
+if_some : (row : Record) (passes : List ℕ → Bool) (child : Option ℕ) → MatchOption child (HasNoChild (content_in (row ∷ [])) passes) (IsGreatestChild (content_in (row ∷ [])) passes)
     → MatchOption child ⊤ (IsGreatestChild (content_in (row ∷ [])) passes)
 if_some row passes None h = tt
 if_some row passes (Some child) h = h
+
+pub child_if_some : (row : Record) → IsFitted (row ∷ []) → IsSpellable row → (passes : List ℕ → Bool) → AreItems (items_said row) → (count : ℕ) → PassesUpTo (items_said row) passes count
+    → 0 < count → (child : Option ℕ) → ((d : Item) → child ≡ child_in (Some (get_or (items_said row) (count - 1) d).content)) → MatchOption child ⊤ (IsGreatestChild (content_in (row ∷ [])) passes)
+child_if_some row fit spells passes are count cut some child is = if_some row passes child (child_before row fit spells passes are count cut some child is)

@@ -56,7 +56,8 @@ impl<R: Rows, A: Allocator> Chain<R, A> {
         self.greatest_child(rows, pass, key, false)
     }
 
-    /// The same child of an index page without deltas that has a term above the key, so that the page ends above it; none of another page.
+    /// The child of the greatest term at or below the key, of an index page without deltas that ends above the key; none of another page. Most pages have
+    /// a term above the key, and then the end isn't looked at.
     #[inline]
     pub fn child_inside(&self, rows: &R, pass: &mut R::Pass, key: &KeyWords) -> Option<u32>
         requires read { IsReadChain (R.has rows.now pass.old) self.now }

@@ -105,7 +105,8 @@ fn greatest_in_base<R: Rows>(
     base.child_at(rows, pass, count - 1)
 }
 
-/// The child of the greatest of an index page's items at or below the key, where its base has no delta over it and another item above the key.
+/// The child of the greatest of a page's items at or below the key, where its base has no delta over it and the page ends above the key. Where another
+/// item is above the key the end is too, and isn't looked at.
 pub(super) fn inside_base<R: Rows>(
     base: &RowAt<R>,
     rows: &R,
@@ -123,10 +124,13 @@ pub(super) fn inside_base<R: Rows>(
     if count == 0 {
         return None;
     }
-    if count >= base.item_count() {
-        return None;
+    if count < base.item_count() {
+        return base.child_at(rows, pass, count - 1);
     }
-    base.child_at(rows, pass, count - 1)
+    if base.ends_after(rows, pass, key) {
+        return base.child_at(rows, pass, count - 1);
+    }
+    None
 }
 
 /// How many of the items that the record says are there pass, and whether the last of those is at the bound.
