@@ -57,8 +57,8 @@ impl<R: Rows, A: Allocator> Chain<R, A> {
     }
 
     /// The child of the greatest term at or below the key, of an index page without deltas that ends above the key; none of another page. Most pages have
-    /// a term above the key, and then the end isn't looked at.
-    #[inline]
+    /// a term above the key, and then the end isn't looked at. Inlined, as what it calls: a round calls it for every page.
+    #[inline(always)]
     pub fn child_inside(&self, rows: &R, pass: &mut R::Pass, key: &KeyWords) -> Option<u32>
         requires read { IsReadChain (R.has rows.now pass.old) self.now }
         ensures same { pass.new ≡ pass.old }

@@ -107,6 +107,7 @@ fn greatest_in_base<R: Rows>(
 
 /// The child of the greatest of a page's items at or below the key, where its base has no delta over it and the page ends above the key. Where another
 /// item is above the key the end is too, and isn't looked at.
+#[inline(always)]
 pub(super) fn inside_base<R: Rows>(
     base: &RowAt<R>,
     rows: &R,
