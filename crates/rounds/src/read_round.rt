@@ -1,5 +1,5 @@
 //! A reader's round from the root to the leaf of a key, in places that stay.
-ghost use Rattle.std.specs.Prelude.{◌≡◌, ◌<◌, ℕ, IfOk, IsTrue, MatchOption, None, Some, [], false, true};
+ghost use Rattle.std.specs.Prelude.{◌≡◌, ◌<◌, ℕ, IfOk, IsTrue, MatchOption, None, Some, [], false, true, ⊤};
 ghost use Rattle.std.specs.Bool.{Decides};
 ghost use Rattle.std.specs.Option.{option_map};
 ghost use Rattle.bw_model.specs.declared.step.Answer.TheVariants.{Content, Number};
@@ -22,7 +22,7 @@ ghost use Rattle.rounds.specs.ReadRounds.{AreReadFor, CanGoOn, read_again_if, en
 
 mod detour;
 
-use crate::way::{child_on_way, right_on_way};
+use crate::way::{child_inside, child_on_way, right_on_way};
 use crate::{Asked, Descent, Leg, SightKind};
 use bw_model::{Key, Limits};
 use row_search::{KeyWords, RowAt, Rows};
@@ -232,6 +232,10 @@ impl<R: Rows, A: Allocator> ReadRound<R, A> {
         ensures same { ReadsForTheSame self.old.round self.new.round }
         ensures looks { pass.new ≡ pass.old }
     {
+        if let Some(child) = self.child_inside(rows, pass) {
+            self.go_down(rows, pass, child);
+            return None;
+        }
         if let Some(right) = self.next_aside(rows, pass) {
             self.descent.go_to(right);
             return None;
@@ -242,6 +246,22 @@ impl<R: Rows, A: Allocator> ReadRound<R, A> {
         }
         self.go_below(rows, pass);
         None
+    }
+
+    /// The child of the greatest term on the way, of an index page without deltas that ends beyond the way.
+    #[inline(always)]
+    fn child_inside(&self, rows: &R, pass: &mut R::Pass) -> Option<u32>
+        requires read { AreReadFor (R.has rows.now pass.old) self.now.round self.now.page }
+        ensures looks { pass.new ≡ pass.old }
+        ensures leads { MatchOption result ⊤ (λ child. (0 < level_in self.now.page.chain) × StaysLeft (read_way self.now.round.goal self.now.round.key) self.now.page.chain
+            × LeadsDown (read_way self.now.round.goal self.now.round.key) self.now.page.chain child) }
+    {
+        match self.goal {
+            ReadGoalKind::Left => None,
+            ReadGoalKind::Seek | ReadGoalKind::Beyond => {
+                child_inside(self.page().chain(), rows, pass, &self.key)
+            }
+        }
     }
 
     /// The page's right, where the page in hand ends on the way.
@@ -282,6 +302,21 @@ impl<R: Rows, A: Allocator> ReadRound<R, A> {
         ensures looks { pass.new ≡ pass.old }
     {
         let child = self.next_below(rows, pass);
+        self.go_down(rows, pass, child);
+    }
+
+    /// Goes down to this child of the page in hand, which is the page above from then on.
+    fn go_down(&mut self, rows: &R, pass: &R::Pass, child: u32)
+        requires can { CanGoOn self.old.round self.old.page }
+        requires read { AreReadFor (R.has rows.now pass.now) self.old.round self.old.page }
+        requires stays { StaysLeft (read_way self.old.round.goal self.old.round.key) self.old.page.chain }
+        requires index { 0 < level_in self.old.page.chain }
+        requires leads { LeadsDown (read_way self.old.round.goal self.old.round.key) self.old.page.chain child }
+        ensures treats { TreatsRead self.old.round self.old.page self.new.round None }
+        ensures same { ReadsForTheSame self.old.round self.new.round }
+    {
+        let _ = rows;
+        let _ = pass;
         self.leg.go_below(&mut self.descent);
         self.descent.go_to(child);
     }

@@ -1,5 +1,5 @@
 //! Which page a page leads to, on the way to a key, or to the left of a page, by the rows of its chain.
-ghost use Rattle.std.specs.Prelude.{◌≡◌, ◌<◌, IsFalse, IsTrue, MatchOption};
+ghost use Rattle.std.specs.Prelude.{◌≡◌, ◌<◌, IsFalse, IsTrue, MatchOption, false, ⊤};
 ghost use Rattle.bw_model.specs.Bytes.{is_below};
 ghost use Rattle.traces.specs.chain.Chains.{high_in, level_in, low_in};
 ghost use Rattle.row_chain.specs.Placed.{IsReadChain};
@@ -55,6 +55,25 @@ pub(crate) fn child_on_way<R: Rows, A: Allocator>(
         Some(child) => child,
         None => unreachable!(),
     }
+}
+
+/// The child of the greatest term on the way to the key, of an index page without deltas that ends beyond the way; none of another page. Inlined: most
+/// pages that a round reads are such.
+#[inline(always)]
+pub(crate) fn child_inside<R: Rows, A: Allocator>(
+    chain: &Chain<R, A>,
+    rows: &R,
+    pass: &mut R::Pass,
+    key: &KeyWords,
+) -> Option<u32>
+    requires read { IsReadChain (R.has rows.now pass.old) chain.now }
+    ensures looks { pass.new ≡ pass.old }
+    ensures leads { MatchOption result ⊤ (λ child. (0 < level_in chain.now.records) × StaysLeft (passes false key.now) chain.now.records
+        × LeadsDown (passes false key.now) chain.now.records child) }
+{
+    chain.was_read(rows, pass);
+    chain.keeps_rules();
+    chain.child_inside(rows, pass, key)
 }
 
 /// The page's right, where the page ends on the way; else the child of its greatest term there.

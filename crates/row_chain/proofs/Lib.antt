@@ -2,6 +2,7 @@ pub mod Bases
 pub mod ChildWalks
 pub mod CountLaws
 pub mod Counts
+pub mod Inside
 pub mod Making
 pub mod MostItems
 pub mod Newest

@@ -1,5 +1,5 @@
 //! What a writer's round does with a page that it has read whole: goes on from it, or ends there.
-ghost use Rattle.std.specs.Prelude.{◌≡◌, ◌<◌, IsTrue, MatchOption, None, Some, true, false};
+ghost use Rattle.std.specs.Prelude.{◌≡◌, ◌<◌, IsTrue, MatchOption, None, Some, true, false, ⊤};
 ghost use Rattle.std.specs.Option.{option_map};
 ghost use Rattle.traces.specs.chain.Chains.{is_removed, level_in, low_in};
 ghost use Rattle.round_model.specs.Courses as goal;
@@ -10,7 +10,7 @@ ghost use Rattle.rounds.specs.WriteRounds.{AreReadToWrite, ended_write};
 ghost use Rattle.structure_changes.specs.Reads.{IsReadPage};
 
 use crate::course::WriteGoalKind;
-use crate::way::{child_on_way, right_on_way};
+use crate::way::{child_inside, child_on_way, right_on_way};
 use crate::{WriteEndKind, WriteRound};
 use row_search::Rows;
 use std::alloc::Allocator;
@@ -96,6 +96,9 @@ impl<R: Rows, A: Allocator> WriteRound<R, A> {
         ensures treats { TreatsWrite self.old.round self.old.page self.new.round (option_map (ended_write self.new) result) }
         ensures same { WritesForTheSame self.old.round self.new.round }
     {
+        if let Some(child) = self.child_inside(rows, pass) {
+            return self.settle_inside(rows, pass, child);
+        }
         match self.next_aside(rows, pass) {
             None => self.settle(rows, pass),
             Some(right) => {
@@ -104,6 +107,47 @@ impl<R: Rows, A: Allocator> WriteRound<R, A> {
                 None
             }
         }
+    }
+
+    /// The child of the greatest term on the way, of an index page without deltas that ends beyond the way.
+    #[inline(always)]
+    fn child_inside(&self, rows: &R, pass: &mut R::Pass) -> Option<u32>
+        requires read { IsReadPage (R.has rows.now pass.old) self.now.page }
+        requires seeks { SeeksLeaf self.now.round.goal }
+        ensures looks { pass.new ≡ pass.old }
+        ensures leads { MatchOption result ⊤ (λ child. (ends_at self.now.round.goal self.now.round.floor < level_in self.now.page.chain)
+            × StaysLeft (write_way self.now.round.goal self.now.round.key) self.now.page.chain
+            × LeadsDown (write_way self.now.round.goal self.now.round.key) self.now.page.chain child) }
+    {
+        if self.is_left() {
+            return None;
+        }
+        child_inside(self.page().chain(), rows, pass, &self.key)
+    }
+
+    /// Goes down to this child of the page where no change is looked for; else settles what is due at the page.
+    fn settle_inside(&mut self, rows: &R, pass: &mut R::Pass, child: u32) -> Option<WriteEndKind>
+        requires read { AreReadToWrite (R.has rows.now pass.old) self.old.round self.old.page }
+        requires can { CanTreatWrite self.old.round self.old.page }
+        requires here { IsHere self.old.round self.old.page }
+        requires index { ends_at self.old.round.goal self.old.round.floor < level_in self.old.page.chain }
+        requires leads { LeadsDown (write_way self.old.round.goal self.old.round.key) self.old.page.chain child }
+        ensures looks { pass.new ≡ pass.old }
+        ensures treats { TreatsWrite self.old.round self.old.page self.new.round (option_map (ended_write self.new) result) }
+        ensures same { WritesForTheSame self.old.round self.new.round }
+    {
+        if self.splits {
+            return self.settle(rows, pass);
+        }
+        if self.tends {
+            return self.settle(rows, pass);
+        }
+        let long = self.is_long(rows, pass);
+        if long {
+            return self.settle(rows, pass);
+        }
+        self.go_down(rows, pass, child);
+        None
     }
 
     /// The page's right, where the page ends on the way.
@@ -198,6 +242,23 @@ impl<R: Rows, A: Allocator> WriteRound<R, A> {
         ensures same { WritesForTheSame self.old.round self.new.round }
     {
         let child = self.next_below(rows, pass);
+        self.go_down(rows, pass, child);
+    }
+
+    /// Goes down to this child of the page, which is the parent of those that are read from now on.
+    fn go_down(&mut self, rows: &R, pass: &R::Pass, child: u32)
+        requires read { AreReadToWrite (R.has rows.now pass.now) self.old.round self.old.page }
+        requires can { CanTreatWrite self.old.round self.old.page }
+        requires here { IsHere self.old.round self.old.page }
+        requires fine { IsFine self.old.round.limits self.old.round.due self.old.round.splits self.old.page }
+        requires index { ends_at self.old.round.goal self.old.round.floor < level_in self.old.page.chain }
+        requires idle { IsIdleOnWay self.old.round self.old.page }
+        requires leads { LeadsDown (write_way self.old.round.goal self.old.round.key) self.old.page.chain child }
+        ensures treats { TreatsWrite self.old.round self.old.page self.new.round None }
+        ensures same { WritesForTheSame self.old.round self.new.round }
+    {
+        let _ = rows;
+        let _ = pass;
         self.course.go_below(&mut self.descent);
         self.descent.go_to(child);
     }

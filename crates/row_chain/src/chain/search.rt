@@ -1,15 +1,16 @@
 //! What a chain decides for a key.
-ghost use Rattle.std.specs.Prelude.{◌≡◌, ◌<◌, ◌++◌, List, IsSome, IsTrue, MatchOption, not, is_some, ⊤};
+ghost use Rattle.std.specs.Prelude.{◌≡◌, ◌<◌, ◌++◌, List, IsSome, IsTrue, MatchOption, not, is_some, ⊤, true};
 ghost use Rattle.std.specs.List.{All};
-ghost use Rattle.bw_model.specs.Bytes.{is_below};
+ghost use Rattle.bw_model.specs.Bytes.{is_below, is_under};
 ghost use Rattle.base_page.specs.Pages.{value_in};
 ghost use Rattle.base_page.specs.Places.{IsGreatestChild, HasNoChild};
 ghost use Rattle.deltas.specs.declared.record.Record.{Record};
 ghost use Rattle.deltas.specs.Records.{content_said};
-ghost use Rattle.traces.specs.chain.Chains.{content_in, covers, level_in, low_in};
+ghost use Rattle.traces.specs.chain.Chains.{content_in, covers, high_in, level_in, low_in};
 ghost use Rattle.row_chain.specs.Walks.{is_named};
 ghost use Rattle.row_chain.specs.Placed.{IsReadChain, contents};
 
+use super::walk::inside_base;
 use crate::Chain;
 use base_page::Content;
 use bw_model::Value;
@@ -53,6 +54,28 @@ impl<R: Rows, A: Allocator> Chain<R, A> {
         self.was_read(rows, pass);
         self.keeps_rules();
         self.greatest_child(rows, pass, key, false)
+    }
+
+    /// The child of the greatest term at or below the key, of an index page without deltas that ends above the key; none of another page. Most pages have
+    /// a term above the key, and then the end isn't looked at. Inlined, as what it calls: a round calls it for every page.
+    #[inline(always)]
+    pub fn child_inside(&self, rows: &R, pass: &mut R::Pass, key: &KeyWords) -> Option<u32>
+        requires read { IsReadChain (R.has rows.now pass.old) self.now }
+        ensures same { pass.new ≡ pass.old }
+        ensures child { MatchOption result ⊤ (IsGreatestChild (content_in self.now.records) (λ q. not (is_below key.now q))) }
+        ensures ends { IsSome result → is_under key.now (high_in self.now.records) ≡ true }
+        ensures index { IsSome result → 0 < level_in self.now.records }
+    {
+        self.was_read(rows, pass);
+        self.keeps_rules();
+        if self.level() == 0 {
+            return None;
+        }
+        let records = self.as_read(rows, pass);
+        if records.len() > 1 {
+            return None;
+        }
+        inside_base(&records[0], rows, pass, key)
     }
 
     /// The child of the greatest term below the key, or none.

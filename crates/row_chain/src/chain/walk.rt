@@ -1,10 +1,11 @@
 //! The walk from the newest record of a chain to the child of its greatest term that passes.
-ghost use Rattle.std.specs.Prelude.{◌≡◌, ◌≤◌, ◌<◌, ◌-◌, ◌++◌, [], ◌∷◌, ℕ, Bool, List, IsFalse, IsTrue, MatchOption, ⊤, false, length, option_copied, slice_index_or};
+ghost use Rattle.std.specs.Prelude.{◌≡◌, ◌≤◌, ◌<◌, ◌-◌, ◌++◌, [], ◌∷◌, ℕ, Bool, List, IsFalse, IsSome, IsTrue, MatchOption, ⊤, true, false, length, option_copied, slice_index_or};
 ghost use Rattle.std.specs.List.{All};
 ghost use Rattle.base_page.specs.declared.item.Item.{Item};
 ghost use Rattle.base_page.specs.Pages.{AreItems};
 ghost use Rattle.base_page.specs.Places.{IsAt, IsGreatest, IsGreatestChild, HasNoChild};
-ghost use Rattle.traces.specs.chain.Chains.{content_in};
+ghost use Rattle.bw_model.specs.Bytes.{is_under};
+ghost use Rattle.traces.specs.chain.Chains.{content_in, high_in};
 ghost use Rattle.traces.specs.chain.Fitted.{IsPageChain};
 ghost use Rattle.row_search.specs.Items.{items_said};
 ghost use Rattle.row_chain.specs.Walks.{is_above, is_left, is_taken, IsGreatestKey, PassesUpTo};
@@ -102,6 +103,35 @@ fn greatest_in_base<R: Rows>(
         return None;
     }
     base.child_at(rows, pass, count - 1)
+}
+
+/// The child of the greatest of a page's items at or below the key, where its base has no delta over it and the page ends above the key. Where another
+/// item is above the key the end is too, and isn't looked at.
+#[inline(always)]
+pub(super) fn inside_base<R: Rows>(
+    base: &RowAt<R>,
+    rows: &R,
+    pass: &mut R::Pass,
+    key: &KeyWords,
+) -> Option<u32>
+    requires here { R.has rows.now pass.old base.now.row base.now.content }
+    requires alone { IsPageChain (base.now.content ∷ []) }
+    ensures same { pass.new ≡ pass.old }
+    ensures child { MatchOption result ⊤ (IsGreatestChild (content_in (base.now.content ∷ [])) (is_left false key.now)) }
+    ensures ends { IsSome result → is_under key.now (high_in (base.now.content ∷ [])) ≡ true }
+{
+    base.keeps_spelling();
+    let (count, _) = passing(base, rows, pass, key, false);
+    if count == 0 {
+        return None;
+    }
+    if count < base.item_count() {
+        return base.child_at(rows, pass, count - 1);
+    }
+    if base.ends_after(rows, pass, key) {
+        return base.child_at(rows, pass, count - 1);
+    }
+    None
 }
 
 /// How many of the items that the record says are there pass, and whether the last of those is at the bound.

@@ -1,12 +1,10 @@
-use Rattle.row_chain.proofs.Words.{◌∷◌, refl, arith, Child, Item, is_left}
+use Rattle.row_chain.proofs.Words.{◌∷◌, refl, arith, is_left}
 use Rattle.std.proofs.Common.{[]}
-use Rattle.std.specs.Prelude.{None, false}
-use Rattle.row_chain.proofs.ChildWalks.{child_best, child_found}
-use Rattle.row_chain.proofs.Winners.{none_left, wins}
+use Rattle.std.specs.Prelude.{None}
+use Rattle.row_chain.proofs.ChildWalks.{child_best}
+use Rattle.row_chain.proofs.Inside.{child_before}
+use Rattle.row_chain.proofs.Winners.{none_left}
 use Rattle.row_chain.proofs.chain.walk.greatest_in_base.Goals as goal
-
-none : Item
-none = record { key = []; content = Child 0 false }
 
 pub returns-then-count-eq0-clause-child : goal.returns-then-count-eq0-clause-child
 returns-then-count-eq0-clause-child g c =
@@ -17,9 +15,6 @@ returns-then-count-eq0-clause-child g c =
 
 pub returns-clause-child : goal.returns-clause-child
 returns-clause-child g c =
-    let row = c.args.base.now.content in
-    let passes = is_left c.args.below c.args.bound.now in
     let some = c.if-count-eq0.false in
-    let greatest = wins row [] c.keeps_spelling.ensures.spellable passes c.passing-count.ensures.items c.passing-count.result.0 c.passing-count.ensures.passed None (λ key pass. refl) c.passing-count.result.0 (λ i d from to. absurd (omega (arith, from, to)))
-    none (omega (arith, some)) (omega arith) refl refl in
-    child_found (row ∷ []) c.requires.alone.fitted passes _ _ c.child_at.result greatest (c.child_at.ensures.child none)
+    child_before c.args.base.now.content c.requires.alone.fitted c.keeps_spelling.ensures.spellable (is_left c.args.below c.args.bound.now) c.passing-count.ensures.items
+    c.passing-count.result.0 c.passing-count.ensures.passed (omega (arith, some)) c.child_at.result c.child_at.ensures.child
