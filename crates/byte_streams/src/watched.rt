@@ -42,6 +42,7 @@ impl<R, W: Write> Watched<R, W> {
         let Some(terminal) = &mut self.terminal else {
             return;
         };
+        // What the terminal refuses is left out: the reader goes on without it.
         if now > before {
             let _ = write!(terminal, "\r{now} MiB read");
         }

@@ -68,8 +68,8 @@ module _ {S : Type 0} where
   pub by_goes_on : (a : ℕ) (more log : List (Event S)) → GoesOn (by a (more ++ log)) (by a log)
   by_goes_on a [] log = goes_on_self (by a log)
   by_goes_on a (event ∷ more) log = dite (ℕ_discrete a event.author)
-      (λ e. subst (λ l. GoesOn l (by a log)) (sym (by_mine a event (more ++ log) e)) (goes_on_one (by a (more ++ log)) (by a log) event (by_goes_on a more log)))
-      (λ ne. subst (λ l. GoesOn l (by a log)) (sym (by_other a event (more ++ log) ne)) (by_goes_on a more log))
+      (λ e. rw (← by_mine a event (more ++ log) e) at (goes_on_one (by a (more ++ log)) (by a log) event (by_goes_on a more log)))
+      (λ ne. rw (← by_other a event (more ++ log) ne) at (by_goes_on a more log))
 
   module _ (ends : Ends S) (opened : List S) where
     pub is_log_before : (more log : List (Event S)) → IsLog ends opened (more ++ log) → IsLog ends opened log

@@ -87,7 +87,7 @@ module _ {S : Type 0} (ends : Ends S) (opened : List S) where
       there = some it.0;
       word_at = ap (λ ws. get_elem? ws n) is ∙ zero_at (length opened) n lower;
       there_at = it.2;
-      stands = subst (λ o. Stands (length opened - (n + 1)) 0 (first_cell o) 0 (some it.0)) (sym it.1) (refl, refl, λ _. omega arith);
+      stands = rw it.1 (refl, refl, λ _. omega arith);
     };
     each = opens_each;
   }
@@ -106,7 +106,7 @@ module _ {S : Type 0} (ends : Ends S) (opened : List S) where
               (at_snoc s.views w u j there);
         },
         λ asked e. let is : opened ≡ asked = ap (λ (k : Knows S). k.opened) e in
-            (h.log, subst (λ o. IsLog ends o h.log) is h.legal, λ i. (knows Nobody (is i) h.log, [])),
+            (h.log, rw is at h.legal, λ i. (knows Nobody (is i) h.log, [])),
       )
 
   -- A view has fewer authors, and a new one has the first of them.

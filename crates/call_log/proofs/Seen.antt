@@ -25,4 +25,4 @@ module _ {S : Type 0} (ends : Ends S) where
   authors_known opened s h i j a one other at there has =
       let all = ((h.each i one at).alone a has).1 in
       let part = (h.each j other there).seen in
-      subst (λ l. GoesOn l (by a other.log)) all (subst (λ l. GoesOn (by a l) (by a other.log)) (sym part.1) (by_goes_on a part.0 other.log))
+      rw all at (rw (← part.1) at (by_goes_on a part.0 other.log))

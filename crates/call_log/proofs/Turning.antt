@@ -119,14 +119,14 @@ module _ {S : Type 0} where
           legal = (may, h.legal);
           slots = slots;
           each = λ j u there. ⊎_elim
-              (λ t. subst (IsTrueView opened log h.writer j) t.1 (subst (λ k. IsTrueView opened log h.writer k w) (sym t.0) new))
+              (λ t. subst (IsTrueView opened log h.writer j) t.1 (rw (← t.0) at new))
               (λ t. let it = h.each j u t.1 in record {
                 opened_is = it.opened_is;
                 seen = goes_on_one h.log u.log (event a deed) it.seen;
                 alone = λ b has. let one = it.alone b has in
                     (one.0, by_other b (event a deed) h.log (λ e. t.0 (sym one.0 ∙ ap h.writer e ∙ mine)) ∙ one.1);
               })
-              (at_set s.views id j w u (subst (λ vs. get_elem? vs j ≡ some u) views there));
+              (at_set s.views id j w u (rw views at there));
         }
 
     -- The view of a seat sees the log as it is.
@@ -145,14 +145,14 @@ module _ {S : Type 0} where
           legal = h.legal;
           slots = slots;
           each = λ j u there. ⊎_elim
-              (λ t. subst (IsTrueView opened h.log h.writer j) t.1 (subst (λ k. IsTrueView opened h.log h.writer k w) (sym t.0) new))
+              (λ t. subst (IsTrueView opened h.log h.writer j) t.1 (rw (← t.0) at new))
               (λ t. h.each j u t.1)
-              (at_set s.views id j w u (subst (λ vs. get_elem? vs j ≡ some u) views there));
+              (at_set s.views id j w u (rw views at there));
         }
 
     was_log : (s : State S (Knows S)) (h : R s) (id : ℕ) (v : Knows S) → get_elem? s.views id ≡ some v → WasLog ends v h.log
     was_log s h id v at = let it = h.each id v at in record {
-      legal = subst (λ o. IsLog ends o h.log) (sym it.opened_is) h.legal;
+      legal = rw (← it.opened_is) at h.legal;
       seen = it.seen;
       alone = λ a has. (it.alone a has).1;
     }
@@ -173,13 +173,13 @@ module _ {S : Type 0} where
         → cell_of v.opened v.log n ≡ out a x → (cell_of opened h.log n ≡ out a x) × (stage_of v.log ≡ 0 → stage_of h.log ≡ 0) × (0 < stage_of v.log → 0 < stage_of h.log)
     out_now s h id v a n x at writes below is =
         let it = h.each id v at in
-        let was : cell_of opened v.log n ≡ out a x = subst (λ o. cell_of o v.log n ≡ out a x) it.opened_is is in
+        let was : cell_of opened v.log n ≡ out a x = rw it.opened_is at is in
         let legal : IsLog ends opened (it.seen.0 ++ v.log) = subst (IsLog ends opened) it.seen.1 h.legal in
         let same : by a (it.seen.0 ++ v.log) ≡ by a v.log = ap (by a) (sym it.seen.1) ∙ (it.alone a (has_first v.authors a writes)).1 in
         let stays = stays_out ends opened v.log it.seen.0 a n x legal same was below in (
           ap (λ l. cell_of opened l n) it.seen.1 ∙ stays.out_still,
           λ e. ap stage_of it.seen.1 ∙ stays.open_still e,
-          λ some'. subst (λ l. 0 < stage_of l) (sym it.seen.1) (stays_closed ends opened v.log it.seen.0 legal some'),
+          λ some'. rw (← it.seen.1) at (stays_closed ends opened v.log it.seen.0 legal some'),
         )
 
     -- While an author has the last slot out, nobody else empties the table.
@@ -187,7 +187,7 @@ module _ {S : Type 0} where
         → cell_of v.opened v.log n ≡ out a x → stage_of v.log ≡ 1 → stage_of h.log ≡ 1
     not_emptied s h id v a n x at writes last is one' =
         let it = h.each id v at in
-        let was : cell_of opened v.log n ≡ out a x = subst (λ o. cell_of o v.log n ≡ out a x) it.opened_is is in
+        let was : cell_of opened v.log n ≡ out a x = rw it.opened_is at is in
         let legal : IsLog ends opened (it.seen.0 ++ v.log) = subst (IsLog ends opened) it.seen.1 h.legal in
         let same : by a (it.seen.0 ++ v.log) ≡ by a v.log = ap (by a) (sym it.seen.1) ∙ (it.alone a (has_first v.authors a writes)).1 in
         ap stage_of it.seen.1 ∙ stays_one ends opened v.log it.seen.0 a n x legal same was last one'
@@ -200,7 +200,7 @@ module _ {S : Type 0} where
         let found : ℕ = get_or s.words n 0 in
         let is : found ≡ it.word = at_index s.words n it.word 0 it.word_at in
         let stands : Stands (more_of n) (stage_of h.log) (cell_of opened h.log n) found it.there =
-        subst (λ k. Stands (more_of n) (stage_of h.log) (cell_of opened h.log n) k it.there) (sym is) it.stands in
+        rw (← is) at it.stands in
         let old = h.each id me.0 at in
         exchanged found 0 1
         (λ z. (w : Knows S) × (a : Act S) × Valid s.homes me.1 a × R (stepped s n z id me.1 w a) × HasTried ends n found me (w, carried_after me.1 a))
@@ -221,8 +221,7 @@ module _ {S : Type 0} where
               (λ ne.
               let before = untouched h.log s m n 1 (set s.homes n none) (set s.views id w) ne (set_else s.homes n m none ne) (h.slots m lower) in
               standing h.log (event a deed ∷ h.log) (stepped s n 1 id me.1 w (takes n x)) m before
-              (subst (λ c. Stands (more_of m) (stage_of h.log) c before.word before.there)
-              (sym (where_other n m (lent a (cell_of opened h.log m)) (cell_of opened h.log m) (λ q. ne (sym q)))) before.stands)))
+              (rw (← where_other n m (lent a (cell_of opened h.log m)) (cell_of opened h.log m) (λ q. ne (sym q))) at before.stands)))
               refl,
           record {
             hit = λ _. (x, has_done s h id me.0 a deed ((n, x) ∷ me.1) at writes.1 may, subst (λ o. cell_of o h.log n ≡ home x) (sym old.opened_is) there.1);
@@ -267,7 +266,7 @@ module _ {S : Type 0} where
         let now = out_now s h id me.0 a n can.x at writes below can.out_there.2 in
         let deed : Deed S = Ended n can.x can.y in
         let may : MayFollow ends opened h.log a deed =
-        (let it = can.ends_so h.log a writes (was_log s h id me.0 at) in (now.0, subst (λ o. ends o h.log n can.x can.y) old.opened_is it.0, it.1)) in
+        (let it = can.ends_so h.log a writes (was_log s h id me.0 at) in (now.0, rw old.opened_is at it.0, it.1)) in
         let log : List (Event S) = event a deed ∷ h.log in
         let w : Knows S = knows me.0.authors me.0.opened log in
         let hs : List (Option S) = set s.homes n (some can.y) in
@@ -275,18 +274,16 @@ module _ {S : Type 0} where
           w,
           gives,
           tt,
-          subst (λ z. R record { words = set s.words n 0; homes = z; views = set s.views id w }) (sym back)
-              (written s record { words = set s.words n 0; homes = hs; views = set s.views id w } h id me.0 a deed at writes may
+          rw (← back) at (written s record { words = set s.words n 0; homes = hs; views = set s.views id w } h id me.0 a deed at writes may
               (λ m lower.
               let on : (k : ℕ) → (k ≢ n) → k < length opened → HasSlot opened log s k =
               λ k ne less.
               let before = h.slots k less in
-              standing h.log log s k before (subst (λ c. Stands (more_of k) (stage_of h.log) c before.word before.there)
-              (sym (where_other n k (home can.y) (cell_of opened h.log k) (λ q. ne (sym q)))) before.stands) in
+              standing h.log log s k before (rw (← where_other n k (home can.y) (cell_of opened h.log k) (λ q. ne (sym q))) at before.stands) in
               dite (ℕ_discrete m n)
               (λ q. subst (HasSlot opened log record { words = set s.words n 0; homes = hs; views = set s.views id w }) (sym q)
               (placed h.log log s n 0 (some can.y) (set s.views id w) (h.slots n below)
-              (subst (λ c. Stands (more_of n) (stage_of h.log) c 0 (some can.y)) (sym (where_same n n (home can.y) (cell_of opened h.log n) refl)) (refl, refl, λ _. may.2))))
+              (rw (where_same n n (home can.y) (cell_of opened h.log n) refl) (refl, refl, λ _. may.2))))
               (λ ne. untouched log s m n 0 hs (set s.views id w) ne (set_else s.homes n m (some can.y) ne) (on m ne lower)))
               refl),
           λ x y it carried.
@@ -335,10 +332,9 @@ module _ {S : Type 0} where
           w,
           gives,
           tt,
-          subst (λ z. R record { words = set s.words n 2; homes = z; views = set s.views id w }) (sym back)
-              (looked s record { words = set s.words n 2; homes = hs; views = set s.views id w } h id me.0 at
+          rw (← back) at (looked s record { words = set s.words n 2; homes = hs; views = set s.views id w } h id me.0 at
               (λ m lower. given h.log h.log s n m 2 can.y (set s.views id w) below (h.slots n below)
-              (subst (λ c. Stands (more_of n) (stage_of h.log) c 2 (some can.y)) (sym now.0) (inr (refl, now.2 can.closed, λ none'. let z = can.more in absurd (omega (arith, z, none', long_is)))))
+              (rw now.0 (inr (refl, now.2 can.closed, λ none'. let z = can.more in absurd (omega (arith, z, none', long_is)))))
               (λ _. h.slots m lower))
               refl),
           record { log = h.log; was = was_log s h id me.0 at; now = refl },
@@ -354,7 +350,7 @@ module _ {S : Type 0} where
         let now = out_now s h id me.0 a n can.x at writes below can.out_there.2 in
         let some' : 0 < stage_of h.log = now.2 (let z = can.closed in omega (arith, z)) in
         let one' : stage_of h.log ≡ 1 = not_emptied s h id me.0 a n can.x at writes last can.out_there.2 can.closed in
-        let may : MayFollow ends opened h.log a Emptied = (one', λ k q. let same : k ≡ n = omega (arith, q, last) in (can.x, subst (λ z. cell_of opened h.log z ≡ out a can.x) (sym same) now.0)) in
+        let may : MayFollow ends opened h.log a Emptied = (one', λ k q. let same : k ≡ n = omega (arith, q, last) in (can.x, rw (← same) at now.0)) in
         let log : List (Event S) = event a Emptied ∷ h.log in
         let w : Knows S = knows me.0.authors me.0.opened log in
         let hs : List (Option S) = set s.homes n (some can.y) in
@@ -367,10 +363,9 @@ module _ {S : Type 0} where
           w,
           gives,
           tt,
-          subst (λ z. R record { words = set s.words n 2; homes = z; views = set s.views id w }) (sym back)
-              (written s record { words = set s.words n 2; homes = hs; views = set s.views id w } h id me.0 a Emptied at writes may
+          rw (← back) at (written s record { words = set s.words n 2; homes = hs; views = set s.views id w } h id me.0 a Emptied at writes may
               (λ m lower. given h.log log s n m 2 can.y (set s.views id w) below (h.slots n below)
-              (subst (λ c. Stands (more_of n) 2 c 2 (some can.y)) (sym now.0) (inr (refl, omega arith, λ _. refl)))
+              (rw now.0 (inr (refl, omega arith, λ _. refl)))
               (λ ne. on m ne lower))
               refl),
           has_done s h id me.0 a Emptied (rest me.1) at writes may,

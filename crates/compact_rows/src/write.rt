@@ -55,10 +55,12 @@ pub(crate) fn write_compact(row: &mut CompactRow, content: &Record)
             let items = page.items().as_slice();
             write_row(
                 row,
-                kinds::BASE,
-                page.level(),
-                0,
-                right,
+                Numbers {
+                    kind: kinds::BASE,
+                    level: page.level(),
+                    next: 0,
+                    page: right,
+                },
                 page.low(),
                 page.high(),
                 items,
@@ -69,88 +71,133 @@ pub(crate) fn write_compact(row: &mut CompactRow, content: &Record)
                 key: put.key.copied(),
                 content: Content::Value(put.value.copied()),
             };
-            write_row(row, kinds::PUT, 0, put.next, 0, &none, Some(&none), &[item])
+            write_row(
+                row,
+                Numbers {
+                    kind: kinds::PUT,
+                    level: 0,
+                    next: put.next,
+                    page: 0,
+                },
+                &none,
+                Some(&none),
+                &[item],
+            )
         }
-        Record::Delete(delete) => write_link(row, kinds::DELETE, 0, delete.next, 0, &delete.key),
+        Record::Delete(delete) => write_link(
+            row,
+            Numbers {
+                kind: kinds::DELETE,
+                level: 0,
+                next: delete.next,
+                page: 0,
+            },
+            &delete.key,
+        ),
         Record::Split(split) => write_link(
             row,
-            kinds::SPLIT,
-            split.level,
-            split.next,
-            split.page,
+            Numbers {
+                kind: kinds::SPLIT,
+                level: split.level,
+                next: split.next,
+                page: split.page,
+            },
             &split.separator,
         ),
         Record::Term(term) => write_link(
             row,
-            kinds::TERM,
-            term.level,
-            term.next,
-            term.child,
+            Numbers {
+                kind: kinds::TERM,
+                level: term.level,
+                next: term.next,
+                page: term.child,
+            },
             &term.separator,
         ),
         Record::Hold(hold) => write_link(
             row,
-            kinds::HOLD,
-            hold.level,
-            hold.next,
-            hold.child,
+            Numbers {
+                kind: kinds::HOLD,
+                level: hold.level,
+                next: hold.next,
+                page: hold.child,
+            },
             &hold.separator,
         ),
         Record::Remove(remove) => write_link(
             row,
-            kinds::REMOVE,
-            remove.level,
-            remove.next,
-            0,
+            Numbers {
+                kind: kinds::REMOVE,
+                level: remove.level,
+                next: remove.next,
+                page: 0,
+            },
             &none,
         ),
         Record::Merge(merge) => write_row(
             row,
-            kinds::MERGE,
-            merge.level,
-            merge.next,
-            merge.right.unwrap_or(0),
+            Numbers {
+                kind: kinds::MERGE,
+                level: merge.level,
+                next: merge.next,
+                page: merge.right.unwrap_or(0),
+            },
             &merge.low,
             merge.high.as_ref(),
             merge.items.as_slice(),
         ),
         Record::Unterm(unterm) => write_link(
             row,
-            kinds::UNTERM,
-            unterm.level,
-            unterm.next,
-            unterm.child,
+            Numbers {
+                kind: kinds::UNTERM,
+                level: unterm.level,
+                next: unterm.next,
+                page: unterm.child,
+            },
             &unterm.separator,
         ),
     }
 }
 
+/// The numbers of a row, beside its count of items and the lengths of its keys.
+#[derive(Clone, Copy)]
+struct Numbers {
+    kind: u8,
+    level: u8,
+    next: u32,
+    page: u32,
+}
+
 /// Writes a row with one key and no items.
-fn write_link(row: &mut CompactRow, kind: u8, level: u8, next: u32, page: u32, first: &Key)
+fn write_link(row: &mut CompactRow, numbers: Numbers, first: &Key)
     requires empty { row.old ≡ [] }
-    requires room { length (compact_row (record { kind = kind; level = level; count = 0; next = next; page = page; first = first.now; second = Some [] }) []) ≤ most_words }
-    ensures words { row.new ≡ compact_row (record { kind = kind; level = level; count = 0; next = next; page = page; first = first.now; second = Some [] }) [] }
+    requires room { length (compact_row (record {
+      kind = numbers.kind;
+      level = numbers.level;
+      count = 0;
+      next = numbers.next;
+      page = numbers.page;
+      first = first.now;
+      second = Some [];
+    }) []) ≤ most_words }
+    ensures words { row.new ≡ compact_row (record {
+      kind = numbers.kind;
+      level = numbers.level;
+      count = 0;
+      next = numbers.next;
+      page = numbers.page;
+      first = first.now;
+      second = Some [];
+    }) [] }
     ensures short { IsShort first.now }
 {
-    write_row(
-        row,
-        kind,
-        level,
-        next,
-        page,
-        first,
-        Some(&Key::default()),
-        &[],
-    )
+    write_row(row, numbers, first, Some(&Key::default()), &[])
 }
 
 /// Writes a row of these parts: two words of numbers, heads, codes, the two keys, and the items' texts.
 fn write_row(
     row: &mut CompactRow,
-    kind: u8,
-    level: u8,
-    next: u32,
-    page: u32,
+    numbers: Numbers,
     first: &Key,
     second: Option<&Key>,
     items: &[Item],
@@ -158,20 +205,20 @@ fn write_row(
     requires empty { row.old ≡ [] }
     requires few { length items.now ≤ 24 }
     requires room { length (compact_row (record {
-      kind = kind;
-      level = level;
+      kind = numbers.kind;
+      level = numbers.level;
       count = length items.now;
-      next = next;
-      page = page;
+      next = numbers.next;
+      page = numbers.page;
       first = first.now;
       second = option_copied second;
     }) items.now) ≤ most_words }
     ensures words { row.new ≡ compact_row (record {
-      kind = kind;
-      level = level;
+      kind = numbers.kind;
+      level = numbers.level;
       count = length items.now;
-      next = next;
-      page = page;
+      next = numbers.next;
+      page = numbers.page;
       first = first.now;
       second = option_copied second.entry;
     }) items.now }
@@ -181,8 +228,8 @@ fn write_row(
 {
     let bytes = key_bytes(first);
     let count = items.len();
-    row.push(first_word(kind, level, count, next));
-    row.push(second_word(page, bytes.len(), bound_length(second)));
+    row.push(first_word(numbers.kind, numbers.level, count, numbers.next));
+    row.push(second_word(numbers.page, bytes.len(), bound_length(second)));
     push_heads(row, items);
     let at = 2 + 2 * count + (words_for(bytes.len()) + bound_size(second));
     push_codes(row, at, items);

@@ -89,7 +89,7 @@ all_at p (x ∷ xs) = p 0 x && all_at (λ n. p (suc n)) xs
 
 pub passes_at : {X : Type 0} (p : ℕ → X → Bool) (xs : List X) → all_at p xs ≡ true → (n : ℕ) (x : X) → slice_get xs n ≡ Some x → p n x ≡ true
 passes_at p [] h n x e = cc
-passes_at p (y ∷ xs) h zero x e = let same : y ≡ x = cc in subst (λ z. p 0 z ≡ true) same (and_left (p 0 y) (all_at (λ n. p (suc n)) xs) h)
+passes_at p (y ∷ xs) h zero x e = let same : y ≡ x = cc in rw same at (and_left (p 0 y) (all_at (λ n. p (suc n)) xs) h)
 passes_at p (y ∷ xs) h (suc n) x e = passes_at (λ k. p (suc k)) xs (and_right (p 0 y) (all_at (λ n. p (suc n)) xs) h) n x e
 
 -- what is so of the numbers behind a bound, and how many there are with so many of them

@@ -48,13 +48,13 @@ fold-marked so_far (x ∷ xs) [] n entry e f none = cc
 fold-marked so_far (x ∷ xs) (y ∷ ys) zero entry e f none =
     let is : x ≡ entry = cc in
     let unmarked : y ≡ false = cc in
-    let nothing : updates_at so_far.entries x so_far.log ≡ [] = rw is (subst (λ es. updates_at es entry so_far.log ≡ []) (append-nil so_far.entries) none) in
+    let nothing : updates_at so_far.entries x so_far.log ≡ [] = rw is (rw (append-nil so_far.entries) at none) in
     let same : so_far.log ++ updates_at so_far.entries x so_far.log ≡ so_far.log = rw nothing (append-nil so_far.log) in
     let whole : history_after so_far (x, true) ≡ history_after so_far (x, y) = rw unmarked (λ i. record { entries = so_far.entries ++ x ∷ []; log = same i }) in
     ap (λ h. fold history_after h (zip xs ys)) whole
 fold-marked so_far (x ∷ xs) (y ∷ ys) (suc n) entry e f none =
     fold-marked (history_after so_far (x, y)) xs ys n entry e f
-    (subst (λ es. updates_at es entry (fold history_after (history_after so_far (x, y)) (zip (take n xs) (take n ys))).log ≡ []) (sym (append_assoc so_far.entries (x ∷ []) (take n xs))) none)
+    (rw (← append_assoc so_far.entries (x ∷ []) (take n xs)) at none)
 
 pub log_of-marked : (entries : List Entry) (points : List Bool) (n : ℕ) (entry : Entry) → slice_get entries n ≡ Some entry → slice_get points n ≡ Some false
     → updates_at (take n entries) entry (log_at entries points n) ≡ [] → log_of entries (set points n true) ≡ log_of entries points

@@ -29,9 +29,9 @@ module _ (memory : Memory) (chain : List Record) (is : IsChainOf memory 1 chain)
   pub one_leaf_spells : low_in chain ≡ [] → high_in chain ≡ None → (key value : List ℕ) → Spells memory key value ↔ (content_in chain key ≡ Some (Value value))
   one_leaf_spells low high key value = (
     (λ (pages, page, are, among, covered, decided).
-        let alone : Contains (only_leaf ∷ []) page = subst (λ ps. Contains ps page) (IsSideChainFrom-unique memory 1 pages (only_leaf ∷ []) are are_leaves) among in
+        let alone : Contains (only_leaf ∷ []) page = rw (IsSideChainFrom-unique memory 1 pages (only_leaf ∷ []) are are_leaves) at among in
         let which : page ≡ only_leaf = contained_alone only_leaf page alone in
-        subst (λ p. content_in p.chain key ≡ Some (Value value)) which decided),
+        rw which at decided),
     (λ decided. (only_leaf ∷ [], only_leaf, are_leaves, (0, omega arith, refl), covered_by low high, decided)),
   )
     where
@@ -51,7 +51,7 @@ one_leaf memory log chain is low high right says = record {
 nowhere : (pages : List LivePage) → AllByRecursion (λ page. (key : List ℕ) → content_in page.chain key ≡ None) pages → (k : ℕ) (page : LivePage)
     → k < length pages → slice_index_or pages k page ≡ page → (key : List ℕ) → content_in page.chain key ≡ None
 nowhere [] h k page lt e key = absurd (omega arith)
-nowhere (p ∷ pages) h zero page lt e key = subst (λ q. content_in q.chain key ≡ None) e (h.0 key)
+nowhere (p ∷ pages) h zero page lt e key = rw e at (h.0 key)
 nowhere (p ∷ pages) h (suc k) page lt e key = nowhere pages h.1 k page (omega arith) e key
 
 -- whole leaves that decide no key have the map of the empty log
@@ -61,7 +61,7 @@ no_values memory pages are whole none = record {
   whole = (pages, are, whole);
   same = λ key value. (
     (λ (leaves, page, these, among, covered, decided).
-        let alone : Contains pages page = subst (λ ps. Contains ps page) (IsSideChainFrom-unique memory 1 leaves pages these are) among in
+        let alone : Contains pages page = rw (IsSideChainFrom-unique memory 1 leaves pages these are) at among in
         let absent : content_in page.chain key ≡ None = nowhere pages none alone.0 page alone.1 alone.2 key in
         cc),
     (λ h. cc),

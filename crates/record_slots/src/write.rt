@@ -41,10 +41,12 @@ pub fn write_record(row: &mut WrittenRow, content: &Record)
             let items = page.items().as_slice();
             write_row(
                 row,
-                kinds::BASE,
-                page.level(),
-                0,
-                right,
+                Numbers {
+                    kind: kinds::BASE,
+                    level: page.level(),
+                    next: 0,
+                    page: right,
+                },
                 page.low(),
                 page.high(),
                 items,
@@ -55,15 +57,28 @@ pub fn write_record(row: &mut WrittenRow, content: &Record)
                 key: put.key.copied(),
                 content: Content::Value(put.value.copied()),
             };
-            write_row(row, kinds::PUT, 0, put.next, 0, &none, Some(&none), &[item])
+            write_row(
+                row,
+                Numbers {
+                    kind: kinds::PUT,
+                    level: 0,
+                    next: put.next,
+                    page: 0,
+                },
+                &none,
+                Some(&none),
+                &[item],
+            )
         }
         Record::Delete(delete) => {
             write_row(
                 row,
-                kinds::DELETE,
-                0,
-                delete.next,
-                0,
+                Numbers {
+                    kind: kinds::DELETE,
+                    level: 0,
+                    next: delete.next,
+                    page: 0,
+                },
                 &delete.key,
                 Some(&none),
                 &[],
@@ -71,44 +86,54 @@ pub fn write_record(row: &mut WrittenRow, content: &Record)
         }
         Record::Split(split) => write_link(
             row,
-            kinds::SPLIT,
-            split.level,
-            split.next,
-            split.page,
+            Numbers {
+                kind: kinds::SPLIT,
+                level: split.level,
+                next: split.next,
+                page: split.page,
+            },
             &split.separator,
         ),
         Record::Term(term) => write_link(
             row,
-            kinds::TERM,
-            term.level,
-            term.next,
-            term.child,
+            Numbers {
+                kind: kinds::TERM,
+                level: term.level,
+                next: term.next,
+                page: term.child,
+            },
             &term.separator,
         ),
         Record::Hold(hold) => write_link(
             row,
-            kinds::HOLD,
-            hold.level,
-            hold.next,
-            hold.child,
+            Numbers {
+                kind: kinds::HOLD,
+                level: hold.level,
+                next: hold.next,
+                page: hold.child,
+            },
             &hold.separator,
         ),
         Record::Remove(remove) => write_link(
             row,
-            kinds::REMOVE,
-            remove.level,
-            remove.next,
-            0,
+            Numbers {
+                kind: kinds::REMOVE,
+                level: remove.level,
+                next: remove.next,
+                page: 0,
+            },
             &none,
         ),
         Record::Merge(merge) => write_merge(row, merge),
         Record::Unterm(unterm) => {
             write_link(
                 row,
-                kinds::UNTERM,
-                unterm.level,
-                unterm.next,
-                unterm.child,
+                Numbers {
+                    kind: kinds::UNTERM,
+                    level: unterm.level,
+                    next: unterm.next,
+                    page: unterm.child,
+                },
                 &unterm.separator,
             )
         }
@@ -125,55 +150,54 @@ fn write_merge(row: &mut WrittenRow, merge: &Merge)
     let items = merge.items.as_slice();
     write_row(
         row,
-        kinds::MERGE,
-        merge.level,
-        merge.next,
-        right,
+        Numbers {
+            kind: kinds::MERGE,
+            level: merge.level,
+            next: merge.next,
+            page: right,
+        },
         &merge.low,
         merge.high.as_ref(),
         items,
     )
 }
 
+/// The numbers of a row, beside its count of items and the lengths of its keys.
+#[derive(Clone, Copy)]
+struct Numbers {
+    kind: u8,
+    level: u8,
+    next: u32,
+    page: u32,
+}
+
 /// Writes a row with one key and no items.
-fn write_link(row: &mut WrittenRow, kind: u8, level: u8, next: u32, page: u32, first: &Key)
+fn write_link(row: &mut WrittenRow, numbers: Numbers, first: &Key)
     requires empty { row.old ≡ [] }
-    ensures words { with_zeros row.new ≡ row_words kind level next page first.now (Some []) [] }
+    ensures words { with_zeros row.new ≡ row_words numbers.kind numbers.level numbers.next numbers.page first.now (Some []) [] }
     ensures short { IsShort first.now }
 {
-    write_row(
-        row,
-        kind,
-        level,
-        next,
-        page,
-        first,
-        Some(&Key::default()),
-        &[],
-    )
+    write_row(row, numbers, first, Some(&Key::default()), &[])
 }
 
 /// Writes a row of these parts, whose texts are short by their types.
 fn write_row(
     row: &mut WrittenRow,
-    kind: u8,
-    level: u8,
-    next: u32,
-    page: u32,
+    numbers: Numbers,
     first: &Key,
     second: Option<&Key>,
     items: &[Item],
 )
     requires empty { row.old ≡ [] }
     requires few { length items.now ≤ 24 }
-    ensures words { with_zeros row.new ≡ row_words kind level next page first.now (option_copied second.entry) items.now }
+    ensures words { with_zeros row.new ≡ row_words numbers.kind numbers.level numbers.next numbers.page first.now (option_copied second.entry) items.now }
     ensures first { IsShort first.now }
     ensures second { IfSome (option_copied second.entry) IsShort }
     ensures items { All IsShortItem items.now }
 {
-    row.push(header_word(kind, level, items.len()));
-    row.push(u64::from(next));
-    row.push(u64::from(page));
+    row.push(header_word(numbers.kind, numbers.level, items.len()));
+    row.push(u64::from(numbers.next));
+    row.push(u64::from(numbers.page));
     push_field(row, key_bytes(first));
     push_bound(row, second);
     push_items(row, items);

@@ -13,7 +13,7 @@ IsChainFrom-unique rows row [] d h k = absurd h
 IsChainFrom-unique rows row (x ∷ xs) [] h k = absurd k
 IsChainFrom-unique rows row (x ∷ xs) (y ∷ ys) h k =
     let same : x ≡ y = cc (h.0, k.0) in
-    let under : MatchOption (next_row x) (ys ≡ []) (λ next. IsChainFrom rows next ys) = subst (λ z. MatchOption (next_row z) (ys ≡ []) (λ next. IsChainFrom rows next ys)) (sym same) k.1 in
+    let under : MatchOption (next_row x) (ys ≡ []) (λ next. IsChainFrom rows next ys) = rw (← same) at k.1 in
     let rest : xs ≡ ys = elim (next_row x) as (λ o. MatchOption o (xs ≡ []) (λ next. IsChainFrom rows next xs) → MatchOption o (ys ≡ []) (λ next. IsChainFrom rows next ys) → xs ≡ ys) [
       | None ↦ λ a b. a ∙ sym b
       | Some next ↦ λ a b. IsChainFrom-unique rows next xs ys a b
@@ -32,8 +32,7 @@ IsSideChainFrom-unique memory pid (p ∷ ps) [] h k = absurd k
 IsSideChainFrom-unique memory pid (p ∷ ps) (q ∷ qs) h k =
     let chains : p.chain ≡ q.chain = IsChainOf-unique memory pid p.chain q.chain h.1 k.1 in
     let same : p ≡ q = same_page p q (h.0 ∙ sym k.0) chains in
-    let under : MatchOption (right_in p.chain) (qs ≡ []) (λ right. IsSideChainFrom memory right qs) = subst
-    (λ c. MatchOption (right_in c) (qs ≡ []) (λ right. IsSideChainFrom memory right qs)) (sym chains) k.2 in
+    let under : MatchOption (right_in p.chain) (qs ≡ []) (λ right. IsSideChainFrom memory right qs) = rw (← chains) at k.2 in
     let rest : ps ≡ qs = elim (right_in p.chain) as
     (λ o. MatchOption o (ps ≡ []) (λ right. IsSideChainFrom memory right ps) → MatchOption o (qs ≡ []) (λ right. IsSideChainFrom memory right qs) → ps ≡ qs) [
       | None ↦ λ a b. a ∙ sym b
@@ -44,7 +43,7 @@ IsSideChainFrom-unique memory pid (p ∷ ps) (q ∷ qs) h k =
 -- the records of a chain were placed, each at its row
 chain_placed : (rows : ℕ → Option Record) (start : ℕ) (chain : List Record) → IsChainFrom rows start chain → (row : ℕ) → Contains (chain_rows start chain) row → rows row ≡ None → ⊥
 chain_placed rows start [] h row among none = absurd h
-chain_placed rows start (x ∷ xs) h row (zero, lt, e) none = let first : rows start ≡ None = subst (λ r. rows r ≡ None) (sym e) none in cc (h.0, first)
+chain_placed rows start (x ∷ xs) h row (zero, lt, e) none = let first : rows start ≡ None = rw (← e) at none in cc (h.0, first)
 chain_placed rows start (x ∷ xs) h row (suc k, lt, e) none =
     elim (next_row x) as
     (λ o. MatchOption o (xs ≡ []) (λ next. IsChainFrom rows next xs) → k < length (chain_rows (unwrap_or o 0) xs) → slice_index_or (chain_rows (unwrap_or o 0) xs) k row ≡ row → ⊥) [

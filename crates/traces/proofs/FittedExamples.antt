@@ -41,7 +41,7 @@ by_key q k same other = by_order q k
 
 -- a key above "k09" is not "k08"
 not_08 : (q : List ℕ) → key_cmp k09 q ≡ Less → is_eq (key_cmp q k08) ≡ false
-not_08 q more = by_key q k08 (λ is. let clash : key_cmp k09 k08 ≡ Less = subst (λ k. key_cmp k09 k ≡ Less) is more in absurd cc) (λ other. other)
+not_08 q more = by_key q k08 (λ is. let clash : key_cmp k09 k08 ≡ Less = rw is at more in absurd cc) (λ other. other)
 
 above_09 : (q : List ℕ) → key_cmp k09 q ≡ Less → key_cmp q k09 ≡ Greater
 above_09 q more = nat_list_cmp_total.antisymm q k09 ∙ ap ordering_reverse more
@@ -138,18 +138,18 @@ stands_upper = record {
 split_contents : (q : List ℕ) → content_at lower.items q ≡ (if not (is_below q k09) then None else content_at leaf.items q)
 split_contents q = by_order q k09
     (λ less. rw less refl)
-    (λ is. subst (λ k. content_at lower.items k ≡ (if not (is_below k k09) then None else content_at leaf.items k)) (sym is) refl)
+    (λ is. rw is refl)
     (λ more. rw (above_09 q more, not_08 q more) refl)
 
 merge_contents : (q : List ℕ) → content_at merged.items q ≡ (if not (is_below q k09) && true then content_at (item_09 ∷ []) q else content_at lower.items q)
 merge_contents q = by_order q k09
     (λ less. rw less refl)
-    (λ is. subst (λ k. content_at merged.items k ≡ (if not (is_below k k09) && true then content_at (item_09 ∷ []) k else content_at lower.items k)) (sym is) refl)
+    (λ is. rw is refl)
     (λ more. rw (above_09 q more, not_08 q more) refl)
 
 delete_contents : (q : List ℕ) → content_at without_08.items q ≡ (if is_eq (key_cmp q k08) then None else content_at with_07.items q)
 delete_contents q = by_key q k08
-    (λ is. subst (λ k. content_at without_08.items k ≡ (if is_eq (key_cmp k k08) then None else content_at with_07.items k)) (sym is) refl)
+    (λ is. rw is refl)
     (λ other. rw other refl)
 
 leaf_makes : Makes (Base leaf ∷ []) leaf
@@ -255,17 +255,17 @@ ruled_both child held = record {
 
 term_contents : (child : ℕ) (q : List ℕ) → content_at (both child false).items q ≡ (if is_eq (key_cmp q k09) then Some (Child child false) else content_at index.items q)
 term_contents child q = by_key q k09
-    (λ is. subst (λ k. content_at (both child false).items k ≡ (if is_eq (key_cmp k k09) then Some (Child child false) else content_at index.items k)) (sym is) refl)
+    (λ is. rw is refl)
     (λ other. rw other refl)
 
 hold_contents : (child : ℕ) (q : List ℕ) → content_at (both child true).items q ≡ (if is_eq (key_cmp q k09) then Some (Child child true) else content_at (both child false).items q)
 hold_contents child q = by_key q k09
-    (λ is. subst (λ k. content_at (both child true).items k ≡ (if is_eq (key_cmp k k09) then Some (Child child true) else content_at (both child false).items k)) (sym is) refl)
+    (λ is. rw is refl)
     (λ other. rw other refl)
 
 unterm_contents : (q : List ℕ) → content_at index.items q ≡ (if is_eq (key_cmp q k09) then None else content_at (both 2 true).items q)
 unterm_contents q = by_key q k09
-    (λ is. subst (λ k. content_at index.items k ≡ (if is_eq (key_cmp k k09) then None else content_at (both 2 true).items k)) (sym is) refl)
+    (λ is. rw is refl)
     (λ other. rw other refl)
 
 term_applies : (next child : ℕ) → Applies index (term next child) (both child false)
@@ -316,7 +316,7 @@ index_chain_fits = record {
 -- the same page split, and merged back
 
 above_first : (q : List ℕ) → key_cmp k09 q ≡ Less → is_eq (key_cmp q []) ≡ false
-above_first q more = by_key q [] (λ is. let clash : key_cmp k09 [] ≡ Less = subst (λ k. key_cmp k09 k ≡ Less) is more in absurd cc) (λ other. other)
+above_first q more = by_key q [] (λ is. let clash : key_cmp k09 [] ≡ Less = rw is at more in absurd cc) (λ other. other)
 
 abbrev cut : Page
 cut = record index { high = Some k09; right = Some 4 }
@@ -333,13 +333,13 @@ ruled_cut = record {
 cut_contents : (q : List ℕ) → content_at cut.items q ≡ (if not (is_below q k09) then None else content_at (both 3 false).items q)
 cut_contents q = by_order q k09
     (λ less. rw less refl)
-    (λ is. subst (λ k. content_at cut.items k ≡ (if not (is_below k k09) then None else content_at (both 3 false).items k)) (sym is) refl)
+    (λ is. rw is refl)
     (λ more. rw (above_09 q more, above_first q more) refl)
 
 merged_contents : (q : List ℕ) → content_at (both 5 false).items q ≡ (if not (is_below q k09) && true then content_at page_4.items q else content_at cut.items q)
 merged_contents q = by_order q k09
     (λ less. rw less refl)
-    (λ is. subst (λ k. content_at (both 5 false).items k ≡ (if not (is_below k k09) && true then content_at page_4.items k else content_at cut.items k)) (sym is) refl)
+    (λ is. rw is refl)
     (λ more. rw (above_09 q more, above_first q more) refl)
 
 stands_page_4 : IsSpellablePage page_4
@@ -406,9 +406,8 @@ pub put_outside_unfit : ¬ IsPageChain put_outside
 put_outside_unfit h =
     let over = h.fitted.0 in
     let high : over.page.high ≡ Some k09 = over.makes.high in
-    let inside : not (is_below k09 over.page.low) && is_under k09 (Some k09) ≡ true = subst
-    (λ (bound : Option (List ℕ)). not (is_below k09 over.page.low) && is_under k09 bound ≡ true) high over.fits.covered in
-    let below : is_under k09 (Some k09) ≡ true = subst (λ (low : List ℕ). not (is_below k09 low) && is_under k09 (Some k09) ≡ true) over.makes.low inside in
+    let inside : not (is_below k09 over.page.low) && is_under k09 (Some k09) ≡ true = rw high at over.fits.covered in
+    let below : is_under k09 (Some k09) ≡ true = rw over.makes.low at inside in
     cc
 
 pub base_over_base_unfit : ¬ IsPageChain base_over_base
@@ -417,10 +416,10 @@ base_over_base_unfit h = let none : false ≡ true = h.fitted.0.delta in cc
 first_unheld : (items : List Item) (low : List ℕ) (content : Content) → IsFirstAt low items → content_at items low ≡ Some content → is_held content ≡ false
 first_unheld [] low content first h = absurd first
 first_unheld (item ∷ items) low content first h =
-    let here : content_at (item ∷ items) low ≡ Some item.content = subst (λ k. content_at (item ∷ items) k ≡ Some item.content) first.0 (found_first item items) in
+    let here : content_at (item ∷ items) low ≡ Some item.content = rw (← first.0) (found_first item items) in
     let same : Some item.content ≡ Some content = sym here ∙ h in
     let is : item.content ≡ content = cc in
-    subst (λ c. is_held c ≡ false) is first.1
+    rw is at first.1
 
 pub first_held_unfit : ¬ IsPageChain first_held
 first_held_unfit h =

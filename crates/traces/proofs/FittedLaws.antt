@@ -128,13 +128,13 @@ fits_over under newest page made delta spellable makes fit applies ruled = recor
 
 -- the delta fits each page that is made under it
 pub fits : (under : List Record) (newest : Record) (page : Page) → FitsOver under newest → Makes under page → FitsOnPage page newest
-fits under newest page f m = subst (λ (p : Page). FitsOnPage p newest) (Makes-unique under f.page page f.makes m) f.fits
+fits under newest page f m = rw (Makes-unique under f.page page f.makes m) at f.fits
 
 -- the page that a fitted chain makes keeps the rules
 pub ruled : (chain : List Record) (page : Page) → IsFitted chain → Makes chain page → IsRuled page
 ruled [] page h m = absurd h
 ruled (newest ∷ []) page (base, is, stands) m =
-    let makes : Makes (newest ∷ []) base = subst (λ (r : Record). Makes (r ∷ []) base) (sym is) (Makes-base base stands.ruled.is_page.ordered.ascending stands.alive) in
+    let makes : Makes (newest ∷ []) base = rw (← is) at (Makes-base base stands.ruled.is_page.ordered.ascending stands.alive) in
     subst IsRuled (Makes-unique (newest ∷ []) base page makes m) stands.ruled
 ruled (newest ∷ older ∷ under) page (over, rest) m = subst IsRuled (Makes-unique (newest ∷ older ∷ under) over.made page over.makes_now m) over.ruled
 
@@ -207,7 +207,7 @@ right_of (newest ∷ older ∷ under) h = right_pid newest h.0.spellable (right_
 
 -- so are those of the page that it makes
 pub made_right : (chain : List Record) (page : Page) → IsFitted chain → Makes chain page → IfSome page.right IsPid
-made_right chain page h m = subst (λ right. IfSome right IsPid) (sym m.right) (right_of chain h)
+made_right chain page h m = rw (← m.right) at (right_of chain h)
 
 pub made_children : (chain : List Record) (page : Page) → IsFitted chain → Makes chain page → All (λ item. HasPid item.content) page.items
 made_children chain page h m = All-from_recursion (λ (item : Item). HasPid item.content) page.items
@@ -252,7 +252,7 @@ first_child (item ∷ items) level low first kinds index = by_kind item.content 
 -- the page that a fitted chain makes
 pub page_of : (chain : List Record) → IsFitted chain → (page : Page) × Makes chain page
 page_of [] h = absurd h
-page_of (newest ∷ []) (base, is, stands) = (base, subst (λ (r : Record). Makes (r ∷ []) base) (sym is) (Makes-base base stands.ruled.is_page.ordered.ascending stands.alive))
+page_of (newest ∷ []) (base, is, stands) = (base, rw (← is) at (Makes-base base stands.ruled.is_page.ordered.ascending stands.alive))
 page_of (newest ∷ older ∷ under) (over, rest) = (over.made, over.makes_now)
 
 -- an index page has a child wherever its low key passes

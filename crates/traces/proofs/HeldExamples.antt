@@ -35,8 +35,7 @@ many = record { held = false; there = refl; items = four_held; are = of_base fou
 -- why the page of one held term holds a page back
 reason : {page : ℕ} {low : List ℕ} (h : HoldsBack (index_of one_held) page low)
     → IsTrue (begins_at low one_held) ⊎ ((h.held ≡ false) × ((4 ≤ held_count one_held) ⊎ IsTrue (has_held_neighbour low one_held)))
-reason {page} {low} h = subst (λ items. IsTrue (begins_at low items) ⊎ ((h.held ≡ false) × ((4 ≤ held_count items) ⊎ IsTrue (has_held_neighbour low items))))
-    (items_unique h.items one_held h.are.ascending one_ascends h.are.contents) h.why
+reason {page} {low} h = rw (items_unique h.items one_held h.are.ascending one_ascends h.are.contents) at h.why
 
 pub held : HoldsBack (index_of one_held) 3 (codes "b") → ⊥
 held h = let why = reason h in elim why [

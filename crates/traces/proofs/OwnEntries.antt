@@ -19,11 +19,11 @@ after_other ks actor (Step other step answer reply) e = replaced_other other (af
 after_own : (ks ks' : ℕ → Knowledge) (actor : ℕ) (entry : Entry) → is_entry_of actor entry ≡ true → ks actor ≡ ks' actor → knows_after ks entry actor ≡ knows_after ks' entry actor
 after_own ks ks' actor (Begin other command) e same =
     let i : actor ≡ other = eqb-true actor other e in
-    rw (i, replaced_same other (after_begin (ks other) command) ks, replaced_same other (after_begin (ks' other) command) ks') (ap (λ k. after_begin k command) (subst (λ n. ks n ≡ ks' n) i same))
+    rw (i, replaced_same other (after_begin (ks other) command) ks, replaced_same other (after_begin (ks' other) command) ks') (ap (λ k. after_begin k command) (rw i at same))
 after_own ks ks' actor (Step other step answer reply) e same =
     let i : actor ≡ other = eqb-true actor other e in
     rw (i, replaced_same other (after_reply (learn (ks other) step answer) reply) ks, replaced_same other (after_reply (learn (ks' other) step answer) reply) ks')
-    (ap (λ k. after_reply (learn k step answer) reply) (subst (λ n. ks n ≡ ks' n) i same))
+    (ap (λ k. after_reply (learn k step answer) reply) (rw i at same))
 
 fold_own : (entries : List Entry) (ks ks' : ℕ → Knowledge) (actor : ℕ) → ks actor ≡ ks' actor → fold knows_after ks entries actor ≡ fold knows_after ks' (own_entries actor entries) actor
 fold_own [] ks ks' actor same = same

@@ -13,7 +13,7 @@ IsRun-none limits = record { each = λ n entry e. cc }
 pub IsRun-push : (limits : Limits) (entries : List Entry) (last : Entry) → IsRun limits entries → IsNext limits entries last → IsRun limits (entries ++ last ∷ [])
 IsRun-push limits entries last run next = record {
   each = λ n entry e. elim (slice_get-push_cases entries last n entry e) [
-    | inl before ↦ subst (λ front. IsNext limits front entry) (sym (take-push entries (last ∷ []) n (below n entry before))) (run.each n entry before)
+    | inl before ↦ rw (← take-push entries (last ∷ []) n (below n entry before)) at (run.each n entry before)
     | inr at ↦ rw (at.0, at.1, take-push_whole) next
   ];
 }
@@ -26,11 +26,11 @@ IsRun-front limits entries last run = record {
   each = λ n entry e.
       let lt : n < length entries = slice_get_below entries n entry e in
       let le : n ≤ length entries = omega arith in
-      subst (λ front. IsNext limits front entry) (take-push entries (last ∷ []) n le) (run.each n entry (slice_get_kept entries (last ∷ []) n entry e));
+      rw (take-push entries (last ∷ []) n le) at (run.each n entry (slice_get_kept entries (last ∷ []) n entry e));
 }
 
 pub IsRun-last : (limits : Limits) (entries : List Entry) (last : Entry) → IsRun limits (entries ++ last ∷ []) → IsNext limits entries last
-IsRun-last limits entries last run = subst (λ front. IsNext limits front last) (take-push_whole entries (last ∷ [])) (run.each (length entries) last (slice_get-push entries last))
+IsRun-last limits entries last run = rw (take-push_whole entries (last ∷ [])) at (run.each (length entries) last (slice_get-push entries last))
 
 -- each entry may stand after those before it
 abbrev pub EachNext : Limits → List Entry → List Entry → Type 0
@@ -45,7 +45,7 @@ next_along limits before (first ∷ entries) h zero entry e = rw append-nil (sub
     same : first ≡ entry
     same = cc
 next_along limits before (first ∷ entries) h (suc n) entry e =
-    subst (λ front. IsNext limits front entry) (append_assoc before (first ∷ []) (take n entries)) (next_along limits (before ++ first ∷ []) entries h.1 n entry e)
+    rw (append_assoc before (first ∷ []) (take n entries)) at (next_along limits (before ++ first ∷ []) entries h.1 n entry e)
 
 pub IsRun-from_steps : (limits : Limits) (entries : List Entry) → EachNext limits [] entries → IsRun limits entries
 IsRun-from_steps limits entries h = record { each = next_along limits [] entries h }

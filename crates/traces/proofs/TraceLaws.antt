@@ -52,18 +52,18 @@ module _ (entries : List Entry) (entry : Entry) where
         | inl before ↦ inl (
           (n, inl (shown.0, shown.1, before), λ later answer after leaves. stays later answer after (TakesStep-kept later actor _ _ leaves)),
           λ answer leave. stays (length entries) answer (slice_get_below entries n _ before.1)
-              (leave.0, subst (λ e. slice_get (entries ++ entry ∷ []) (length entries) ≡ Some e) leave.1 (slice_get-push entries entry)),
+              (leave.0, rw (← leave.1) (slice_get-push entries entry)),
         )
-        | inr last ↦ inr (inl (shown.0, shown.1, subst (λ k. TakesStep (entries ++ entry ∷ []) k actor (Slot shown.0) (Number row)) last.0 shown.2))
+        | inr last ↦ inr (inl (shown.0, shown.1, rw last.0 at shown.2))
       ]
   HasLearnt-push_cases actor row (n, inr shown, stays) =
       elim (TakesStep-push_cases n actor _ _ shown.2) [
         | inl before ↦ inl (
           (n, inr (shown.0, shown.1, before, shown.3), λ later answer after leaves. stays later answer after (TakesStep-kept later actor _ _ leaves)),
           λ answer leave. stays (length entries) answer (slice_get_below entries n _ before.1)
-              (leave.0, subst (λ e. slice_get (entries ++ entry ∷ []) (length entries) ≡ Some e) leave.1 (slice_get-push entries entry)),
+              (leave.0, rw (← leave.1) (slice_get-push entries entry)),
         )
-        | inr last ↦ inr (inr (shown.0, shown.1, subst (λ k. TakesStep (entries ++ entry ∷ []) k actor (Row shown.0) (Content shown.1)) last.0 shown.2, shown.3))
+        | inr last ↦ inr (inr (shown.0, shown.1, rw last.0 at shown.2, shown.3))
       ]
 
 pub Happens-below : {limits : Limits} {entries : List Entry} {n : ℕ} {P : Memory → Entry → Type 0} → Happens limits entries n P → n < length entries
@@ -72,18 +72,17 @@ Happens-below {entries = entries} {n = n} h = slice_get_below entries n h.entry 
 pub Happens-kept : {limits : Limits} {entries : List Entry} {n : ℕ} {P : Memory → Entry → Type 0} (more : List Entry) → Happens limits entries n P → Happens limits (entries ++ more) n P
 Happens-kept {limits = limits} {entries = entries} {n = n} {P = P} more h =
     let lt : n < length entries = Happens-below h in
-    record { entry = h.entry; at = slice_get_kept entries more n h.entry h.at; holds = subst (λ memory. P memory h.entry) (sym (memory_at-push limits entries more n (omega arith))) h.holds }
+    record { entry = h.entry; at = slice_get_kept entries more n h.entry h.at; holds = rw (← memory_at-push limits entries more n (omega arith)) at h.holds }
 
 -- what happens in the longer trace happened in the shorter one, or at the last entry
 pub Happens-push_cases : {limits : Limits} {entries : List Entry} {last : Entry} {n : ℕ} {P : Memory → Entry → Type 0} → Happens limits (entries ++ last ∷ []) n P
     → Happens limits entries n P ⊎ ((n ≡ length entries) × P (memory_of limits entries) last)
 Happens-push_cases {limits = limits} {entries = entries} {last = last} {n = n} {P = P} h = elim (slice_get-push_cases entries last n h.entry h.at) [
   | inl before ↦ let lt : n < length entries = slice_get_below entries n h.entry before in
-      inl (record { entry = h.entry; at = before; holds = subst (λ memory. P memory h.entry) (memory_at-push limits entries (last ∷ []) n (omega arith)) h.holds })
+      inl (record { entry = h.entry; at = before; holds = rw (memory_at-push limits entries (last ∷ []) n (omega arith)) at h.holds })
   | inr is ↦ inr (
     is.0,
-    subst (λ memory. P memory last) (ap (memory_of limits) (take-push_whole entries (last ∷ [])))
-        (subst (λ k. P (memory_at limits (entries ++ last ∷ []) k) last) is.0 (subst (P (memory_at limits (entries ++ last ∷ []) n)) is.1 h.holds)),
+    rw (ap (memory_of limits) (take-push_whole entries (last ∷ []))) at (rw is.0 at (subst (P (memory_at limits (entries ++ last ∷ []) n)) is.1 h.holds)),
   )
 ]
 
@@ -91,5 +90,5 @@ pub Happens-last : (limits : Limits) (entries : List Entry) (last : Entry) (P : 
 Happens-last limits entries last P holds = record {
   entry = last;
   at = slice_get-push entries last;
-  holds = subst (λ memory. P memory last) (sym (ap (memory_of limits) (take-push_whole entries (last ∷ [])))) holds;
+  holds = rw (← ap (memory_of limits) (take-push_whole entries (last ∷ []))) at holds;
 }

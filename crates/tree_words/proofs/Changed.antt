@@ -20,7 +20,7 @@ use Rattle.deltas.proofs.Replaced.{replaced_same, replaced_other}
 
 module _ (limits : Limits) (words : List ℕ) (m : Memory) (long : length words ≡ width limits) (sp : SpellsParts limits words m) where
   same : (i : ℕ) → SpellsParts limits (set words i (get_or words i 0)) m
-  same i = subst (λ ws. SpellsParts limits ws m) (sym (set-get_or words i 0)) sp
+  same i = rw (← set-get_or words i 0) at sp
 
   slot_set : (i x : ℕ) → i < limits.pids → SpellsParts limits (set words (slot_at limits i) x) (record m { slots = replaced_at i x m.slots })
   slot_set i x within = record {

@@ -36,9 +36,8 @@ module _ (free : ℕ → Bool) (word bits : ℕ) (is : IsWordOf free word bits) 
   bit_cleared i below = record {
     fits = let fits : bits < 2 ^ 64 = is.fits in omega (arith, and_le_l bits (bit_not w64 (2 ^ i)));
     says = λ j within. dite (ℕ_discrete j i)
-        (λ same. rw (same, eq-eqb (64 * word + i) (64 * word + i) refl) (subst (λ m. bit_at (bit_and bits (bit_not w64 m)) i ≡ 0) (one_shl i 64 below) (bit_at_clear_same w64 bits i below)))
-        (λ other. subst (λ m. bit_at (bit_and bits (bit_not w64 m)) j ≡ (if replaced_at (64 * word + i) false free (64 * word + j) then 1 else 0)) (one_shl i 64 below)
-        (bit_at_clear_other w64 bits i below j within other ∙ is.says j within
+        (λ same. rw (same, eq-eqb (64 * word + i) (64 * word + i) refl) (rw (one_shl i 64 below) at (bit_at_clear_same w64 bits i below)))
+        (λ other. rw (one_shl i 64 below) at (bit_at_clear_other w64 bits i below j within other ∙ is.says j within
         ∙ ap (λ (f : Bool). if f then 1 else 0) (sym (replaced_other (64 * word + i) false free (64 * word + j) (λ same. other (omega arith))))));
   }
 
@@ -82,7 +81,7 @@ module _ (free : ℕ → Bool) (n bits : ℕ) (is : IsWordOf free (n / 64) bits)
   whole = omega arith
 
   pub taken : IsWordOf (replaced_at n false free) (n / 64) (bit_and bits (bit_not w64 (2 ^ (n % 64))))
-  taken = subst (λ k. IsWordOf (replaced_at k false free) (n / 64) (bit_and bits (bit_not w64 (2 ^ (n % 64))))) whole (bit_cleared free (n / 64) bits is (n % 64) (omega arith))
+  taken = rw whole at (bit_cleared free (n / 64) bits is (n % 64) (omega arith))
 
   pub found_free : not (eqb (bit_and bits (2 ^ (n % 64))) 0) ≡ free n
   found_free = bit_is_free free (n / 64) bits is (n % 64) (omega arith) ∙ ap free whole

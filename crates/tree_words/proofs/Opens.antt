@@ -222,8 +222,8 @@ module _ (limits : Limits) (header place bound : ℕ) (low : 0 < place) (high : 
   record_word row j rl jl used = let fi = first_in in let ff = first_few in let fs = first_some in let inside = row_within limits row rl in let few' =
       few_words limits row in elim (same_or_not row 1) [
         | inl one ↦ subst (λ r. get_or L7 (row_at limits r j) 0 ≡ get_or (words_in limits ((opening limits).rows r)) j 0) (sym one)
-            (let used' : j < used_in limits (Some (Base empty_leaf)) = subst (λ r. j < used_in limits ((opening limits).rows r)) one used in
-            let low' : j < width_of limits 1 = subst (λ r. j < width_of limits r) one jl in elim (same_or_not j 0) [
+            (let used' : j < used_in limits (Some (Base empty_leaf)) = rw one at used in
+            let low' : j < width_of limits 1 = rw one at jl in elim (same_or_not j 0) [
               | inl none ↦ subst (λ k. get_or L7 (row_at limits 1 k) 0 ≡ get_or (words_in limits (Some (Base empty_leaf))) k 0) (sym none) (get_or-set_other L6
                   (row_at limits 1 place) (row_at limits 1 0) bound 0 (λ e. absurd (omega arith)) ∙ get_or-set_same L5 (row_at limits 1 0) header 0
                   (let l = l5 in let s = some_rows in omega arith) ∙ sym is_header)

@@ -116,15 +116,9 @@ module _ (limits : Limits) (row : ℕ) where
       few delta = let narrow = is_narrow content is.spellable is.short delta in let long = compact_long content in omega (arith, narrow, long)
 
       by : (other : Record) → other ≡ content → row_from limits other ≤ row → record_size other ≤ width_of limits row
-      by (Base page) e from = page_fits (record_size (Base page)) (subst (λ r. record_size r ≤ row_size) (sym e) most) from
-      by (Merge merge) e from = page_fits (record_size (Merge merge)) (subst (λ r. record_size r ≤ row_size) (sym e) most) from
-      by (Put put) e from = delta_fits (record_size (Put put)) (subst (λ r. record_size r ≤ 24) (sym e) (few (rw (← e) ((λ k. cc), (λ k. cc))))) from
-      by (Delete delete) e from = delta_fits (record_size (Delete delete)) (subst (λ r. record_size r ≤ 24) (sym e) (few (rw (← e) ((λ k. cc), (λ k. cc))))) from
-      by (Split split) e from = delta_fits (record_size (Split split)) (subst (λ r. record_size r ≤ 24) (sym e) (few (rw (← e) ((λ k. cc), (λ k. cc))))) from
-      by (Term term) e from = delta_fits (record_size (Term term)) (subst (λ r. record_size r ≤ 24) (sym e) (few (rw (← e) ((λ k. cc), (λ k. cc))))) from
-      by (Hold hold) e from = delta_fits (record_size (Hold hold)) (subst (λ r. record_size r ≤ 24) (sym e) (few (rw (← e) ((λ k. cc), (λ k. cc))))) from
-      by (Remove remove) e from = delta_fits (record_size (Remove remove)) (subst (λ r. record_size r ≤ 24) (sym e) (few (rw (← e) ((λ k. cc), (λ k. cc))))) from
-      by (Unterm unterm) e from = delta_fits (record_size (Unterm unterm)) (subst (λ r. record_size r ≤ 24) (sym e) (few (rw (← e) ((λ k. cc), (λ k. cc))))) from
+      by (Base page) e from = page_fits (record_size (Base page)) (rw (← e) at most) from
+      by (Merge merge) e from = page_fits (record_size (Merge merge)) (rw (← e) at most) from
+      by other e from = delta_fits (record_size other) (rw (← e) at (few (rw (← e) ((λ k. cc), (λ k. cc))))) from
 
 -- a record that may be placed in a row has no more words there than the row
 pub stored_fits : (limits : Limits) (row : ℕ) (content : Record) → HasSpelling content → row_from limits content ≤ row → length (stored limits content) ≤ width_of limits row

@@ -136,7 +136,7 @@ begins : (n actor : ℕ) (command : Command) → slice_get insert_and_lookup n �
 begins n actor command e = by_place (stands_at is_begin insert_and_lookup n _ e refl)
   where
     at : (k : ℕ) → n ≡ k → slice_get insert_and_lookup k ≡ Some (Begin actor command)
-    at k is = subst (λ j. slice_get insert_and_lookup j ≡ Some (Begin actor command)) is e
+    at k is = rw is at e
 
     by_place : (n ≡ 0) ⊎ (n ≡ 11) → ((n ≡ 0) × (actor ≡ 0) × (command ≡ Insert (codes "a") (codes "1"))) ⊎ ((n ≡ 11) × (actor ≡ 0) × (command ≡ Get (codes "a")))
     by_place (inl is) = let one = one_begin {a = 0} {c = Insert (codes "a") (codes "1")} (at 0 is) in inl (is, one.0, one.1)
@@ -166,16 +166,16 @@ marked n e = stands_at (λ mark. mark) points n true e refl
 -- an operation doesn't have both points
 apart : (operation : Operation) → IsOperation insert_and_lookup operation → IsOwnStep insert_and_lookup operation 9 → IsOwnStep insert_and_lookup operation 15 → ⊥
 apart operation is first second = elim (both operation is) [
-  | inl same ↦ let own : IsOwnStep insert_and_lookup the_insert 15 = subst (λ o. IsOwnStep insert_and_lookup o 15) same second in own.2.1.not_ended 11 (Get (codes "a")) (lit< tt) (lit< tt) refl
-  | inr same ↦ let own : IsOwnStep insert_and_lookup the_get 9 = subst (λ o. IsOwnStep insert_and_lookup o 9) same first in let late : 11 < 9 = own.2.1.begun in omega arith
+  | inl same ↦ let own : IsOwnStep insert_and_lookup the_insert 15 = rw same at second in own.2.1.not_ended 11 (Get (codes "a")) (lit< tt) (lit< tt) refl
+  | inr same ↦ let own : IsOwnStep insert_and_lookup the_get 9 = rw same at first in let late : 11 < 9 = own.2.1.begun in omega arith
 ]
 
 ends : (n actor : ℕ) (step : StepOf Record) (answer : Answer Record) (answered : Reply)
     → slice_get insert_and_lookup n ≡ Some (Step actor step answer (Some answered))
     → ((n ≡ 10) × (answered ≡ reply.Inserted)) ⊎ ((n ≡ 18) × (answered ≡ reply.Value (codes "1")))
 ends n actor step answer answered e = elim (stands_at is_done insert_and_lookup n _ e refl) [
-  | inl is ↦ inl (is, one_reply (subst (λ k. slice_get insert_and_lookup k ≡ Some (Step actor step answer (Some answered))) is e))
-  | inr is ↦ inr (is, one_reply (subst (λ k. slice_get insert_and_lookup k ≡ Some (Step actor step answer (Some answered))) is e))
+  | inl is ↦ inl (is, one_reply (rw is at e))
+  | inr is ↦ inr (is, one_reply (rw is at e))
 ]
 
 -- each operation ends with its own reply
@@ -184,11 +184,11 @@ replies : (operation : Operation) (n : ℕ) (answered : Reply) → IsOperation i
 replies operation n answered is done = elim (both operation is) [
   | inl same ↦ elim (ends n operation.actor done.0 done.1 answered done.2.entry) [
     | inl at ↦ inl (same, at.1)
-    | inr at ↦ let own : Finishes insert_and_lookup the_insert n answered = subst (λ o. Finishes insert_and_lookup o n answered) same done in
+    | inr at ↦ let own : Finishes insert_and_lookup the_insert n answered = rw same at done in
         let past : 11 < n = rw (at.0) (lit< tt) in absurd (own.2.not_ended 11 (Get (codes "a")) (lit< tt) past refl)
   ]
   | inr same ↦ elim (ends n operation.actor done.0 done.1 answered done.2.entry) [
-    | inl at ↦ let own : Finishes insert_and_lookup the_get n answered = subst (λ o. Finishes insert_and_lookup o n answered) same done in
+    | inl at ↦ let own : Finishes insert_and_lookup the_get n answered = rw same at done in
         let late : 11 < n = own.2.begun in let is_ten : n ≡ 10 = at.0 in absurd (omega arith)
     | inr at ↦ inr (same, at.1)
   ]
@@ -213,8 +213,8 @@ has_points = record {
     | inr same ↦ rw same (15, get_point, refl)
   ];
   pointless = λ operation m n answered is done asks own mark. elim (replies operation n answered is done) [
-    | inl which ↦ let odd : has_point reply.Inserted ≡ false = subst (λ r. has_point r ≡ false) which.1 asks in cc
-    | inr which ↦ let odd : has_point (reply.Value (codes "1")) ≡ false = subst (λ r. has_point r ≡ false) which.1 asks in cc
+    | inl which ↦ let odd : has_point reply.Inserted ≡ false = rw which.1 at asks in cc
+    | inr which ↦ let odd : has_point (reply.Value (codes "1")) ≡ false = rw which.1 at asks in cc
   ];
 }
   where
@@ -244,7 +244,7 @@ updates_at_links n = (to, from)
     to : IsUpdating insert_and_lookup points n → Happens small insert_and_lookup n LinksUpdate
     to h = elim (marked n h.0) [
       | inl at ↦ rw at linked
-      | inr at ↦ absurd (no_more h.1.0 _ (subst (λ k. log_at insert_and_lookup points (suc k) ≡ log_at insert_and_lookup points k ++ h.1.0 ∷ []) at h.1.1))
+      | inr here ↦ absurd (no_more h.1.0 _ (rw here at h.1.1))
     ]
 
     exchanged : (actor slot old new : ℕ) (reply : Option Reply) → slice_get insert_and_lookup n ≡ Some (Step actor (Exchange slot old new) (Whether true) reply) → n ≡ 9
@@ -267,9 +267,9 @@ is_faithful = record {
     read : (n actor row : ℕ) (answer : Answer Record) → TakesStep insert_and_lookup n actor (Row row) answer
         → ((n ≡ 5) × (actor ≡ 0) × (row ≡ 1)) ⊎ (((n ≡ 16) × (actor ≡ 0) × (row ≡ 2)) ⊎ ((n ≡ 17) × (actor ≡ 0) × (row ≡ 1)))
     read n actor row answer is = elim (stands_at reads_row insert_and_lookup n _ is.1 refl) [
-      | inl which ↦ let one = one_row (subst (λ k. slice_get insert_and_lookup k ≡ Some (Step actor (Row row) answer is.0)) which is.1) in inl (which, one.0, one.1)
-      | inr (inl which) ↦ inr (let one = one_row (subst (λ k. slice_get insert_and_lookup k ≡ Some (Step actor (Row row) answer is.0)) which is.1) in inl (which, one.0, one.1))
-      | inr (inr which) ↦ let one = one_row (subst (λ k. slice_get insert_and_lookup k ≡ Some (Step actor (Row row) answer is.0)) which is.1) in inr (inr (which, one.0, one.1))
+      | inl which ↦ let one = one_row (rw which at is.1) in inl (which, one.0, one.1)
+      | inr (inl which) ↦ inr (let one = one_row (rw which at is.1) in inl (which, one.0, one.1))
+      | inr (inr which) ↦ let one = one_row (rw which at is.1) in inr (inr (which, one.0, one.1))
     ]
 
     directly : (at row : ℕ) → ShowsRow insert_and_lookup at 0 row → KnowsRow insert_and_lookup (suc at) 0 row

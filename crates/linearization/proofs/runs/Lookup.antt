@@ -69,7 +69,7 @@ the_operation = record { start = 0; actor = 0; command = Get (codes "a") }
 begins : (n actor : ℕ) (command : Command) → slice_get lookup n ≡ Some (Begin actor command) → (n ≡ 0) × (actor ≡ 0) × (command ≡ Get (codes "a"))
 begins n actor command e =
     let first : n ≡ 0 = stands_at is_begin lookup n _ e refl in
-    let one = one_begin (subst (λ k. slice_get lookup k ≡ Some (Begin actor command)) first e) in (first, one.0, one.1)
+    let one = one_begin (rw first at e) in (first, one.0, one.1)
 
 only : (operation : Operation) → IsOperation lookup operation → operation ≡ the_operation
 only operation h = let b = begins operation.start operation.actor operation.command h in same_operation operation the_operation b.0 b.1 b.2
@@ -87,7 +87,7 @@ only_point n e = stands_at (λ mark. mark) points n true e refl
 only_reply : (n actor : ℕ) (step : StepOf Record) (answer : Answer Record) (answered : Reply) → slice_get lookup n ≡ Some (Step actor step answer (Some answered)) → answered ≡ reply.None
 only_reply n actor step answer answered e =
     let last : n ≡ 6 = stands_at is_done lookup n _ e refl in
-    one_reply (subst (λ k. slice_get lookup k ≡ Some (Step actor step answer (Some answered))) last e)
+    one_reply (rw last at e)
 
 finished : (operation : Operation) (n : ℕ) (answered : Reply) → Finishes lookup operation n answered → answered ≡ reply.None
 finished operation n answered h = only_reply n operation.actor h.0 h.1 answered h.2.entry
@@ -99,7 +99,7 @@ has_points = record {
   one = λ operation m n is a b p q. only_point m p ∙ sym (only_point n q);
   pointed = λ operation n answered is ends asks. rw (only operation is) (4, own_point, refl);
   pointless = λ operation m n answered is ends asks own mark. let which : answered ≡ reply.None = finished operation n answered ends in
-      let odd : has_point reply.None ≡ false = subst (λ r. has_point r ≡ false) which asks in cc;
+      let odd : has_point reply.None ≡ false = rw which at asks in cc;
 }
   where
     first_begins : IsOperation lookup the_operation
@@ -127,12 +127,12 @@ only_looks_at (Step actor step answer reply) = only_looks step
 
 looks : (n : ℕ) (entry : Entry) → slice_get lookup n ≡ Some entry → (actor : ℕ) (step : StepOf Record) (answer : Answer Record) → IsStep entry actor step answer → only_looks step ≡ true
 unfolding only_looks only_looks_at
-looks n entry at actor step answer is = subst (λ e. only_looks_at e ≡ true) is.1 (passes_at (λ k. only_looks_at) lookup refl n entry at)
+looks n entry at actor step answer is = rw is.1 at (passes_at (λ k. only_looks_at) lookup refl n entry at)
 
 updates_at_links : UpdatesAtLinks small lookup points
 unfolding only_looks
 updates_at_links n = (
-  λ h. absurd (no_one h.1.0 (subst (λ k. log_at lookup points (suc k) ≡ log_at lookup points k ++ h.1.0 ∷ []) (only_point n h.0) h.1.1)),
+  λ h. absurd (no_one h.1.0 (rw (only_point n h.0) at h.1.1)),
   λ h. absurd (odd (looks n h.entry h.at _ _ _ h.holds.5.0)),
 )
   where
@@ -193,7 +193,7 @@ is_faithful = record {
     read : (n actor row : ℕ) (answer : Answer Record) → TakesStep lookup n actor (Row row) answer → (n ≡ 5) × (actor ≡ 0) × (row ≡ 1)
     read n actor row answer is =
         let fifth : n ≡ 5 = stands_at reads_row lookup n _ is.1 refl in
-        let one = one_row (subst (λ k. slice_get lookup k ≡ Some (Step actor (Row row) answer is.0)) fifth is.1) in (fifth, one.0, one.1)
+        let one = one_row (rw fifth at is.1) in (fifth, one.0, one.1)
 
     known_row : KnowsRow lookup 5 0 1
     known_row = record {
@@ -307,7 +307,7 @@ is_exact_index = record {
 
     leaf : (k : ℕ) → (memory_at small lookup k).slots 0 ≡ 1 → (memory_at small lookup k).slots 1 ≡ 1 → (memory_at small lookup k).rows 1 ≡ Some opening_leaf
         → (top : ℕ) → IsRootLevel (memory_at small lookup k) top → top ≡ 0
-    leaf k root slot row top (chain, other, level) = let other_1 : IsChainOf (memory_at small lookup k) 1 chain = subst (λ p. IsChainOf (memory_at small lookup k) p chain) root other in
+    leaf k root slot row top (chain, other, level) = let other_1 : IsChainOf (memory_at small lookup k) 1 chain = rw root at other in
         let same : chain ≡ opening_leaf ∷ [] = IsChainOf-unique (memory_at small lookup k) 1 chain (opening_leaf ∷ []) other_1 (leaf_at lookup k slot row) in sym level ∙ ap level_in same
 
     too_low : {level : ℕ} (n top : ℕ) → n ≤ 7 → IsRootLevel (memory_at small lookup n) top → level < top → ⊥

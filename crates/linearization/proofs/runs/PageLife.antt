@@ -246,7 +246,7 @@ not_yet earlier h = UpTo-at NoRoot 16 (UpTo-parts NoRoot 13 2 alone split) earli
     no_root : (k : ℕ) (chain : List Record) → IsChainOf (memory_at small page_life k) 1 chain → level_in chain ≡ 0 → IsPageOfLevel (memory_at small page_life k) 1 1 → ⊥
     no_root k chain is leaf (found, other, level) =
         let same : found ≡ chain = IsChainOf-unique (memory_at small page_life k) 1 found chain other is in
-        let odd : ◌≡◌ {A = ℕ} 0 1 = sym leaf ∙ subst (λ c. level_in c ≡ 1) same level in cc
+        let odd : ◌≡◌ {A = ℕ} 0 1 = sym leaf ∙ rw same at level in cc
 
     leaf_root : (k : ℕ) → (memory_at small page_life k).slots 1 ≡ 1 → (memory_at small page_life k).rows 1 ≡ Some opening_leaf → IsPageOfLevel (memory_at small page_life k) 1 1 → ⊥
     leaf_root k slot row = no_root k (opening_leaf ∷ []) (leaf_at page_life k slot row) refl

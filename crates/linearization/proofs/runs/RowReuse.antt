@@ -55,14 +55,14 @@ linked (suc (suc p)) page h = absurd (none p h)
 
 old_row : ¬ IsOnChain (memory_at small row_reuse 8) 1
 old_row (pid, chain, is, among) = let two = linked pid is.page is.linked in
-    from_two chain (subst (λ row. IsChainFrom (memory_at small row_reuse 8).rows row chain) two is.records) (subst (λ row. Contains (chain_rows row chain) 1) two among)
+    from_two chain (rw two at is.records) (rw two at among)
   where
     not_two : Contains {X = ℕ} (2 ∷ []) 1 → ⊥
     not_two (zero, h, e) = cc
     not_two (suc k, h, e) = omega arith
 
     from_two : (chain : List Record) → IsChainFrom (memory_at small row_reuse 8).rows 2 chain → Contains (chain_rows 2 chain) 1 → ⊥
-    from_two chain is among = not_two (subst (λ c. Contains (chain_rows 2 c) 1) (IsChainFrom-unique (memory_at small row_reuse 8).rows 2 chain (opening_leaf ∷ []) is (refl, refl)) among)
+    from_two chain is among = not_two (rw (IsChainFrom-unique (memory_at small row_reuse 8).rows 2 chain (opening_leaf ∷ []) is (refl, refl)) at among)
 
 unlinks : UnlinksRow small row_reuse 0 1 7
 unlinks = (1, 1, 2, opening_leaf ∷ [], (None, refl), record { page = lit< tt; linked = lit< tt; records = (refl, refl) }, (0, lit< tt, refl), old_row)
@@ -85,7 +85,7 @@ row_one row e =
 frees : (n actor word bits : ℕ) (answer : Answer Record) → TakesStep row_reuse n actor (ReuseRows word bits) answer → (n ≡ 12) × (actor ≡ 0) × (word ≡ 0) × (bits ≡ 2)
 frees n actor word bits answer is =
     let last : n ≡ 12 = stands_at frees_rows row_reuse n _ is.1 refl in
-    let one = one_reuse (subst (λ k. slice_get row_reuse k ≡ Some (Step actor (ReuseRows word bits) answer is.0)) last is.1) in (last, one.0, one.1, one.2)
+    let one = one_reuse (rw last at is.1) in (last, one.0, one.1, one.2)
 
 kept : (between other : ℕ) (step : StepOf Record) (answer : Answer Record) → 7 < between → between < 12 → TakesStep row_reuse between other step answer → ¬ HandsRow 1 step answer
 kept between other step answer low high is = EachAt-get (λ k e. 7 < k → k < 12 → (a : ℕ) (s : StepOf Record) (b : Answer Record) (r : Option Reply) → e ≡ Step a s b r → ¬ HandsRow 1 s b) row_reuse (
@@ -125,7 +125,7 @@ kept between other step answer low high is = EachAt-get (λ k e. 7 < k → k < 1
     between _ is.1 low high other step answer is.0 refl
   where
     hands : (s t : StepOf Record) (b : Answer Record) → ¬ HandsRow 1 s b → s ≡ t → ¬ HandsRow 1 t b
-    hands s t b h e = subst (λ x. ¬ HandsRow 1 x b) e h
+    hands s t b h e = rw e at h
 
 freed : IsFreed small row_reuse 0 12 (UnlinksRow small row_reuse 0 1) (HandsRow 1)
 freed = record {
@@ -144,7 +144,7 @@ pub is_freed_by_rule : IsFreedByRule small row_reuse
 is_freed_by_rule = record {
   pids = λ n actor word bits pid answer is among. absurd (no_pids n actor word bits answer is);
   rows = λ n actor word bits row answer is among. let which = frees n actor word bits answer is in
-      let one : row ≡ 1 = row_one row (subst (λ b. is_among 0 b row ≡ true) which.3 (subst (λ w. is_among w bits row ≡ true) which.2 among)) in
+      let one : row ≡ 1 = row_one row (rw which.3 at (rw which.2 at among)) in
       rw (which.0, which.1, one) freed;
 }
   where

@@ -23,8 +23,9 @@ up_to_codes {row = row} {one = one} first second many empty is next after behind
 pub push_codes-requires-clause-low : goal.push_codes-requires-clause-low
 push_codes-requires-clause-low c =
     let a = c.args in
+    let n = a.numbers in
     let items = a.items.now in
-    let whole = row_long (of_parts a.kind a.level a.next a.page a.first.now (option_copied a.second) items) items in
+    let whole = row_long (of_parts n.kind n.level n.next n.page a.first.now (option_copied a.second) items) items in
     let first : c.words_for.result ≡ length (packed a.first.now) =
     c.words_for.ensures.words ∙ ap (λ bytes. words_for (length bytes)) c.key_bytes-bytes.ensures.bytes ∙ sym (packed_long a.first.now) in
     let second = c.bound_size.ensures.size in
@@ -34,8 +35,9 @@ push_codes-requires-clause-low c =
 pub push_words-requires-clause-room : goal.push_words-requires-clause-room
 push_words-requires-clause-room c =
     let a = c.args in
+    let n = a.numbers in
     let items = a.items.now in
-    let whole = row_long (of_parts a.kind a.level a.next a.page a.first.now (option_copied a.second) items) items in
+    let whole = row_long (of_parts n.kind n.level n.next n.page a.first.now (option_copied a.second) items) items in
     let first = ap (λ bytes. length (packed bytes)) c.key_bytes-bytes.ensures.bytes in
     let before = up_to_codes c.first_word.result c.second_word.result (length items) c.requires.empty c.push.ensures c.push-2.ensures
     c.push_heads.ensures.count c.push_codes.ensures.count in
@@ -45,8 +47,9 @@ push_words-requires-clause-room c =
 pub push_bound-requires : goal.push_bound-requires
 push_bound-requires c =
     let a = c.args in
+    let n = a.numbers in
     let items = a.items.now in
-    let whole = row_long (of_parts a.kind a.level a.next a.page a.first.now (option_copied a.second) items) items in
+    let whole = row_long (of_parts n.kind n.level n.next n.page a.first.now (option_copied a.second) items) items in
     let first = ap (λ bytes. length (packed bytes)) c.key_bytes-bytes.ensures.bytes in
     let before = up_to_codes c.first_word.result c.second_word.result (length items) c.requires.empty c.push.ensures c.push-2.ensures
     c.push_heads.ensures.count c.push_codes.ensures.count in
@@ -57,8 +60,9 @@ push_bound-requires c =
 pub push_texts-requires : goal.push_texts-requires
 push_texts-requires c =
     let a = c.args in
+    let n = a.numbers in
     let items = a.items.now in
-    let whole = row_long (of_parts a.kind a.level a.next a.page a.first.now (option_copied a.second) items) items in
+    let whole = row_long (of_parts n.kind n.level n.next n.page a.first.now (option_copied a.second) items) items in
     let first = ap (λ bytes. length (packed bytes)) c.key_bytes-bytes.ensures.bytes in
     let before = up_to_codes c.first_word.result c.second_word.result (length items) c.requires.empty c.push.ensures c.push-2.ensures
     c.push_heads.ensures.count c.push_codes.ensures.count in
@@ -70,17 +74,18 @@ push_texts-requires c =
 pub returns-clause-words : goal.returns-clause-words
 returns-clause-words c =
     let a = c.args in
+    let n = a.numbers in
     let items = a.items.now in
     let key = a.first.now in
     let second = option_copied a.second in
-    let row : Row = of_parts a.kind a.level a.next a.page key second items in
+    let row : Row = of_parts n.kind n.level n.next n.page key second items in
     let at = 2 + 2 * length items + (c.words_for.result + c.bound_size.result) in
     let first : c.words_for.result ≡ length (packed key) =
     c.words_for.ensures.words ∙ ap (λ bytes. words_for (length bytes)) c.key_bytes-bytes.ensures.bytes ∙ sym (packed_long key) in
     let place : at ≡ texts_at row = λ i. 2 + 2 * length items + (first i + c.bound_size.ensures.size i) in
     let one : c.first_word.result ≡ first_word row = c.first_word.ensures in
     let two : c.second_word.result ≡ second_word row =
-    c.second_word.ensures ∙ (λ i. a.page + 4294967296 * length (c.key_bytes-bytes.ensures.bytes i) + 1099511627776 * c.bound_length.ensures.length i) in
+    c.second_word.ensures ∙ (λ i. n.page + 4294967296 * length (c.key_bytes-bytes.ensures.bytes i) + 1099511627776 * c.bound_length.ensures.length i) in
     let field = c.push_words.ensures ∙ ap (λ bytes. c.push_codes.new.row ++ packed bytes) c.key_bytes-bytes.ensures.bytes in
     written c.first_word.result c.second_word.result at key second items a.row.now c.push.new.self c.push-2.new.self c.push_heads.new.row c.push_codes.new.row c.push_words.new.row
     c.push_bound.new.row c.push_texts.new.row c.requires.empty c.push.ensures c.push-2.ensures c.push_heads.ensures.words c.push_codes.ensures.words field c.push_bound.ensures.words
