@@ -166,9 +166,9 @@ public:
     // change the tree meanwhile: what is there throughout is shown, and what never is there isn't. Its arguments last as long as the call. Throws TOO_LONG,
     // CLOSED, BUSY, NULL, and what each throws: the pairs before were shown.
     template <class Each> void walk(std::string_view from, Each each) { walk(range::from(from), std::move(each)); }
-    // The same for the keys of a range.
+    // Walks the keys of a range in the same way.
     template <class Each> void walk(const range &keys, Each each) { walked(keys, 0, each); }
-    // The same backward, from the greatest key of a range down.
+    // Walks backward, from the greatest key of a range down.
     template <class Each> void walk_back(const range &keys, Each each) { walked(keys, 1, each); }
 
     // The pairs of a range for a loop, keys ascending, or from the greatest key down: an input range. The seat is used by the loop alone meanwhile. These throw
@@ -359,7 +359,7 @@ public:
         detail::must(bwtree_limits_for_many_keys(seats, keys, &limits));
         return tree(limits);
     }
-    // The same for pairs whose keys and values mostly have at most so many bytes, of 16 and 8 in some 141 bytes a key, and 7 MB; longer pairs are taken,
+    // A large tree for pairs whose keys and values mostly have at most so many bytes, of 16 and 8 in some 141 bytes a key, and 7 MB; longer pairs are taken,
     // too, as far as there is room. Throws what an empty tree throws.
     static tree for_pairs(uint64_t seats, uint64_t keys, uint64_t key_bytes, uint64_t value_bytes) {
         bwtree_limits limits;

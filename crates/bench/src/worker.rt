@@ -45,7 +45,7 @@ pub(crate) enum What {
     Writes,
     /// Every second operation inserts the next key at the end, the others delete the first one, once there are as many as there are to be.
     Window,
-    /// The same in a tree of proposed limits. An operation that is refused is made again.
+    /// The window of a tree of proposed limits moves. An operation that is refused is made again.
     Passing,
     /// One key is upserted, in such a tree. An operation that is refused is made again.
     Hot,

@@ -2,7 +2,7 @@
 use Rattle.running_tree.specs.Runs.{StartsWith}
 use Rattle.running_tree.specs.Seats.{IsSame, Seat}
 
--- The same seat, which may have seen more.
+-- It is that seat, and may have seen more.
 pub record IsLater (old new : Seat) : Type 0 where
   pub same : IsSame old new
   pub grows : StartsWith new.seen old.seen

@@ -38,7 +38,7 @@ pub record LeavesPairs (opened : List Inside) (log : List (Event Inside)) (pairs
   pub are : AreSeats opened log seats
   pub left : ArePairsLeft seats pairs
 
--- The same seat is inside, which may have seen more.
+-- That seat is inside, and may have seen more.
 abbrev pub HasLaterSeat : Seat → Option Seat → Type 0
 HasLaterSeat old None = ⊥
 HasLaterSeat old (Some new) = IsLater old new

@@ -41,7 +41,7 @@ impl TreeHandle {
 }
 
 impl Shared {
-    /// The same of what a handle keeps.
+    /// Two receipts of what one has seen: the first author's, and the others', from what a handle keeps.
     pub(crate) fn parted(&self, since: Receipt) -> (Receipt, Receipt)
         ensures one { (n : ℕ) (log : List (Event Inside)) → HasSeenLog self.now (AllFrom n) log since → HasSeenLog self.now (One n) log result.0 }
         ensures others { (n : ℕ) (log : List (Event Inside)) → HasSeenLog self.now (AllFrom n) log since → HasSeenLog self.now (AllFrom (n + 1)) log result.1 }

@@ -1,5 +1,6 @@
 -- What a change takes out of the tree, whatever the answer.
-use Rattle.change_machine.proofs.Words.{◌≡◌, ◌<◌, ℕ, Bool, true, false, Option, refl, Limits, Answer, Record, Fits, Knowledge, OwnPage, Other, Written, learn, linked_over, split_to, Change, near_after}
+use Rattle.change_machine.proofs.Words.{◌≡◌, ◌<◌, ℕ, Bool, true, false, Option, refl, Limits, Answer, Record, Fits}
+use Rattle.change_machine.proofs.Words.{Knowledge, OwnPage, Other, Written, learn, linked_over, split_to, Change, near_after}
 use Rattle.change_machine.proofs.Words.{IsPlaced, IsSoundChange, IsTarget, Shows, StandsReady, linked_number, split_row, wanted_step, wanted_at, clears, head_of, slot_of, next_move, moved_by}
 use Rattle.change_machine.proofs.Words.{whether_in, Spares, last_row, pid_of, found_after, wanted_number, End, State, Plan, Install, Root, Unlink, Found, Not, Pid, Row, Bits, Take}
 use Rattle.bw_model.specs.declared.step.Answer.TheVariants as answer

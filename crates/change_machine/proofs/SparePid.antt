@@ -1,5 +1,6 @@
 -- Where a spare PID comes from.
-use Rattle.change_machine.proofs.Words.{◌≡◌, inl, inr, ℕ, zero, suc, Bool, true, false, Option, Some, None, refl, ap, ltb, if◌then◌else◌, Limits, Answer, Record, Change, wanted_step, wanted_at, near_after}
+use Rattle.change_machine.proofs.Words.{◌≡◌, inl, inr, ℕ, zero, suc, Bool, true, false, Option, Some, None, refl, ap}
+use Rattle.change_machine.proofs.Words.{ltb, if◌then◌else◌, Limits, Answer, Record, Change, wanted_step, wanted_at, near_after}
 use Rattle.change_machine.proofs.Words.{Moved, decided_by, next_move, moved_by, whether_in, Spares, found_after, wanted_number, words_end, State, Plan, Install, Root, Unlink, Found, Not, Full}
 use Rattle.change_machine.proofs.Words.{Pid, Row, Bits, Take}
 use Rattle.bw_model.specs.declared.step.Answer.TheVariants.{Number, Whether}

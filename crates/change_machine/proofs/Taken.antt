@@ -106,7 +106,8 @@ module _ (actor : ℕ) (limits : Limits) (k : Knowledge) (plan : Plan) (spares :
 
       after : Bool → Bool → Moved
       after more all =
-          moved_by limits plan spares near (state.Taking (Bits kind from word whole)) (if more then Not (Bits kind from (suc word) whole) else if all then Full kind else Not (Bits kind from from true))
+          moved_by limits plan spares near (state.Taking (Bits kind from word whole))
+          (if more then Not (Bits kind from (suc word) whole) else if all then Full kind else Not (Bits kind from from true))
 
       goes_on : (next : ℕ) (all : Bool) → AreFull now.asked kind from (if all then next else from)
           → Follows actor k now (change (state.Taking (Bits kind from word whole))) (answer.Number 0) (change (state.Taking (Bits kind from next all))) spares None
@@ -159,7 +160,8 @@ module _ (actor : ℕ) (limits : Limits) (k : Knowledge) (plan : Plan) (spares :
   -- a free number was taken
   pub taken_pid : (from pid : ℕ) (whole : Bool) → IsNeededNext limits plan spares Pid → FitsTakenPid limits k pid → Finds (Take Pid from pid whole) (answer.Whether true)
   taken_pid from pid whole missing fits = record {
-    shows = shows_first actor limits now plan (with_number Pid pid spares) near (still_may actor k now plan like may) (keeps_none plan missing.0) (pid_taken k.own spares are pid fits.some missing.1) unset;
+    shows = shows_first actor limits now plan (with_number Pid pid spares) near (still_may actor k now plan like may) (keeps_none plan missing.0)
+        (pid_taken k.own spares are pid fits.some missing.1) unset;
     like = like;
   }
     where

@@ -5,7 +5,8 @@ ghost use Rattle.bw_model.specs.Answers.{answer_of};
 ghost use Rattle.bw_model.specs.Lent.{step_of_loan};
 ghost use Rattle.bw_model.specs.declared.step.Answer.TheVariants.{Number};
 ghost use Rattle.traces.specs.discipline.Fitting.{FitsWord};
-ghost use Rattle.change_machine.specs.Taking.{FitsTaking, IsSoundFound, IsSoundTaking, TellsWhether, begun_at, count_of, first_word, found_after, from_of, near_after, wanted_number, words_end, words_until};
+ghost use Rattle.change_machine.specs.Taking.{FitsTaking, IsSoundFound, IsSoundTaking, TellsWhether};
+ghost use Rattle.change_machine.specs.Taking.{begun_at, count_of, first_word, found_after, from_of, near_after, wanted_number, words_end, words_until};
 
 use bw_model::{Limits, Step, Told};
 use deltas::Record;

@@ -37,8 +37,8 @@ abbrev pub steps_in : List Turn → ℕ
 steps_in turns = frames_behind 0 turns
 
 -- The text is a frame with this number, of an actor's step that told the event: some words, what the step found, how the map before became the map after, why
--- the step needs no lock, the place in the order of an operation that is done without an update, the picture of what stands after, the map after, and the log. In the picture actors stand by the steps that
--- they will take next.
+-- the step needs no lock, the place in the order of an operation that is done without an update, the picture of what stands after, the map after, and the log.
+-- In the picture actors stand by the steps that they will take next.
 pub record IsFrame (number : ℕ) (before : Core) (actor : ℕ) (event : Event) (log : List Update) (after : Core) (text : List ℕ) : Type 0 where
   pub words : List ℕ
   pub picture : List ℕ
@@ -107,7 +107,7 @@ AreTurnsFilmed limits turns refused text filmed =
     ⊎ ((most_frames < steps_in turns) × (text ≡ too_long_text (steps_in turns)) × (filmed ≡ false))
     ⊎ ((steps_in turns ≤ most_frames) × (whole : Bool) × IsPage limits turns refused text whole × (filmed ≡ is_whole refused whole))
 
--- The same of lines that were run: nothing after a failed read.
+-- The lines that were run are filmed so: nothing after a failed read.
 abbrev pub IsFilmedBehind : Option RefusedLine → Bool → Trace → List ℕ → Bool → Type 0
 IsFilmedBehind (Some line) read_failed trace text filmed = AreTurnsFilmed trace.limits (map turn_of trace.entries) (Some line) text filmed
 IsFilmedBehind None true trace text filmed = (text ≡ []) × (filmed ≡ false)

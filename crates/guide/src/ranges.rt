@@ -51,7 +51,8 @@ fn listed(
 ) -> Option<Vec<(Key, Value)>>
     requires own { IsSeatOf tree.now seat.old }
     ensures same { IsSame seat.old seat.new }
-    ensures told { IfSome result (λ pairs. (end : Place) × (end.at ≡ None) × HasTold (record { at = place_under (Some bound) (Some from); bound = Some bound; asked = false; pairs = [] }) seat.old [] pairs.items end seat.new) }
+    ensures told { IfSome result (λ pairs. (end : Place) × (end.at ≡ None) ×
+        HasTold (record { at = place_under (Some bound) (Some from); bound = Some bound; asked = false; pairs = [] }) seat.old [] pairs.items end seat.new) }
 {
     if !seat.is_idle() {
         return None;

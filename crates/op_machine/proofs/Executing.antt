@@ -1,5 +1,6 @@
 -- A command at the leaf of its key.
-use Rattle.op_machine.proofs.Words.{◌≡◌, inl, inr, ℕ, List, [], ◌∷◌, Bool, Some, None, is_some, true, false, refl, ap, IsTrue, command_key, reply_of, update_of, covers, chain_value, Knowledge, Recalled, Spares, Version}
+use Rattle.op_machine.proofs.Words.{◌≡◌, inl, inr, ℕ, List, [], ◌∷◌, Bool, Some, None, is_some, true, false, refl}
+use Rattle.op_machine.proofs.Words.{ap, IsTrue, command_key, reply_of, update_of, covers, chain_value, Knowledge, Recalled, Spares, Version}
 use Rattle.op_machine.proofs.Words.{ShowsState, Task, Limits, Record, IsFitted}
 use Rattle.op_machine.proofs.Words.{Command, Tidy}
 use Rattle.std.specs.Prelude.{not}

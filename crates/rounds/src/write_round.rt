@@ -87,7 +87,18 @@ impl<R: Rows, A: Allocator + Copy> WriteRound<R, A> {
     /// held or removed, and pages are split. Takes the memory for four pages and a plan, 4.2 KB, and is refused for want of it alone. No
     /// later call takes memory.
     pub fn new(alloc: A, limits: &Limits) -> Result<WriteRound<R, A>, AllocError>
-        ensures { IfOk result (λ round. round.round ≡ record { limits = limits.now; key = []; due = 8; tends = false; splits = true; floor = 0; goal = goal.Seek; parent = None; left = None; state = Root }) }
+        ensures { IfOk result (λ round. round.round ≡ record {
+          limits = limits.now;
+          key = [];
+          due = 8;
+          tends = false;
+          splits = true;
+          floor = 0;
+          goal = goal.Seek;
+          parent = None;
+          left = None;
+          state = Root;
+        }) }
     {
         Ok(WriteRound {
             key: KeyWords::of(&Key::default()),

@@ -22,7 +22,7 @@ pub record Stands (limits : Limits) (table seat : TableId) (actor : ℕ) (me : M
   pub sits : SitsAt limits actor Idle me
   pub read : HasReadRecord (knows (seen_of me) actor) row content
 
--- The same of a row with the place of its first word, and whether it is one of a large tree.
+-- The seat stands so at a row with the place of its first word, which may be one of a large tree.
 pub record StandsWithPlace (limits : Limits) (table seat : TableId) (actor : ℕ) (me : Mine) (row : PlacedRow) (content : Record) : Type 0 where
   pub stands : Stands limits table seat actor me row.row content
   pub place : row.place ≡ row_at limits row.row 0

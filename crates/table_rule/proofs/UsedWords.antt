@@ -52,7 +52,7 @@ few_compact content spelled =
     let few = parts.few in
     omega arith
 
--- The same of a row, in which a record stands or none.
+-- A row uses few words, whether a record stands in it or none.
 pub few_in : (limits : Limits) (there : Option Record) → ((content : Record) → there ≡ Some content → HasSpelling content) → used_by (get_or (words_in limits there) 0 0) ≤ row_size
 few_in limits None spelled = omega (arith, zeros_are row_size 0)
 few_in limits (Some content) spelled = by limits.is_large

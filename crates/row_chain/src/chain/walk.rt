@@ -39,9 +39,9 @@ impl<R: Rows, A: Allocator> Chain<R, A> {
         greatest_in_base(&records[0], rows, pass, bound, below)
     }
 
-    /// The same of a chain that may have deltas. One pass, from the newest record on: each says at most one term that is above the best one so far
-    /// and that no newer record names, and then it is the best. A term at the bound ends the pass. The last record's key is loaded only where a
-    /// newer record may take keys away. Not inlined: most index pages have no delta, and need no room for keys.
+    /// The child of the greatest term that passes, of a chain that may have deltas. One pass, from the newest record on: each says at most one term that is
+    /// above the best one so far and that no newer record names, and then it is the best. A term at the bound ends the pass. The last record's key is loaded
+    /// only where a newer record may take keys away. Not inlined: most index pages have no delta, and need no room for keys.
     #[inline(never)]
     fn greatest_over_base(
         &self,

@@ -65,7 +65,8 @@ pub returns-in-Leaf-clause-have : goal.returns-in-Leaf-clause-have
 returns-in-Leaf-clause-have g c = c.end_at_sought_leaf.ensures.have
 
 pub returns-in-Removed-clause-goes : goal.returns-in-Removed-clause-goes
-returns-in-Removed-clause-goes g c = rw (c.in-Removed.is, c.write_left.ensures.goes) (ap (λ l. Write (record (left_round_of c.args.places.now.writer) { limits = l; splits = not l.is_large })) c.requires.have.writer)
+returns-in-Removed-clause-goes g c = rw (c.in-Removed.is, c.write_left.ensures.goes)
+    (ap (λ l. Write (record (left_round_of c.args.places.now.writer) { limits = l; splits = not l.is_large })) c.requires.have.writer)
 
 pub returns-in-Due-clause-goes : goal.returns-in-Due-clause-goes
 returns-in-Due-clause-goes g c = rw c.in-Due.is c.begin_due.ensures.goes

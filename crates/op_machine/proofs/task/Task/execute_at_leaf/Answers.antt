@@ -1,4 +1,5 @@
-use Rattle.op_machine.proofs.Words.{◌≡◌, ◌<◌, ◌∙◌, inl, inr, None, Some, true, false, length, refl, sym, ap, is_some, arith, command_key, reply_of, update_of, content_in, chain_value, PlacedWrite, of_made}
+use Rattle.op_machine.proofs.Words.{◌≡◌, ◌<◌, ◌∙◌, inl, inr, None, Some, true, false, length, refl, sym, ap}
+use Rattle.op_machine.proofs.Words.{is_some, arith, command_key, reply_of, update_of, content_in, chain_value, PlacedWrite, of_made}
 use Rattle.op_machine.proofs.Words.{update_over, seen_is_read}
 use Rattle.base_page.specs.Pages.{content_at}
 use Rattle.traces.specs.discipline.Discipline.{value_of}

@@ -5,7 +5,8 @@ use Rattle.rounds.proofs.write_round.WriteRound.read_on.Goals as goal
 
 pub take_record-requires-clause-told : goal.take_record-requires-clause-told
 take_record-requires-clause-told g c =
-    let was : PlacedWrite = placed c.self.inside.key c.self.inside.due c.self.inside.tends c.self.inside.splits c.self.inside.floor c.self.inside.course c.self.inside.descent c.self.inside.plan.value c.self.inside.after in
+    let was : PlacedWrite = placed c.self.inside.key c.self.inside.due c.self.inside.tends c.self.inside.splits c.self.inside.floor
+    c.self.inside.course c.self.inside.descent c.self.inside.plan.value c.self.inside.after in
     let told = Content c.args.found.content in
     way_told was.round told (rw (← c.self.view_is) at (is_told (g.R.Rows.has c.args.rows.now c.args.pass.now) (machine writing) c.args.self.now.round told c.requires.told))
 

@@ -5,7 +5,8 @@ use Rattle.rounds.proofs.write_round.WriteRound.told.Goals.{in-More, in-Empty}
 
 pub returns-clause-responds : goal.returns-clause-responds
 returns-clause-responds g c =
-    let was : PlacedWrite = placed c.self.inside.key c.self.inside.due c.self.inside.tends c.self.inside.splits c.self.inside.floor c.self.inside.course c.self.inside.descent c.self.inside.plan.value c.self.inside.after in
+    let was : PlacedWrite = placed c.self.inside.key c.self.inside.due c.self.inside.tends c.self.inside.splits c.self.inside.floor
+    c.self.inside.course c.self.inside.descent c.self.inside.plan.value c.self.inside.after in
     let now = c.told.new.self in
     let told = Number c.args.number in
     rw (← c.self.view_is)

@@ -10,7 +10,8 @@ pub returns-then-count-eq0-clause-child : goal.returns-then-count-eq0-clause-chi
 returns-then-count-eq0-clause-child g c =
     let row = c.args.base.now.content in
     let passes = is_left c.args.below c.args.bound.now in
-    let left = none_left row [] c.keeps_spelling.ensures.spellable passes c.passing-count.ensures.items c.passing-count.result.0 c.passing-count.ensures.passed None (λ key pass. refl) 0 (λ i d from to. absurd (omega (arith, from, to))) refl in
+    let left = none_left row [] c.keeps_spelling.ensures.spellable passes c.passing-count.ensures.items c.passing-count.result.0
+    c.passing-count.ensures.passed None (λ key pass. refl) 0 (λ i d from to. absurd (omega (arith, from, to))) refl in
     child_best (row ∷ []) c.requires.alone.fitted passes None None (left, refl)
 
 pub returns-clause-child : goal.returns-clause-child

@@ -72,7 +72,8 @@ returns-clause-begins g c =
     seated_first c.laws_of_runs.ensures _ _ _ _ _ _ c.self.invariant.there c.self.invariant.seated (idle_of _ _ c.self.view_is c.requires.idle)
     (rw c.limits.ensures at c.begin.ensures.shows) c.begin.ensures.command (rw c.limits.ensures at c.begin.ensures.bounded) c.begin.ensures.lacks (step_of_loan c.wanted.result) c.wanted.ensures
     (answer_of c.take_first-told.result) (seen_of c.take_first-told.new.place.me) took None c.go_on.new.self c.go_on.ensures.goes c.go_on.ensures.command in
-    subst (λ (old : Seat). HasBegun old c.args.command (seat_of c.take_first-told.new.place.table_id c.self.inside.limits c.self.inside.desk.number (seen_of c.take_first-told.new.place.me))) c.self.view_is
+    subst (λ (old : Seat). HasBegun old c.args.command
+    (seat_of c.take_first-told.new.place.table_id c.self.inside.limits c.self.inside.desk.number (seen_of c.take_first-told.new.place.me))) c.self.view_is
     record {
       run = took.run;
       extends = took.extends;
