@@ -9,7 +9,8 @@ use Rattle.op_machine.specs.machine.Spending.{Spends, SpendsSteps, steps_left, s
 use Rattle.op_machine.specs.machine.Sweeping.{HasFewer, IsSameWork, MovesSweep, ObeysSweep, with_limbo}
 use Rattle.op_machine.specs.machine.Works.{AsksOn, IsToldWith, KeepsLimbo, asked_of}
 use Rattle.op_machine.specs.machine.Wants.{Step}
-use Rattle.op_machine.specs.machine.States.{State, Begun, Epoch}
+use Rattle.op_machine.specs.machine.Outcomes.{is_changing, is_reading}
+use Rattle.op_machine.specs.machine.States.{State, Begun, Epoch, Read}
 use Rattle.op_machine.proofs.GoingLeft.{goes_left}
 use Rattle.op_machine.proofs.Nexts.{asks, asks_none, fewer, fits_on, fits_swept, kept_after, kept_begun, left_first, left_is, nothing_left, rests, starts, sweep_asks, told_after, unswept}
 use Rattle.sweep.specs.Bounded as sweep
@@ -153,6 +154,11 @@ module _ (old mid : Op) (spares : Spares) (limbo now : Limbo) (told : Answer Rec
 pub yet_begun : (state : State) → has_begun state ≡ false → state ≡ Begun
 yet_begun Begun off = refl
 yet_begun other off = cc
+
+-- a reader's round is under way, so it has begun, and no change is
+pub reading_begun : (state : State) → is_reading state ≡ true → (has_begun state ≡ true) × (is_changing state ≡ false)
+reading_begun (Read round) on = (refl, refl)
+reading_begun other on = cc
 
 -- the first step of the work
 pub starts_work : (task : Task) (sweep : Option Sweep) (spares : Spares) (state : State) → state ≡ Begun

@@ -142,14 +142,18 @@ impl<R: Rows, A: Allocator> Operation<R, A> {
         self.places.lacks()
     }
 
-    /// Takes the answer to the step that it wanted, which isn't the leave, and reads no row, or `Start`. Inlined: each number that a
-    /// lookup reads comes through here.
+    /// Takes the answer to the step that it wanted, which isn't the leave, and reads no row, or `Start`. Inlined, and a reader's round first: each
+    /// number that a lookup reads comes through here.
     #[inline(always)]
     pub fn go_on(&mut self, hand: &mut Hand<A>, told: Told)
         requires told { IsToldOp self.old hand.old (answer_of told) }
         requires stays { is_leaving self.old.state ≡ false }
         ensures { Takes self.old hand.old (answer_of told) self.new hand.new }
     {
+        if self.places.is_reading() {
+            limbos_are_kept();
+            return self.read_number(&hand.spares, told);
+        }
         if self.places.has_begun() {
             return self.work_on(hand, told);
         }

@@ -25,7 +25,7 @@ ghost use Rattle.op_machine.specs.machine.Begun.{HasBegunPlan};
 ghost use Rattle.op_parts.specs.declared.then.Then.TheVariants as and_then;
 ghost use Rattle.structure_changes.specs.declared.after.After.TheVariants as after;
 ghost use Rattle.structure_changes.specs.Plans.{over};
-ghost use Rattle.op_machine.specs.machine.Outcomes.{IsToldAt, UnlinksAfter, change_out, has_begun, is_changing, lacks_at};
+ghost use Rattle.op_machine.specs.machine.Outcomes.{IsToldAt, UnlinksAfter, change_out, has_begun, is_changing, is_reading, lacks_at};
 ghost use Rattle.op_machine.specs.machine.Places.{HaveLimits, ReadsOn, WritesOn, ended_with, leaf_read, left_round_of, state_of};
 ghost use Rattle.op_machine.specs.machine.Shows.{FitsLast, MayStep, ShowsState, learn_last, wanted_at};
 ghost use Rattle.op_parts.specs.ShortReplies.{ShowsChain};
@@ -146,6 +146,13 @@ impl<R: Rows, A: Allocator> Places<R, A> {
         ensures { result ≡ has_begun (state_of self.now) }
     {
         !matches!(self.stand, StateKind::Begun)
+    }
+
+    /// Whether a reader's round is under way.
+    pub(crate) fn is_reading(&self) -> bool
+        ensures { result ≡ is_reading (state_of self.now) }
+    {
+        matches!(self.stand, StateKind::Read)
     }
 
     /// Whether a change is under way.
@@ -346,7 +353,8 @@ impl<R: Rows, A: Allocator> Places<R, A> {
         ensures may { (task : TaskSeen) (k : Knowledge) (r : Recalled) → ShowsState task spares.now k r (state_of self.now) → MayStep task k (step_of_loan result) }
     {
         match self.stand {
-            StateKind::Begun => unreachable!(),
+            // No step is wanted yet: the contract excludes it, and a check would stay where only the contract is needed.
+            StateKind::Begun => Step::Epoch,
             StateKind::Epoch => Step::Epoch,
             StateKind::Enter { epoch } => Step::Enter(epoch),
             StateKind::Read => reading(self.reader.asks()),

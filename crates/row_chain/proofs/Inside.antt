@@ -21,29 +21,32 @@ failed false e = cc
 none : Item
 none = record { key = []; content = Child 0 false }
 
-page_ends : (page : Page) → IsSpellable (Base page) → (key : List ℕ) (count : ℕ) → PassesUpTo page.items (is_left false key) count → count < length page.items → is_under key page.high ≡ true
+page_ends : (page : Page) → IsSpellable (Base page) → (key : List ℕ) (count : ℕ) → PassesUpTo page.items (is_left false key) count
+    → count < length page.items → is_under key page.high ≡ true
 page_ends page is key count cut within =
     let item = get_or page.items count none in
     let first = subst (AllByRecursion (λ (i : Item). is_left false key i.key ≡ false)) (drop_more page.items count none within) cut.rest in
-    below_under key item.key page.high (failed (is_below key item.key) first.0) (and_right (not (is_below item.key page.low)) (is_under item.key page.high) (is.ruled.is_page.within count none within))
+    let under = and_right (not (is_below item.key page.low)) (is_under item.key page.high) (is.ruled.is_page.within count none within) in
+    below_under key item.key page.high (failed (is_below key item.key) first.0) under
 
 pub ends_above : (row : Record) → IsFitted (row ∷ []) → IsSpellable row → (key : List ℕ) (count : ℕ) → PassesUpTo (items_said row) (is_left false key) count
     → count < length (items_of row) → is_under key (high_in (row ∷ [])) ≡ true
 ends_above row (page, is, stands) spells key count cut within = rw is (page_ends page (rw is at spells) key count (rw is at cut) (rw is at within))
 
 -- the child before the place
-pub child_before : (row : Record) → IsFitted (row ∷ []) → IsSpellable row → (passes : List ℕ → Bool) → AreItems (items_said row) → (count : ℕ) → PassesUpTo (items_said row) passes count
-    → 0 < count → (child : Option ℕ) → ((d : Item) → child ≡ child_in (Some (get_or (items_said row) (count - 1) d).content))
-    → MatchOption child (HasNoChild (content_in (row ∷ [])) passes) (IsGreatestChild (content_in (row ∷ [])) passes)
-child_before row fit spells passes are count cut some child is =
-    let greatest = wins row [] spells passes are count cut None (λ key pass. refl) count (λ i d from to. absurd (omega (arith, from, to))) none some (omega arith) refl refl in
-    child_found (row ∷ []) fit passes _ _ child greatest (is none)
+module _ (row : Record) (fit : IsFitted (row ∷ [])) (spells : IsSpellable row) (passes : List ℕ → Bool) (are : AreItems (items_said row)) (count : ℕ)
+    (cut : PassesUpTo (items_said row) passes count) (some : 0 < count) (child : Option ℕ)
+    (is : (d : Item) → child ≡ child_in (Some (get_or (items_said row) (count - 1) d).content)) where
+  pub child_before : MatchOption child (HasNoChild (content_in (row ∷ [])) passes) (IsGreatestChild (content_in (row ∷ [])) passes)
+  child_before =
+      let greatest = wins row [] spells passes are count cut None (λ key pass. refl) count (λ i d from to. absurd (omega (arith, from, to)))
+      none some (omega arith) refl refl in
+      child_found (row ∷ []) fit passes _ _ child greatest (is none)
 
-if_some : (row : Record) (passes : List ℕ → Bool) (child : Option ℕ) → MatchOption child (HasNoChild (content_in (row ∷ [])) passes) (IsGreatestChild (content_in (row ∷ [])) passes)
-    → MatchOption child ⊤ (IsGreatestChild (content_in (row ∷ [])) passes)
-if_some row passes None h = tt
-if_some row passes (Some child) h = h
-
-pub child_if_some : (row : Record) → IsFitted (row ∷ []) → IsSpellable row → (passes : List ℕ → Bool) → AreItems (items_said row) → (count : ℕ) → PassesUpTo (items_said row) passes count
-    → 0 < count → (child : Option ℕ) → ((d : Item) → child ≡ child_in (Some (get_or (items_said row) (count - 1) d).content)) → MatchOption child ⊤ (IsGreatestChild (content_in (row ∷ [])) passes)
-child_if_some row fit spells passes are count cut some child is = if_some row passes child (child_before row fit spells passes are count cut some child is)
+  pub child_if_some : MatchOption child ⊤ (IsGreatestChild (content_in (row ∷ [])) passes)
+  child_if_some = by child child_before
+    where
+      by : (o : Option ℕ) → MatchOption o (HasNoChild (content_in (row ∷ [])) passes) (IsGreatestChild (content_in (row ∷ [])) passes)
+          → MatchOption o ⊤ (IsGreatestChild (content_in (row ∷ [])) passes)
+      by None h = tt
+      by (Some found) h = h

@@ -1,5 +1,6 @@
 //! The walk from the newest record of a chain to the child of its greatest term that passes.
-ghost use Rattle.std.specs.Prelude.{◌≡◌, ◌≤◌, ◌<◌, ◌-◌, ◌++◌, [], ◌∷◌, ℕ, Bool, List, IsFalse, IsSome, IsTrue, MatchOption, ⊤, true, false, length, option_copied, slice_index_or};
+ghost use Rattle.std.specs.Prelude.{◌≡◌, ◌≤◌, ◌<◌, ◌-◌, ◌++◌, [], ◌∷◌, ℕ, Bool, List};
+ghost use Rattle.std.specs.Prelude.{IsFalse, IsSome, IsTrue, MatchOption, ⊤, true, false, length, option_copied, slice_index_or};
 ghost use Rattle.std.specs.List.{All};
 ghost use Rattle.base_page.specs.declared.item.Item.{Item};
 ghost use Rattle.base_page.specs.Pages.{AreItems};

@@ -24,6 +24,12 @@ wanted-requires g c =
 pub returns-in-Change-clause-wanted : goal.returns-in-Change-clause-wanted
 returns-in-Change-clause-wanted g c = rw (← c.self.view_is, c.in-Change.is) (ap Some (sym c.wanted.ensures.wanted))
 
+pub returns-in-Begun-clause-wanted : goal.returns-in-Begun-clause-wanted
+returns-in-Begun-clause-wanted g c = let asks = rw (← c.self.view_is, c.in-Begun.is) at c.requires.asks in cc
+
+pub returns-in-Begun-clause-may : goal.returns-in-Begun-clause-may
+returns-in-Begun-clause-may g c task k r h = record { within = tt; may = tt; frees = tt; useful = tt; halved = tt }
+
 pub returns-in-Epoch-clause-wanted : goal.returns-in-Epoch-clause-wanted
 returns-in-Epoch-clause-wanted g c = rw (← c.self.view_is, c.in-Epoch.is) refl
 

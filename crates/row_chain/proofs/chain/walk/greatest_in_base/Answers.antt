@@ -17,5 +17,5 @@ returns-then-count-eq0-clause-child g c =
 pub returns-clause-child : goal.returns-clause-child
 returns-clause-child g c =
     let some = c.if-count-eq0.false in
-    child_before c.args.base.now.content c.requires.alone.fitted c.keeps_spelling.ensures.spellable (is_left c.args.below c.args.bound.now) c.passing-count.ensures.items
-    c.passing-count.result.0 c.passing-count.ensures.passed (omega (arith, some)) c.child_at.result c.child_at.ensures.child
+    child_before c.args.base.now.content c.requires.alone.fitted c.keeps_spelling.ensures.spellable (is_left c.args.below c.args.bound.now)
+    c.passing-count.ensures.items c.passing-count.result.0 c.passing-count.ensures.passed (omega (arith, some)) c.child_at.result c.child_at.ensures.child
