@@ -18,10 +18,10 @@ use Rattle.tree_picture.specs.declared.cells.Cell.{Cell}
 pub actors_more : (limits : Limits) (entries : List Entry) (wanted : List (Option (StepOf Record))) (number : ℕ) (actors : List Actor) (at : Actor)
     → AreActorsFrom limits entries wanted number actors → IsActorOf limits entries wanted (number + length actors) at → AreActorsFrom limits entries wanted number (actors ++ at ∷ [])
 actors_more limits entries wanted number [] at are is =
-    let same : number + 0 ≡ number = omega arith in (subst (λ n. IsActorOf limits entries wanted n at) same is, tt {0})
+    let same : number + 0 ≡ number = omega arith in (rw same at is, tt {0})
 actors_more limits entries wanted number (first ∷ actors) at are is =
     let same : number + suc (length actors) ≡ number + 1 + length actors = omega arith in
-    (are.0, actors_more limits entries wanted (number + 1) actors at are.1 (subst (λ n. IsActorOf limits entries wanted n at) same is))
+    (are.0, actors_more limits entries wanted (number + 1) actors at are.1 (rw same at is))
 
 pub cells_more : (memory : Memory) (number : ℕ) (actors : List Actor) (at : Actor)
     → cells_from memory number (actors ++ at ∷ []) ≡ cells_from memory number actors ++ actor_cells memory (number + length actors) at

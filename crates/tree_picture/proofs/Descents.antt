@@ -78,7 +78,7 @@ module _ (limits : Limits) (memory : Memory) (has : HasAllLevels limits memory) 
 
   -- the level that is next stands
   pub stands_next : HasPagesOn limits memory at.number pid
-  stands_next = subst (λ n. HasPagesOn limits memory at.number n) (sym at.first) level
+  stands_next = rw (← at.first) at level
 
   -- there are few levels
   pub is_few : count ≤ 15
@@ -89,10 +89,10 @@ module _ (limits : Limits) (memory : Memory) (has : HasAllLevels limits memory) 
 
   module _ (pages : List LivePage) (is : pages ≡ stands_next.pages) where
     side : IsSideChainFrom memory pid pages
-    side = subst (λ ps. IsSideChainFrom memory pid ps) (sym is) stands_next.side
+    side = rw (← is) at stands_next.side
 
     none_under : first_child pages ≡ None → MatchOption (first_child pages) (no_levels ≡ []) (λ child. AreLevelsFrom memory child no_levels)
-    none_under none = subst (λ o. MatchOption o (no_levels ≡ []) (λ child. AreLevelsFrom memory child no_levels)) (sym none) refl
+    none_under none = rw none refl
 
     -- on the last level the first page has no child
     pub levels_end : first_child pages ≡ None → AreLevels memory (levels ++ pages ∷ [])

@@ -32,10 +32,10 @@ counts (first ∷ newer) older one key unnamed named = go (names first key) refl
 
     go : (b : Bool) → names first key ≡ b → (is_unnamed newer key ≡ true → content_in (newer ++ one ∷ older) key ≡ content_said one key)
         → content_in (first ∷ newer ++ one ∷ older) key ≡ content_said one key
-    go true is rest = let clash : not (true || others) ≡ true = subst (λ (c : Bool). not (c || others) ≡ true) is unnamed in cc clash
+    go true is rest = let clash : not (true || others) ≡ true = rw is at unnamed in cc clash
     go false is rest =
         ap (λ (c : Bool). if c then content_said first key else content_in (newer ++ one ∷ older) key) is
-        ∙ rest (subst (λ (c : Bool). not (c || others) ≡ true) is unnamed)
+        ∙ rest (rw is at unnamed)
 
 -- where a newer record names the key, nothing under it has a say
 pub is_decided : (newer older other : List Record) (key : List ℕ) → is_unnamed newer key ≡ false → content_in (newer ++ older) key ≡ content_in (newer ++ other) key
@@ -52,5 +52,5 @@ is_decided (first ∷ newer) older other key named = go (names first key) refl (
         ∙ sym (ap (λ (c : Bool). if c then content_said first key else content_in (newer ++ other) key) is)
     go false is rest =
         ap (λ (c : Bool). if c then content_said first key else content_in (newer ++ older) key) is
-        ∙ rest (subst (λ (c : Bool). not (c || others) ≡ false) is named)
+        ∙ rest (rw is at named)
         ∙ sym (ap (λ (c : Bool). if c then content_said first key else content_in (newer ++ other) key) is)

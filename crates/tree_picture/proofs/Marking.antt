@@ -30,8 +30,7 @@ pub mark_next : (Fits : LivePage → Mark → Type 0) (pages : List LivePage) (i
 mark_next Fits pages i page there is start so_far after mark told next fits = (
   told.0 ++ mark ∷ [],
   next ∙ ap (λ (ms : List Mark). ms ++ mark ∷ []) told.1 ∙ append_assoc start told.0 (mark ∷ []),
-  subst
-      (λ ps. AllZip Fits ps (told.0 ++ mark ∷ [])) (sym (take_next pages i page there is)) (zip_push Fits (take i pages) told.0 page mark told.2 fits),
+  rw (← take_next pages i page there is) at (zip_push Fits (take i pages) told.0 page mark told.2 fits),
 )
 
 -- the last of some levels, or else this one
@@ -61,8 +60,7 @@ pub level_next_marked : (root : ℕ) (levels : List (List LivePage)) (i : ℕ) (
 level_next_marked root levels i level there is start so_far after above above_is told next = (
   told.0 ++ next.0,
   next.1 ∙ ap (λ (ms : List Mark). ms ++ next.0) told.1 ∙ append_assoc start told.0 next.0,
-  subst (λ ls. AreMarked root [] ls (told.0 ++ next.0)) (sym (take_next levels i level there is))
-      (marked_more root [] (take i levels) level told.0 next.0 told.2 (subst (λ a. AllZip (IsMarkFor root a) level next.0) above_is next.2)),
+  rw (← take_next levels i level there is) at (marked_more root [] (take i levels) level told.0 next.0 told.2 (rw above_is at next.2)),
 )
 
 -- an item is what its page has at its key, and what a page has at a key is an item's

@@ -20,14 +20,20 @@ use crate::touches::Touched;
 use crate::{Level, Scene, ScenePage};
 use std::alloc::AllocError;
 
+/// What is drawn over the pages: which actors stand where, and what the last step touched.
+#[derive(Clone, Copy)]
+struct Overlay<'a> {
+    stands: &'a [Stand],
+    touched: Touched,
+}
+
 /// A level from a height on: its pages from left to right, in rows of at most `BESIDE`, with their side links. Answers the height behind it.
 fn level_rows(
     sheet: &mut Sheet,
     level: &Level,
     above: &[ScenePage],
     root: u32,
-    stands: &[Stand],
-    touched: Touched,
+    over: &Overlay,
     width: u64,
     top: u64,
 ) -> Result<u64, AllocError>
@@ -36,7 +42,7 @@ fn level_rows(
     requires high { top ≤ 2 ^ 40 }
     ensures pids { OnOk result (sheet.new.pids ≡ sheet.old.pids ++ level_pids level.now) }
     ensures ranges { OnOk result (sheet.new.ranges ≡ sheet.old.ranges ++ level_ranges level.now) }
-    ensures stands { OnOk result (sheet.new.stands ≡ sheet.old.stands ++ level_stands stands.now level.now) }
+    ensures stands { OnOk result (sheet.new.stands ≡ sheet.old.stands ++ level_stands over.now.stands.now level.now) }
     ensures slots { OnOk result (sheet.new.slots ≡ sheet.old.slots) }
     ensures cells { OnOk result (sheet.new.cells ≡ sheet.old.cells) }
     ensures records { OnOk result (sheet.new.records ≡ sheet.old.records ++ level_records level.now) }
@@ -58,8 +64,8 @@ fn level_rows(
             sheet,
             page,
             mark_of(page, above, root),
-            stands,
-            touched,
+            over.stands,
+            over.touched,
             here.x,
             here.y,
         )?;
@@ -123,10 +129,11 @@ pub(crate) fn rows(
     ensures laid { IfOk result (λ end. AreLaidTo width top 0 top sheet.old.boxes → AreLaidTo width end 0 end sheet.new.boxes) }
     ensures few { IfOk result (λ end. end ≤ top + 16 * (4194305 * (5046 + SHELF) + DROP)) }
 {
+    let over = Overlay { stands, touched };
     let mut y = top;
     let mut above: &[ScenePage] = &[];
     for level in levels {
-        let end = level_rows(sheet, level, above, root, stands, touched, width, y)?;
+        let end = level_rows(sheet, level, above, root, &over, width, y)?;
         y = end + DROP;
         above = level.pages();
     }

@@ -43,6 +43,7 @@ impl Words {
     pub fn add(&mut self, bytes: &[u8])
         ensures { Adds self.old self.new bytes.now }
     {
+        // Bytes without room are refused as a whole, and the words stay as they were.
         let _ = self.bytes.try_extend_from_slice(bytes);
     }
 }

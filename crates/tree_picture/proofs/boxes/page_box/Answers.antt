@@ -42,7 +42,7 @@ returns-clause-ranges c =
 pub returns-clause-laid : goal.returns-clause-laid
 returns-clause-laid c = λ width bottom next to right further high.
     let exact = c.page_height.ensures.exact in
-    subst (λ boxes. AreLaidTo width bottom next c.args.y boxes) (sym (ap (λ sheet. sheet.boxes) c.in_ok-record_boxes.ensures ∙ ap (λ sheet. sheet.boxes) c.in_ok-page.ensures))
+    rw (← ap (λ sheet. sheet.boxes) c.in_ok-record_boxes.ensures ∙ ap (λ sheet. sheet.boxes) c.in_ok-page.ensures) at
     (one_more to (record { x = c.args.x; y = c.args.y; width = 236; height = c.page_height.result; fill = c.colour.result; edge = Ink; thick = false }) refl refl
     (record { wide = omega arith; high = omega (arith, exact); right = omega (arith, right); bottom = omega (arith, exact, high) }) next (omega (arith, further)))
 

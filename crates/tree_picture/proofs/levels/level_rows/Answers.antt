@@ -29,7 +29,7 @@ loop-page-preserved c =
     ] in
     let wide = subst (IsWideFor c.args.width) (sym (ap length c.pages-pages.ensures.pages)) c.requires.wide in
     let room = c.first_x-first.ensures wide (here.column + 1) (let few = at.few in omega (arith, few, there)) (let within = at.within in omega (arith, within)) in
-    let high : page_height page ≤ height = subst (λ p. page_height p ≤ height) (sym c.page-item.is) (c.highest-height.ensures.all c.loop-page.page-index page there) in
+    let high : page_height page ≤ height = rw (← c.page-item.is) at (c.highest-height.ensures.all c.loop-page.page-index page there) in
     record {
       pids =
           ap (λ sheet. sheet.pids) same ∙ c.in_ok-page_box.ensures.pids
@@ -39,7 +39,8 @@ loop-page-preserved c =
           ∙ told_next _ _ _ _ (page_range page ∷ []) c.loop-page.invariant.ranges (map_next page_range pages c.loop-page.page-index page there c.page-item.is);
       stands =
           ap (λ sheet. sheet.stands) same ∙ c.in_ok-page_box.ensures.stands
-          ∙ told_next _ _ _ _ (page_stands c.args.stands.now page ∷ []) c.loop-page.invariant.stands (map_next (page_stands c.args.stands.now) pages c.loop-page.page-index page there c.page-item.is);
+          ∙ told_next _ _ _ _ (page_stands c.args.over.now.stands.now page ∷ []) c.loop-page.invariant.stands
+          (map_next (page_stands c.args.over.now.stands.now) pages c.loop-page.page-index page there c.page-item.is);
       slots = ap (λ sheet. sheet.slots) same ∙ c.in_ok-page_box.ensures.slots ∙ c.loop-page.invariant.slots;
       cells = ap (λ sheet. sheet.cells) same ∙ c.in_ok-page_box.ensures.cells ∙ c.loop-page.invariant.cells;
       records =
@@ -55,7 +56,7 @@ loop-page-preserved c =
         across = let across = at.across in omega (arith, across);
         high = let high = at.high in omega (arith, high);
       };
-      laid = λ to. subst (λ boxes. AreLaidTo c.args.width (here.y + height) (here.x + 276) here.y boxes) (sym (ap (λ sheet. sheet.boxes) same))
+      laid = λ to. rw (← ap (λ sheet. sheet.boxes) same) at
           (c.in_ok-page_box.ensures.laid c.args.width (here.y + height) (here.x + 276) (laid_here height c.loop-page.place here c.in_row-here.ensures (c.loop-page.invariant.laid to))
           (let across = at.across in omega (arith, room, across)) (omega arith) (omega (arith, high)));
     }
@@ -88,6 +89,5 @@ returns-clause-marks c =
     let told = c.loop-page.invariant.marks in (
       told.0,
       told.1,
-      subst (λ pages. AllZip (IsMarkFor c.args.root c.args.above.now) pages told.0)
-          (take_all c.loop-page.page-index c.pages-pages.result.now c.loop-page-test.false ∙ c.pages-pages.ensures.pages) told.2,
+      rw (take_all c.loop-page.page-index c.pages-pages.result.now c.loop-page-test.false ∙ c.pages-pages.ensures.pages) at told.2,
     )

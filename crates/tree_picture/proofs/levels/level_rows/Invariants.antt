@@ -14,7 +14,7 @@ abbrev pub invariant-loop-page : goal.invariant-loop-page
 invariant-loop-page l = record {
   pids : l.sheet.pids ≡ l.initial.sheet.pids ++ level_pids (take l.page-index l.pages);
   ranges : l.sheet.ranges ≡ l.initial.sheet.ranges ++ level_ranges (take l.page-index l.pages);
-  stands : l.sheet.stands ≡ l.initial.sheet.stands ++ level_stands l.stands (take l.page-index l.pages);
+  stands : l.sheet.stands ≡ l.initial.sheet.stands ++ level_stands l.over.stands.now (take l.page-index l.pages);
   slots : l.sheet.slots ≡ l.initial.sheet.slots;
   cells : l.sheet.cells ≡ l.initial.sheet.cells;
   records : l.sheet.records ≡ l.initial.sheet.records ++ level_records (take l.page-index l.pages);

@@ -11,7 +11,7 @@ use Rattle.tree_picture.proofs.levels.rows.Goals as goal
 
 pub level_rows-requires-clause-wide : goal.level_rows-requires-clause-wide
 level_rows-requires-clause-wide c =
-    subst (λ level. IsWideFor c.args.width (length level)) (sym c.level-item.is) (c.requires.wide c.loop-level.level-index c.level-item.result c.loop-level-test.true)
+    rw (← c.level-item.is) at (c.requires.wide c.loop-level.level-index c.level-item.result c.loop-level-test.true)
 
 pub loop-level-preserved : goal.loop-level-preserved
 loop-level-preserved c =

@@ -6,5 +6,5 @@ pub returns-in-None : goal.returns-in-None
 returns-in-None c = (
   sym c.page.ensures.removed ∙ sym c.is_removed.ensures ∙ c.if-is_removed.false,
   λ is. c.if-pid-root.false (c.pid.ensures ∙ is),
-  subst (λ pid. (held : Bool) → HasTermOf c.args.above.now pid held → ⊥) c.pid-2.ensures c.in-None.ensures,
+  rw c.pid-2.ensures at c.in-None.ensures,
 )

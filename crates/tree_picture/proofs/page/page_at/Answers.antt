@@ -6,4 +6,4 @@ pub invariant_of-result : goal.invariant_of-result
 invariant_of-result g c =
     let (chain, stands) = c.requires.stands in
     let same = sym (c.in_ok-records.ensures chain stands) in
-    (subst (λ records. Makes records c.page_of-page.result) same (c.page_of-page.ensures.makes _ chain refl stands), subst IsPageChain same stands.fits)
+    (rw same at (c.page_of-page.ensures.makes _ chain refl stands), subst IsPageChain same stands.fits)

@@ -18,7 +18,7 @@ loop-number-preserved c =
     let own : IsActorOf core.limits core.entries core.demand.wanted c.loop-number.number at = (c.in-Some.ensures.keeps, c.in-Some.ensures.command, c.in-Some.ensures.wanted) in (
       before.0 ++ at ∷ [],
       length-append before.0 (at ∷ []) ∙ ap (λ n. n + 1) before.1,
-      actors_more core.limits core.entries core.demand.wanted 0 before.0 at before.2 (subst (λ n. IsActorOf core.limits core.entries core.demand.wanted n at) (sym first) own),
+      actors_more core.limits core.entries core.demand.wanted 0 before.0 at before.2 (rw (← first) at own),
       cells_then _ _ _ _ _ _ before.3 (rw told at c.in_ok-y.ensures)
           (cells_more memory 0 before.0 at ∙ ap (λ n. cells_from memory 0 before.0 ++ actor_cells memory n at) first),
     )
