@@ -1,6 +1,7 @@
 -- What a badge owned is the receipt's, and the badge is blank.
 use Rattle.atomic_table.proofs.Names.{◌≡◌, ℕ, List, [], ◌∷◌, refl, named, Val, vptr, SProp, emp, ftrue, flft, ‵, raw, ◌⊛◌, ◌$◌, ◌∵◌, !, qed, by, move, keep, split, join, fsplit, fsplit3, fjoin}
-use Rattle.atomic_table.proofs.Names.{fjoin3, use0, use1, feq_i, no_more, returns, enter, alloc_all, pass_all, free_all, look_at, sets, agg, tables, RattleType, owns, types_at, type_at, plain, nothing, Stays, walk_of, fact, fact_i, mut_vals, mut_Tells, opens, closes, stay_ref, Goes-ref, makes_shadow}
+use Rattle.atomic_table.proofs.Names.{fjoin3, use0, use1, feq_i, no_more, returns, enter, alloc_all, pass_all, free_all, look_at, sets, agg, tables, RattleType}
+use Rattle.atomic_table.proofs.Names.{owns, types_at, type_at, plain, nothing, Stays, walk_of, fact, fact_i, mut_vals, mut_Tells, opens, closes, stay_ref, Goes-ref, makes_shadow}
 use mir.Val.{vstruct, vnil}
 use base.Logic.{id⊢, ent}
 use seplogic.Ra.Ura.{Ura}
