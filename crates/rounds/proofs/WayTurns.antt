@@ -1,5 +1,6 @@
 -- Where a page ends, by whether its end is on the way.
-use Rattle.rounds.proofs.Words.{◌≡◌, ◌<◌, ℕ, List, Option, Some, None, true, false, refl, sym, ap, ◌∙◌, IsTrue, MatchOption, Record, content_in, level_in, right_in, IsFitted}
+use Rattle.rounds.proofs.Words.{◌≡◌, ◌<◌, ℕ, List, Option, Some, None, true, false, refl, sym, ap, ◌∙◌}
+use Rattle.rounds.proofs.Words.{IsTrue, MatchOption, Record, content_in, level_in, right_in, IsFitted}
 use Rattle.std.proofs.Common.{Bool}
 use Rattle.std.specs.Prelude.{IsFalse, IsSome, not, ⊤}
 use Rattle.base_page.specs.Places.{IsGreatestChild}
@@ -34,7 +35,8 @@ stays_left way chain (Some high) on at ends off = record { off = λ end is. let 
 abbrev pub GoesInside : ℕ → (List ℕ → Bool) → List Record → Option ℕ → Type 0
 GoesInside floor way chain found = MatchOption found ⊤ (λ child. (floor < level_in chain) × StaysLeft way chain × LeadsDown way chain child)
 
-pub goes_inside : (key : List ℕ) (chain : List Record) → IsFitted chain → (found : Option ℕ) → MatchOption found ⊤ (IsGreatestChild (content_in chain) (λ q. not (is_below key q)))
+pub goes_inside : (key : List ℕ) (chain : List Record) → IsFitted chain → (found : Option ℕ)
+    → MatchOption found ⊤ (IsGreatestChild (content_in chain) (λ q. not (is_below key q)))
     → (IsSome found → is_under key (high_in chain) ≡ true) → (IsSome found → 0 < level_in chain) → GoesInside 0 (passes false key) chain found
 goes_inside key chain fit None greatest ends index = tt
 goes_inside key chain fit (Some child) greatest ends index =

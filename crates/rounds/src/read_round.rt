@@ -253,7 +253,8 @@ impl<R: Rows, A: Allocator> ReadRound<R, A> {
     fn child_inside(&self, rows: &R, pass: &mut R::Pass) -> Option<u32>
         requires read { AreReadFor (R.has rows.now pass.old) self.now.round self.now.page }
         ensures looks { pass.new ≡ pass.old }
-        ensures leads { MatchOption result ⊤ (λ child. (0 < level_in self.now.page.chain) × StaysLeft (read_way self.now.round.goal self.now.round.key) self.now.page.chain
+        ensures leads { MatchOption result ⊤ (λ child. (0 < level_in self.now.page.chain)
+            × StaysLeft (read_way self.now.round.goal self.now.round.key) self.now.page.chain
             × LeadsDown (read_way self.now.round.goal self.now.round.key) self.now.page.chain child) }
     {
         match self.goal {

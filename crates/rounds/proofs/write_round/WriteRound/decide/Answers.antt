@@ -2,7 +2,8 @@ use Rattle.rounds.proofs.Words.{inl, refl}
 use Rattle.rounds.proofs.write_round.WriteRound.decide.Goals as goal
 
 pub settle_inside-requires-clause-here : goal.settle_inside-requires-clause-here
-settle_inside-requires-clause-here g c = record { seeks = c.requires.seeks; alive = c.requires.alive; finished = c.requires.finished; stays = c.in-Some.ensures.leads.1 }
+settle_inside-requires-clause-here g c =
+    record { seeks = c.requires.seeks; alive = c.requires.alive; finished = c.requires.finished; stays = c.in-Some.ensures.leads.1 }
 
 pub returns-in-Some-clause-treats : goal.returns-in-Some-clause-treats
 returns-in-Some-clause-treats g c = c.settle_inside.ensures.treats
