@@ -37,8 +37,8 @@ abbrev pub steps_in : List Turn → ℕ
 steps_in turns = frames_behind 0 turns
 
 -- The text is a frame with this number, of an actor's step that told the event: some words, what the step found, how the map before became the map after, why
--- the step needs no lock, the place in the order of an operation that is done without an update, the picture of what stands after, the map after, and the log. In the picture actors stand by the steps that
--- they will take next.
+-- the step needs no lock, the place in the order of an operation that is done without an update, the picture of what stands after, the map after, and the log.
+-- In the picture actors stand by the steps that they will take next.
 pub record IsFrame (number : ℕ) (before : Core) (actor : ℕ) (event : Event) (log : List Update) (after : Core) (text : List ℕ) : Type 0 where
   pub words : List ℕ
   pub picture : List ℕ

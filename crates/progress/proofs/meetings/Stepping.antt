@@ -131,7 +131,8 @@ module _ (w : Standing) where
             let whole : visit.part ++ c.content ∷ is_left.0 ≡ v.page.chain = sym (append_assoc visit.part (c.content ∷ []) is_left.0) ∙ is_left.3 in
             let fitted = subst IsFitted (sym whole) v.stands.fits.fitted in
             let pays = owed_next visit.part is_left.0 c.content fitted in
-            let here : owed (is_removed v.page.chain) (has_removal (visit.part ++ c.content ∷ [])) + cond (is_removal c.content) 1 0 ≤ owed (is_removed v.page.chain) (has_removal visit.part) = rw (← whole) pays in
+            let here : owed (is_removed v.page.chain) (has_removal (visit.part ++ c.content ∷ [])) + cond (is_removal c.content) 1 0
+            ≤ owed (is_removed v.page.chain) (has_removal visit.part) = rw (← whole) pays in
             let after : owed (is_removed v.page.chain) (has_removal next.part) ≡ owed (is_removed v.page.chain) (has_removal (visit.part ++ c.content ∷ [])) =
             rw part in
             let one : meets_now (page.wanted_step visit) told ≡ cond (is_removal c.content) 1 0 = rw c.asked (meets_record c.row c.content told c.is) in
