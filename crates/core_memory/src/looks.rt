@@ -33,6 +33,7 @@ impl<A: Allocator> Rows for CoreRows<A> {
     ghost lies = { λ rows table row content. StandsIn (memory_in table) row content };
 
     fn place(&self, pass: &CoreTable<A>, row: u32, first: u64) -> u32 {
+        // The trait hands both; a table of whole records finds one by its row alone.
         let _ = pass;
         let _ = first;
         row

@@ -36,6 +36,7 @@ impl<A: Allocator> BoxedPairs<A> {
         ensures { result ≡ pairs }
     {
         let mut owner = self.owner;
+        // What was in the room before has no use.
         let _ = Box::replace(&mut owner, pairs);
         BoxedPairs { owner }
     }

@@ -67,6 +67,7 @@ impl<A: Allocator> SharedRecord<A> {
     pub fn keeps_spelling(&self)
         ensures { HasSpelling self.now }
     {
+        // Reading a field brings the invariant, of which the clause is a part.
         let _ = &self.words;
     }
 

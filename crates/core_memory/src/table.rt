@@ -157,6 +157,7 @@ impl<A: Allocator> CoreTable<A> {
         ensures ok { IfOk result (IsAnswer (memory_in self.now) step.now) }
         ensures err { OnErr result (MovesRecord step.now) }
     {
+        // For the contract alone: the answer is the same to each actor.
         let _ = actor;
         match step {
             Step::Slot(pid) => Ok(Answer::Number(u64::from(self.slot(*pid)))),
