@@ -33,7 +33,9 @@ const TWO_LEAVES: &[Part<'_>] = &[
     ),
     Part::Adds(
         "begin 0 back k99\nfinish 0\n",
-        "0 back 9 k17 v17 k16 v16 k15 v15 k14 v14 k13 v13 k12 v12 k11 v11 k10 v10 k09 v09 next =6b3038ffffffffffffffffffffffffffffffffffffffffffffffffffffffffffffffffffffffffffffffffffffffffffffffffffffffffffffffffffffffffff\n",
+        "\
+        0 back 9 k17 v17 k16 v16 k15 v15 k14 v14 k13 v13 k12 v12 k11 v11 k10 v10 k09 v09 next \
+        =6b3038ffffffffffffffffffffffffffffffffffffffffffffffffffffffffffffffffffffffffffffffffffffffffffffffffffffffffffffffffffffffffff\n",
     ),
     Part::Adds(
         "begin 0 back =6b3038ffffffffffffffffffffffffffffffffffffffffffffffffffffffffffffffffffffffffffffffffffffffffffffffffffffffffffffffffffffffffff\nfinish 0\n",
@@ -71,7 +73,9 @@ const WALK: &[Part<'_>] = &[
     ),
     Part::Adds(
         "finish 0\n",
-        "0 back 8 k17 v17 k15 v15 k14 v14 k13 v13 k12 v12 k11 v11 k10 v10 k09 v09 next =6b3038ffffffffffffffffffffffffffffffffffffffffffffffffffffffffffffffffffffffffffffffffffffffffffffffffffffffffffffffffffffffffff\n",
+        "\
+        0 back 8 k17 v17 k15 v15 k14 v14 k13 v13 k12 v12 k11 v11 k10 v10 k09 v09 next \
+        =6b3038ffffffffffffffffffffffffffffffffffffffffffffffffffffffffffffffffffffffffffffffffffffffffffffffffffffffffffffffffffffffffff\n",
     ),
     Part::Adds(
         "begin 1 insert k16 x\nfinish 1\nbegin 1 upsert k02 y\nfinish 1\n",
@@ -131,18 +135,30 @@ fn pages_backward_between_the_stages_of_a_removal(rt: HostRuntime) {
 fn keys_before_a_leaf(rt: HostRuntime) {
     let rows: Rows<'_> = &[
         (
-            b"insert a 1\ninsert b 1\ninsert c 1\ninsert d 1\ninsert e 1\ninsert f 1\ninsert g 1\ninsert h 1\ninsert =6900 1\ninsert j 1\ninsert k 1\ninsert l 1\ninsert m 1\ninsert n 1\ninsert o 1\ninsert p 1\ninsert q 1\nback j\nback i\nback =6900\n",
-            b"0 inserted\n0 inserted\n0 inserted\n0 inserted\n0 inserted\n0 inserted\n0 inserted\n0 inserted\n0 inserted\n0 inserted\n0 inserted\n0 inserted\n0 inserted\n0 inserted\n0 inserted\n0 inserted\n0 inserted\n0 back 2 j 1 =6900 1 next i\n0 back 8 h 1 g 1 f 1 e 1 d 1 c 1 b 1 a 1 end\n0 back 1 =6900 1 next i\n",
+            b"insert a 1\ninsert b 1\ninsert c 1\ninsert d 1\ninsert e 1\ninsert f 1\ninsert g 1\ninsert h 1\ninsert =6900 1\ninsert j 1\ninsert k 1\n\
+            insert l 1\ninsert m 1\ninsert n 1\ninsert o 1\ninsert p 1\ninsert q 1\nback j\nback i\nback =6900\n",
+            b"0 inserted\n0 inserted\n0 inserted\n0 inserted\n0 inserted\n0 inserted\n0 inserted\n0 inserted\n0 inserted\n0 inserted\n0 inserted\n0 inserted\n\
+            0 inserted\n0 inserted\n0 inserted\n0 inserted\n0 inserted\n0 back 2 j 1 =6900 1 next i\n0 back 8 h 1 g 1 f 1 e 1 d 1 c 1 b 1 a 1 end\n\
+            0 back 1 =6900 1 next i\n",
             0,
         ),
         (
-            b"insert a 1\ninsert b 1\ninsert c 1\ninsert d 1\ninsert e 1\ninsert f 1\ninsert g 1\ninsert h 1\ninsert iiiiiiiiiiiiiiiiiiiiiiiiiiiiiiiiiiiiiiiiiiiiiiiiiiiiiiiiiiiiiii2 1\ninsert j 1\ninsert k 1\ninsert l 1\ninsert m 1\ninsert n 1\ninsert o 1\ninsert p 1\ninsert q 1\nback j\nback iiiiiiiiiiiiiiiiiiiiiiiiiiiiiiiiiiiiiiiiiiiiiiiiiiiiiiiiiiiiiii1\n",
-            b"0 inserted\n0 inserted\n0 inserted\n0 inserted\n0 inserted\n0 inserted\n0 inserted\n0 inserted\n0 inserted\n0 inserted\n0 inserted\n0 inserted\n0 inserted\n0 inserted\n0 inserted\n0 inserted\n0 inserted\n0 back 2 j 1 iiiiiiiiiiiiiiiiiiiiiiiiiiiiiiiiiiiiiiiiiiiiiiiiiiiiiiiiiiiiiii2 1 next iiiiiiiiiiiiiiiiiiiiiiiiiiiiiiiiiiiiiiiiiiiiiiiiiiiiiiiiiiiiiii1\n0 back 8 h 1 g 1 f 1 e 1 d 1 c 1 b 1 a 1 end\n",
+            b"insert a 1\ninsert b 1\ninsert c 1\ninsert d 1\ninsert e 1\ninsert f 1\ninsert g 1\ninsert h 1\n\
+            insert iiiiiiiiiiiiiiiiiiiiiiiiiiiiiiiiiiiiiiiiiiiiiiiiiiiiiiiiiiiiiii2 1\ninsert j 1\ninsert k 1\ninsert l 1\ninsert m 1\ninsert n 1\n\
+            insert o 1\ninsert p 1\ninsert q 1\nback j\nback iiiiiiiiiiiiiiiiiiiiiiiiiiiiiiiiiiiiiiiiiiiiiiiiiiiiiiiiiiiiiii1\n",
+            b"0 inserted\n0 inserted\n0 inserted\n0 inserted\n0 inserted\n0 inserted\n0 inserted\n0 inserted\n0 inserted\n0 inserted\n0 inserted\n0 inserted\n\
+            0 inserted\n0 inserted\n0 inserted\n0 inserted\n0 inserted\n\
+            0 back 2 j 1 iiiiiiiiiiiiiiiiiiiiiiiiiiiiiiiiiiiiiiiiiiiiiiiiiiiiiiiiiiiiiii2 1 next \
+            iiiiiiiiiiiiiiiiiiiiiiiiiiiiiiiiiiiiiiiiiiiiiiiiiiiiiiiiiiiiiii1\n0 back 8 h 1 g 1 f 1 e 1 d 1 c 1 b 1 a 1 end\n",
             0,
         ),
         (
-            b"insert a 1\ninsert b 1\ninsert c 1\ninsert d 1\ninsert e 1\ninsert f 1\ninsert g 1\ninsert h 1\ninsert i 1\ninsert j 1\ninsert k 1\ninsert l 1\ninsert m 1\ninsert n 1\ninsert o 1\ninsert p 1\ninsert q 1\nback j\n",
-            b"0 inserted\n0 inserted\n0 inserted\n0 inserted\n0 inserted\n0 inserted\n0 inserted\n0 inserted\n0 inserted\n0 inserted\n0 inserted\n0 inserted\n0 inserted\n0 inserted\n0 inserted\n0 inserted\n0 inserted\n0 back 2 j 1 i 1 next =68ffffffffffffffffffffffffffffffffffffffffffffffffffffffffffffffffffffffffffffffffffffffffffffffffffffffffffffffffffffffffffffff\n",
+            b"insert a 1\ninsert b 1\ninsert c 1\ninsert d 1\ninsert e 1\ninsert f 1\ninsert g 1\ninsert h 1\ninsert i 1\ninsert j 1\ninsert k 1\ninsert l 1\n\
+            insert m 1\ninsert n 1\ninsert o 1\ninsert p 1\ninsert q 1\nback j\n",
+            b"0 inserted\n0 inserted\n0 inserted\n0 inserted\n0 inserted\n0 inserted\n0 inserted\n0 inserted\n0 inserted\n0 inserted\n0 inserted\n0 inserted\n\
+            0 inserted\n0 inserted\n0 inserted\n0 inserted\n0 inserted\n\
+            0 back 2 j 1 i 1 next \
+            =68ffffffffffffffffffffffffffffffffffffffffffffffffffffffffffffffffffffffffffffffffffffffffffffffffffffffffffffffffffffffffffffff\n",
             0,
         ),
     ];

@@ -53,7 +53,8 @@ const SHOWN: [(&[u8], usize); 12] = [
         1,
     ),
     (
-        b"<h2>9: actor 0, insert k02 &lt;: exchange slot 1 from row 1 to row 2: won, put: a key was given a value</h2>\n<p class=\"changed\">This step changes the map: k02 has the value &lt; now.</p>\n<p class='why'>No lock: one compare-and-swap. Had another record ",
+        b"<h2>9: actor 0, insert k02 &lt;: exchange slot 1 from row 1 to row 2: won, put: a key was given a value</h2>\n\
+        <p class=\"changed\">This step changes the map: k02 has the value &lt; now.</p>\n<p class='why'>No lock: one compare-and-swap. Had another record ",
         1,
     ),
     (

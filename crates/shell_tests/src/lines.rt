@@ -80,7 +80,12 @@ fn a_lost_exchange(rt: HostRuntime) {
 fn refused_lines(rt: HostRuntime) {
     let rows: Rows<'_> = &[
         (
-            b"begin 0 insert =ffffffffffffffffffffffffffffffffffffffffffffffffffffffffffffffffffffffffffffffffffffffffffffffffffffffffffffffffffffffffffffffff =00000000000000000000000000000000000000000000000000000000000000000000000000000000000000000000000000000000000000000000000000000000\nfinish 0\nbegin 0 get =ffffffffffffffffffffffffffffffffffffffffffffffffffffffffffffffffffffffffffffffffffffffffffffffffffffffffffffffffffffffffffffffffff\n",
+            b"\
+            begin 0 insert \
+            =ffffffffffffffffffffffffffffffffffffffffffffffffffffffffffffffffffffffffffffffffffffffffffffffffffffffffffffffffffffffffffffffff \
+            =00000000000000000000000000000000000000000000000000000000000000000000000000000000000000000000000000000000000000000000000000000000\nfinish 0\n\
+            begin 0 get \
+            =ffffffffffffffffffffffffffffffffffffffffffffffffffffffffffffffffffffffffffffffffffffffffffffffffffffffffffffffffffffffffffffffffff\n",
             b"0 inserted\nrefused line 3: 1\n",
             1,
         ),

@@ -58,7 +58,9 @@ fn long_lines(rt: HostRuntime) {
 
 // About thirty lines, with empty ones, and without a last LF.
 const INPUT: &[u8] =
-    b"begin 0 insert k01 v01\nfinish 0\n\nbegin 1 insert k02 =\nfinish 1\nbegin 0 get k01\nturn 0 2\nturn 0 1\nturn 0 1\nturn 0 1\nturn 0 1\nturn 0 1\n\nturn 0 1\nbegin 0 insert k02 v02\nfinish 0\nlist\nbegin 0 insert k03 v03\nturn 0 2\nbegin 1 insert k04 v04\nturn 1 4\nturn 0 3\nfinish 1\nfinish 0\nbegin 1 get k04\nbegin 0 get k05\nfinish 1\nfinish 0\n\nlist";
+    b"begin 0 insert k01 v01\nfinish 0\n\nbegin 1 insert k02 =\nfinish 1\nbegin 0 get k01\nturn 0 2\nturn 0 1\nturn 0 1\nturn 0 1\nturn 0 1\nturn 0 1\n\n\
+    turn 0 1\nbegin 0 insert k02 v02\nfinish 0\nlist\nbegin 0 insert k03 v03\nturn 0 2\nbegin 1 insert k04 v04\nturn 1 4\nturn 0 3\nfinish 1\nfinish 0\n\
+    begin 1 get k04\nbegin 0 get k05\nfinish 1\nfinish 0\n\nlist";
 
 const OUTPUT: &[u8] =
     b"0 inserted\n1 inserted\n0 value v01\n0 exists =\npairs 2\nk01 v01\nk02 =\n1 inserted\n0 inserted\n1 value v04\n0 none\npairs 4\nk01 v01\nk02 =\nk03 v03\nk04 v04\n";
@@ -68,14 +70,21 @@ const COMMANDS: &[u8] =
     b"insert k01 v01\n\ninsert k02 =\nget k01\ninsert k02 v02\nlist\ninsert k03 v03\ninsert k04 v04\nget k04\nget k05\npage k02\ntidy k02\n\ndelete k03\nlist";
 
 const REPLIES: &[u8] =
-    b"0 inserted\n0 inserted\n0 value v01\n0 exists =\npairs 2\nk01 v01\nk02 =\n0 inserted\n0 inserted\n0 value v04\n0 none\n0 page 3 k02 = k03 v03 k04 v04 end\n0 tidied\n0 deleted v03\npairs 3\nk01 v01\nk02 =\nk04 v04\n";
+    b"0 inserted\n0 inserted\n0 value v01\n0 exists =\npairs 2\nk01 v01\nk02 =\n0 inserted\n0 inserted\n0 value v04\n0 none\n\
+    0 page 3 k02 = k03 v03 k04 v04 end\n0 tidied\n0 deleted v03\npairs 3\nk01 v01\nk02 =\nk04 v04\n";
 
 // Cursor pages of a tree of two leaves, and of an empty one.
 const PAGES: &[u8] =
-    b"begin 0 insert k01 v01\nfinish 0\nbegin 0 insert k02 v02\nfinish 0\nbegin 0 insert k03 v03\nfinish 0\nbegin 0 insert k04 v04\nfinish 0\nbegin 0 insert k05 v05\nfinish 0\nbegin 0 insert k06 v06\nfinish 0\nbegin 0 insert k07 v07\nfinish 0\nbegin 0 insert k08 v08\nfinish 0\nbegin 0 insert k09 v09\nfinish 0\nbegin 0 insert k10 v10\nfinish 0\nbegin 0 insert k11 v11\nfinish 0\nbegin 0 insert k12 v12\nfinish 0\nbegin 0 insert k13 v13\nfinish 0\nbegin 0 insert k14 v14\nfinish 0\nbegin 0 insert k15 v15\nfinish 0\nbegin 0 insert k16 v16\nfinish 0\nbegin 0 insert k17 v17\nfinish 0\nbegin 0 page k05\nfinish 0\nbegin 0 insert k085 y\nfinish 0\nbegin 0 page k16\nfinish 0\n";
+    b"begin 0 insert k01 v01\nfinish 0\nbegin 0 insert k02 v02\nfinish 0\nbegin 0 insert k03 v03\nfinish 0\nbegin 0 insert k04 v04\nfinish 0\n\
+    begin 0 insert k05 v05\nfinish 0\nbegin 0 insert k06 v06\nfinish 0\nbegin 0 insert k07 v07\nfinish 0\nbegin 0 insert k08 v08\nfinish 0\n\
+    begin 0 insert k09 v09\nfinish 0\nbegin 0 insert k10 v10\nfinish 0\nbegin 0 insert k11 v11\nfinish 0\nbegin 0 insert k12 v12\nfinish 0\n\
+    begin 0 insert k13 v13\nfinish 0\nbegin 0 insert k14 v14\nfinish 0\nbegin 0 insert k15 v15\nfinish 0\nbegin 0 insert k16 v16\nfinish 0\n\
+    begin 0 insert k17 v17\nfinish 0\nbegin 0 page k05\nfinish 0\nbegin 0 insert k085 y\nfinish 0\nbegin 0 page k16\nfinish 0\n";
 
 const SHOWN: &[u8] =
-    b"0 inserted\n0 inserted\n0 inserted\n0 inserted\n0 inserted\n0 inserted\n0 inserted\n0 inserted\n0 inserted\n0 inserted\n0 inserted\n0 inserted\n0 inserted\n0 inserted\n0 inserted\n0 inserted\n0 inserted\n0 page 4 k05 v05 k06 v06 k07 v07 k08 v08 next k09\n0 inserted\n0 page 2 k16 v16 k17 v17 end\n";
+    b"0 inserted\n0 inserted\n0 inserted\n0 inserted\n0 inserted\n0 inserted\n0 inserted\n0 inserted\n0 inserted\n0 inserted\n0 inserted\n0 inserted\n\
+    0 inserted\n0 inserted\n0 inserted\n0 inserted\n0 inserted\n0 page 4 k05 v05 k06 v06 k07 v07 k08 v08 next k09\n0 inserted\n\
+    0 page 2 k16 v16 k17 v17 end\n";
 
 const EMPTY: &[u8] = b"begin 0 page =\nfinish 0\n";
 
