@@ -314,15 +314,15 @@ const MOST: [(u32, Size, u32, u32); 14] = [
     (1, SMALL, 35, 1),
     (1, LARGE, 15, 1),
     (2, SMALL, 418, 6),
-    (2, LARGE, 106, 6),
+    (2, LARGE, 112, 6),
     (3, SMALL, 341, 6),
     (3, LARGE, 106, 6),
     (4, SMALL, 1605, 34),
-    (4, LARGE, 575, 49),
+    (4, LARGE, 574, 49),
     (5, SMALL, 85, 2),
-    (5, LARGE, 48, 2),
+    (5, LARGE, 90, 2),
     (6, SMALL, 2901, 50),
-    (6, LARGE, 842, 72),
+    (6, LARGE, 840, 72),
 ];
 
 /// Where actors have stood: behind each exchange of a removal on each of the three lowest levels.

@@ -161,9 +161,9 @@ const TAKEN: [(Ask, Size, u32, u32); 8] = [
     (Ask::Upsert(LAST, 1), SMALL, 22, 1),
     (Ask::Upsert(LAST, 1), LARGE, 15, 1),
     (Ask::Delete(LAST), SMALL, 40_751, 878),
-    (Ask::Delete(LAST), LARGE, 17_097, 1_232),
+    (Ask::Delete(LAST), LARGE, 17_108, 1_232),
     (Ask::Tidy(LAST), SMALL, 45_553, 1_021),
-    (Ask::Tidy(LAST), LARGE, 17_486, 1_311),
+    (Ask::Tidy(LAST), LARGE, 17_504, 1_311),
 ];
 
 #[test]
